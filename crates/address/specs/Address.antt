@@ -1,0 +1,88 @@
+-- The rules on addresses. An IPv4 address is its number; an IPv6 address is the list of its sixteen bytes.
+use Prim.Native.Nat.{ℕ, zero, suc, _+_, _*_, _/_, _%_}
+use mathlib.Core.Bool.{Bool, true, false, cond, _&&_, _||_}
+use mathlib.Core.List.{List, [], _∷_}
+use lib.ListN.{getD, take}
+use lib.Dec.{eqb}
+use Rattle.address.specs.declared.Embedded.{Embedded}
+use Rattle.address.specs.declared.Embedded.the-variants.{Ipv4, Nothing}
+
+-- document 01, "Settings": 0.0.0.0, 127.0.0.0/8, 224.0.0.0/4, 255.255.255.255
+unfoldable pub isForbidden : ℕ → Bool
+isForbidden a = eqb a 0 || eqb (a / 16777216) 127 || eqb (a / 268435456) 14 || eqb a 4294967295
+
+-- four bytes as one number, big-endian
+abbrev pub quadOf : ℕ → ℕ → ℕ → ℕ → ℕ
+quadOf a b c d = a * 16777216 + b * 65536 + c * 256 + d
+
+-- the last 32 bits of an IPv6 address
+unfoldable pub lastQuad : List ℕ → ℕ
+lastQuad a = quadOf (getD a 12 0) (getD a 13 0) (getD a 14 0) (getD a 15 0)
+
+-- the first n bytes of the two are the same
+abbrev pub agree : ℕ → List ℕ → List ℕ → Bool
+agree zero p a = true
+agree (suc n) p a = agree n p a && eqb (getD p n 0) (getD a n 0)
+
+-- the address is under the prefix of 64 bits
+unfoldable pub hasPrefix : List ℕ → List ℕ → Bool
+hasPrefix p a = agree 8 p a
+
+-- fe80::/64
+abbrev pub linkLocalPrefix : List ℕ
+linkLocalPrefix = 254 ∷ 128 ∷ 0 ∷ 0 ∷ 0 ∷ 0 ∷ 0 ∷ 0 ∷ []
+
+-- document 01, "Routers": link-local (fe80::/64)
+abbrev pub isLinkLocal : List ℕ → Bool
+isLinkLocal a = hasPrefix linkLocalPrefix a
+
+-- the address is under one of the prefixes
+abbrev pub hasSomePrefix : List (List ℕ) → List ℕ → Bool
+hasSomePrefix [] a = false
+hasSomePrefix (p ∷ ps) a = hasPrefix p a || hasSomePrefix ps a
+
+-- document 01, "Settings": up to 8 on-link prefixes, beside fe80::/64 which always counts
+unfoldable pub isOnLink : List (List ℕ) → ℕ → List ℕ → Bool
+isOnLink prefixes count a = isLinkLocal a || hasSomePrefix (take count prefixes) a
+
+-- document 01, "Receiving": behind the prefix 00 or 02, 00, 5E, FE
+unfoldable pub isIdentifier : List ℕ → Bool
+isIdentifier a =
+    (eqb (getD a 8 0) 0 || eqb (getD a 8 0) 2) && eqb (getD a 9 0) 0 && eqb (getD a 10 0) 94 && eqb (getD a 11 0) 254
+
+-- document 01, "Receiving": an ISATAP address has an on-link prefix, the identifier, and then the IPv4 address
+unfoldable pub embeddedIn : List (List ℕ) → ℕ → List ℕ → Embedded
+embeddedIn prefixes count a = cond (isOnLink prefixes count a && isIdentifier a) (Ipv4 (lastQuad a)) Nothing
+
+-- document 01, "Receiving": those we form have 00
+abbrev pub firstIdentifierByte : ℕ
+firstIdentifierByte = 0
+
+-- the link-local ISATAP address that we form: fe80::5efe:a
+unfoldable pub linkLocalOf : ℕ → List ℕ
+linkLocalOf a =
+    254 ∷ 128 ∷ 0 ∷ 0 ∷ 0 ∷ 0 ∷ 0 ∷ 0 ∷ firstIdentifierByte ∷ 0 ∷ 94 ∷ 254
+    ∷ a / 16777216 ∷ a / 65536 % 256 ∷ a / 256 % 256 ∷ a % 256 ∷ []
+
+-- the first n bytes are 0
+abbrev pub areZero : ℕ → List ℕ → Bool
+areZero zero a = true
+areZero (suc n) a = areZero n a && eqb (getD a n 0) 0
+
+-- ff00::/8
+abbrev pub isMulticast : List ℕ → Bool
+isMulticast a = eqb (getD a 0 0) 255
+
+-- document 01, "Sending" and "Settings": multicast, or `::`
+unfoldable pub isMulticastOrUnspecified : List ℕ → Bool
+isMulticastOrUnspecified a = isMulticast a || areZero 12 a && eqb (lastQuad a) 0
+
+-- document 01, "Receiving", bad inner source: ff00::/8, `::`, `::1`, or 96 zero bits followed by a forbidden IPv4 address,
+-- where `forbidden` says whether the last 32 bits are one
+unfoldable pub isBadSourceWith : Bool → List ℕ → Bool
+isBadSourceWith forbidden a =
+    isMulticastOrUnspecified a || areZero 12 a && eqb (lastQuad a) 1 || areZero 12 a && forbidden
+
+-- the same with document 01's forbidden addresses
+abbrev pub isBadSource : List ℕ → Bool
+isBadSource a = isBadSourceWith (isForbidden (lastQuad a)) a

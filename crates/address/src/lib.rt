@@ -1,0 +1,158 @@
+// Addresses: IPv4 addresses as 32-bit numbers, IPv6 addresses as 16 bytes.
+// Tests are joined by `|` and `&`, which evaluate both sides: the code has no branch, and reads as its definition does.
+ghost use mathlib.Core.Path.{_≡_};
+ghost use Prim.Native.Nat.{_≤_, min};
+ghost use lib.ListN.{take};
+ghost use Rattle.address.specs.Address.{isForbidden, quadOf, lastQuad, hasPrefix, linkLocalPrefix, isLinkLocal, isOnLink, isIdentifier, embeddedIn, linkLocalOf, areZero, isMulticast, isMulticastOrUnspecified, isBadSourceWith, isBadSource};
+
+// The first identifier byte of an address that we form.
+const FIRST_IDENTIFIER_BYTE: u8 = 0;
+
+// The IPv4 address that an IPv6 address embeds.
+pub enum Embedded {
+    Ipv4(u32),
+    Nothing,
+}
+
+// Whether no locator, router, outer source or tunnel end may have the address.
+pub fn forbidden(a: u32) -> bool
+    ensures { λ r. ⌜ r ≡ isForbidden a ⌝ }
+{
+    (a == 0) | (a / 16777216 == 127) | (a / 268435456 == 14) | (a == 4294967295)
+}
+
+// Four bytes as a number, the first the highest.
+pub fn quad(a: u8, b: u8, c: u8, d: u8) -> u32
+    ensures { λ r. ⌜ r ≡ quadOf a b c d ⌝ }
+{
+    (a as u32) * 16777216 + (b as u32) * 65536 + (c as u32) * 256 + (d as u32)
+}
+
+// The last 32 bits of an IPv6 address.
+pub fn last_quad(a: [u8; 16]) -> u32
+    ensures { λ r. ⌜ r ≡ lastQuad a ⌝ }
+{
+    quad(a[12], a[13], a[14], a[15])
+}
+
+fn has_prefix(p: [u8; 8], a: [u8; 16]) -> bool
+    ensures { λ r. ⌜ r ≡ hasPrefix p a ⌝ }
+{
+    (p[0] == a[0])
+        & (p[1] == a[1])
+        & (p[2] == a[2])
+        & (p[3] == a[3])
+        & (p[4] == a[4])
+        & (p[5] == a[5])
+        & (p[6] == a[6])
+        & (p[7] == a[7])
+}
+
+// Whether the address is in fe80::/64.
+pub fn link_local_prefixed(a: [u8; 16]) -> bool
+    ensures { λ r. ⌜ r ≡ isLinkLocal a ⌝ }
+{
+    has_prefix([0xfe, 0x80, 0, 0, 0, 0, 0, 0], a)
+}
+
+fn least(a: usize, b: usize) -> usize
+    ensures { λ r. ⌜ r ≡ min a b ⌝ }
+{
+    if a < b { a } else { b }
+}
+
+// Whether the address is in fe80::/64 or under one of the first `count` prefixes; a count above 8 is read as 8.
+pub fn on_link(prefixes: [[u8; 8]; 8], count: usize, a: [u8; 16]) -> bool
+    ensures { λ r. ⌜ r ≡ isOnLink prefixes count a ⌝ }
+{
+    let mut found = link_local_prefixed(a);
+    let n = least(count, 8);
+    let mut i: usize = 0;
+    while i < n {
+        found = found | has_prefix(prefixes[i], a);
+        i += 1;
+    }
+    found
+}
+
+// Whether an ISATAP identifier stands behind the prefix.
+fn identifier(a: [u8; 16]) -> bool
+    ensures { λ r. ⌜ r ≡ isIdentifier a ⌝ }
+{
+    ((a[8] == 0) | (a[8] == 2)) & (a[9] == 0) & (a[10] == 0x5e) & (a[11] == 0xfe)
+}
+
+// The IPv4 address of an ISATAP address.
+pub fn isatap(prefixes: [[u8; 8]; 8], count: usize, a: [u8; 16]) -> Embedded
+    ensures { λ r. ⌜ r ≡ embeddedIn prefixes count a ⌝ }
+{
+    if on_link(prefixes, count, a) & identifier(a) {
+        Embedded::Ipv4(last_quad(a))
+    } else {
+        Embedded::Nothing
+    }
+}
+
+// The link-local ISATAP address of an IPv4 address.
+pub fn link_local(a: u32) -> [u8; 16]
+    ensures { λ r. ⌜ r ≡ linkLocalOf a ⌝ }
+{
+    [
+        0xfe,
+        0x80,
+        0,
+        0,
+        0,
+        0,
+        0,
+        0,
+        FIRST_IDENTIFIER_BYTE,
+        0,
+        0x5e,
+        0xfe,
+        (a / 16777216) as u8,
+        (a / 65536 % 256) as u8,
+        (a / 256 % 256) as u8,
+        (a % 256) as u8,
+    ]
+}
+
+// Whether the first 96 bits are 0.
+fn zero_96(a: [u8; 16]) -> bool
+    ensures { λ r. ⌜ r ≡ areZero 12 a ⌝ }
+{
+    (a[0] == 0)
+        & (a[1] == 0)
+        & (a[2] == 0)
+        & (a[3] == 0)
+        & (a[4] == 0)
+        & (a[5] == 0)
+        & (a[6] == 0)
+        & (a[7] == 0)
+        & (a[8] == 0)
+        & (a[9] == 0)
+        & (a[10] == 0)
+        & (a[11] == 0)
+}
+
+// Whether nothing may be sent to the address: multicast, or `::`.
+pub fn multicast_or_unspecified(a: [u8; 16]) -> bool
+    ensures { λ r. ⌜ r ≡ isMulticastOrUnspecified a ⌝ }
+{
+    (a[0] == 255) | (zero_96(a) & (last_quad(a) == 0))
+}
+
+// Whether an inner source is bad, where `forbidden` says whether its last 32 bits are a forbidden IPv4 address.
+pub fn bad_source_with(forbidden: bool, a: [u8; 16]) -> bool
+    ensures { λ r. ⌜ r ≡ isBadSourceWith forbidden a ⌝ }
+{
+    let zero = zero_96(a);
+    multicast_or_unspecified(a) | (zero & (last_quad(a) == 1)) | (zero & forbidden)
+}
+
+// Whether an inner source is bad.
+pub fn bad_source(a: [u8; 16]) -> bool
+    ensures { λ r. ⌜ r ≡ isBadSource a ⌝ }
+{
+    bad_source_with(forbidden(last_quad(a)), a)
+}

@@ -1,0 +1,22 @@
+-- `lent::place` meets its contract: the part that was lent is back in its place. Assumes nothing.
+use native.Mathlib.Omega.{arith}
+use mathlib.Core.Path.{sym, _∙_}
+use Rattle.lent.specs.Laws.{placed-fits, placed-short, part-over}
+use Rattle.lent.proofs.place.Statement.{statement}
+use Rattle.lent.proofs.place.Tie as tie
+
+returns : tie.Need-returns
+returns c = let a = c .before .before .before .args in sym (placed-short (a .at) (a .src .now) (a .dst .now) (omega arith))
+
+returns-2 : tie.Need-returns-2
+returns-2 c = let a = c .before .before .before .before .args in sym (placed-short (a .at) (a .src .now) (a .dst .now) (omega arith))
+
+returns-3 : tie.Need-returns-3
+returns-3 c =
+    let a = c .before .before .before .before .before .before .before .before .args in
+    rw (c .before .before .copy .ensures .1) (part-over (a .at) (a .src .now) (a .dst .now) (omega arith) ∙ sym (placed-fits (a .at) (a .src .now) (a .dst .now) (omega arith)))
+
+pub place-spec : {M : Type 1} → statement M
+place-spec =
+    tie.close
+    (tie.spec returns (omega arith) returns-2 (omega arith) (omega arith) (omega arith) (omega arith) (omega arith) returns-3)

@@ -1,0 +1,64 @@
+-- Laws of writing: one write behind another, and a write inside of what was written. Assumes nothing.
+use Prim.Native.Nat.{ℕ, _+_, _-_, _<_, _≤_}
+use mathlib.Core.Path.{_≡_, _∙_}
+use mathlib.Core.List.{List, [], _++_, append-assoc, append-nil}
+use native.Mathlib.Omega.{arith}
+use native.Mathlib.Nat.{zero-add}
+use borrow.Author.Tests.{lt-ltb, le-ltb}
+use lib.ListN.{length, take, drop, length-take, length-drop, length-append, drop-of-length-le}
+use lib.Seq.{take-append-seam, take-append-le, drop-append-le, drop-append-add, drop-drop, take-all, take-length, drop-length}
+use Rattle.lent.specs.Written.{written, over, placed}
+
+-- what fits is written
+pub placed-fits : (at : ℕ) (p d : List ℕ) → at + length p ≤ length d → placed at p d ≡ over at p d
+unfolding placed
+placed-fits at p d h = simp (le-ltb _ _ h)
+
+-- what does not fit is not
+pub placed-short : (at : ℕ) (p d : List ℕ) → length d < at + length p → placed at p d ≡ d
+unfolding placed
+placed-short at p d h = simp (lt-ltb _ _ h)
+
+-- a write leaves the length
+pub length-written : (w d : List ℕ) → length w ≤ length d → length (written w d) ≡ length d
+length-written w d h = simp (length-append, length-drop) (omega arith)
+
+-- one write right behind another
+over-next : (w p d : List ℕ) → over (length w) p (written w d) ≡ written (w ++ p) d
+over-next w p d = simp (take-append-seam, drop-append-add, drop-drop, append-assoc, length-append)
+
+-- the first write, of a list that is known by what it equals
+pub placed-first : (w d : List ℕ) {d₁ : List ℕ} → length w ≤ length d → d₁ ≡ placed 0 w d → d₁ ≡ written w d
+placed-first w d h e = e ∙ placed-fits 0 w d (omega arith) ∙ simp zero-add
+
+-- the next write, right behind what was written
+pub placed-more : (at : ℕ) (w p d : List ℕ) {d₁ d₂ : List ℕ} → length w ≡ at → at + length p ≤ length d
+    → d₁ ≡ written w d → d₂ ≡ placed at p d₁ → d₂ ≡ written (w ++ p) d
+placed-more at w p d l h e f =
+    f ∙ rw (e, ← l) (placed-fits (length w) p (written w d) (rw (length-written w d (omega arith)) (omega arith)) ∙ over-next w p d)
+
+length-over : (at : ℕ) (p w : List ℕ) → at + length p ≤ length w → length (over at p w) ≡ length w
+length-over at p w h = simp (length-append, length-take, length-drop) (omega arith)
+
+over-inside : (at : ℕ) (w p d : List ℕ) → at + length p ≤ length w → over at p (written w d) ≡ written (over at p w) d
+over-inside at w p d h =
+    let k : at ≤ length w = omega arith in
+    rw (length-over at p w h, take-append-le at w (drop (length w) d) k, drop-append-le (at + length p) w (drop (length w) d) h) (simp append-assoc)
+
+-- a write inside of what was written
+pub placed-inside : (at : ℕ) (w p d : List ℕ) {d₁ d₂ : List ℕ} → at + length p ≤ length w → length w ≤ length d
+    → d₁ ≡ written w d → d₂ ≡ placed at p d₁ → d₂ ≡ written (over at p w) d
+placed-inside at w p d h k e f =
+    f ∙ rw e (placed-fits at p (written w d) (rw (length-written w d k) (omega arith)) ∙ over-inside at w p d h)
+
+-- a write over all of d
+pub written-whole : (w d : List ℕ) → length w ≡ length d → written w d ≡ w
+written-whole w d e = rw (e, drop-length, append-nil)
+
+-- a part from at on, lent and written over from its start, and back in its place
+pub part-over : (at : ℕ) (p d : List ℕ) → at + length p ≤ length d
+    → take at d ++ ((take (length p) p ++ drop (length p) (take (length d - at) (drop at d))) ++ drop (length d - at) (drop at d)) ≡ over at p d
+part-over at p d h =
+    let t : take (length d - at) (drop at d) ≡ drop at d = take-all (length d - at) (drop at d) (omega (arith, length-drop at d)) in
+    let e : drop (length d - at) (drop at d) ≡ [] = drop-of-length-le (drop at d) {i = length d - at} (omega (arith, length-drop at d)) in
+    simp (take-length, t, e, append-nil, drop-drop)

@@ -1,0 +1,18 @@
+-- What writing into a lent slice leaves there (document 01: "Bytes behind the written length stay").
+use Prim.Native.Nat.{ℕ, _+_}
+use mathlib.Core.Bool.{cond}
+use mathlib.Core.List.{List, _++_}
+use lib.ListN.{length, take, drop}
+use lib.Dec.{ltb}
+
+-- d with w written over its front: what stands behind w stays
+abbrev pub written : List ℕ → List ℕ → List ℕ
+written w d = w ++ drop (length w) d
+
+-- d with p written over it from the index at on
+abbrev pub over : ℕ → List ℕ → List ℕ → List ℕ
+over at p d = take at d ++ (p ++ drop (at + length p) d)
+
+-- the same, and nothing written where it does not fit
+unfoldable pub placed : ℕ → List ℕ → List ℕ → List ℕ
+placed at p d = cond (ltb (length d) (at + length p)) d (over at p d)

@@ -1,0 +1,38 @@
+-- The numbers given back (document 01, "Numbers given back"). 14, Too Big, stands in the answer of sending.
+use Prim.Native.Nat.{ℕ}
+use mathlib.Core.Bool.{Bool, cond}
+use mathlib.Core.List.{List, [], _∷_}
+use Rattle.refusals.specs.declared.Refusal.{Refusal}
+use Rattle.refusals.specs.declared.Refusal.the-variants.{Settings, OuterMalformed, OuterChecksum, OtherProtocol, Piece, NotForUs, OuterSourceForbidden, InnerMalformed, InnerSourceBad, OuterSourceWrong, NoLocator, NextHopNotIsatap, TunnelEndForbidden, OutputShort, ReportMalformed, QuoteNotOurs, SizeUnusable, SizeNotBelow, AdvertisementInvalid, AdvertiserNotListed, NoRouterDue, WrappedTooLong}
+use Rattle.refusals.specs.declared.Check.{Check}
+use Rattle.refusals.specs.declared.Check.the-variants.{Pass, Stop}
+
+-- the number of each row of the table
+abbrev pub numberOf : Refusal → ℕ
+numberOf Settings = 1
+numberOf OuterMalformed = 2
+numberOf OuterChecksum = 3
+numberOf OtherProtocol = 4
+numberOf Piece = 5
+numberOf NotForUs = 6
+numberOf OuterSourceForbidden = 7
+numberOf InnerMalformed = 8
+numberOf InnerSourceBad = 9
+numberOf OuterSourceWrong = 10
+numberOf NoLocator = 11
+numberOf NextHopNotIsatap = 12
+numberOf TunnelEndForbidden = 13
+numberOf OutputShort = 15
+numberOf ReportMalformed = 16
+numberOf QuoteNotOurs = 17
+numberOf SizeUnusable = 18
+numberOf SizeNotBelow = 19
+numberOf AdvertisementInvalid = 20
+numberOf AdvertiserNotListed = 21
+numberOf NoRouterDue = 22
+numberOf WrappedTooLong = 23
+
+-- "Where several apply, the first in the call's order is given"
+abbrev pub firstOf : List (Bool × Refusal) → Check
+firstOf [] = Pass
+firstOf (t ∷ ts) = cond (t .0) (Stop (t .1)) (firstOf ts)
