@@ -1,0 +1,131 @@
+// The Internet checksum of RFC 1071.
+ghost use mathlib.Core.Path.{_≡_};
+ghost use Prim.Native.Nat.{_+_, _*_, _≤_, _<_};
+ghost use lib.ListN.{length, drop};
+ghost use Rattle.checksum.specs.Sum.{onesSum, onesSumFrom, onesComplement, isRight, isRightFrom};
+ghost use Rattle.checksum.specs.Laws.{wordSum, folded};
+
+// The bytes that are added up before the carries are brought back.
+const CHUNK: usize = 65536;
+
+// The one's complement sum of the words of s.
+pub fn sum(s: &[u8]) -> u16
+    ensures { λ r. ⌜ r ≡ onesSum (now (s .entry)) ⌝ }
+{
+    sum_from(0, s)
+}
+
+// The same, continued from a start value: the sum of what stands before s, or any words that belong to it.
+pub fn sum_from(start: u32, s: &[u8]) -> u16
+    ensures { λ r. ⌜ r ≡ onesSumFrom start (now (s .entry)) ⌝ }
+{
+    let mut sum = start;
+    let mut at = 0;
+    while CHUNK <= s.len() - at {
+        sum = added(sum, &s[at..at + CHUNK]) as u32;
+        at += CHUNK;
+    }
+    added(sum, &s[at..])
+}
+
+// The one's complement of x: what is written for a sum x.
+pub fn complement(x: u16) -> u16
+    ensures { λ r. ⌜ r ≡ onesComplement x ⌝ }
+{
+    65535 - x
+}
+
+// Whether the checksum that s holds is right.
+pub fn right(s: &[u8]) -> bool
+    ensures { λ r. ⌜ r ≡ isRight (now (s .entry)) ⌝ }
+{
+    right_from(0, s)
+}
+
+// The same, continued from a start value.
+pub fn right_from(start: u32, s: &[u8]) -> bool
+    ensures { λ r. ⌜ r ≡ isRightFrom start (now (s .entry)) ⌝ }
+{
+    sum_from(start, s) == 65535
+}
+
+// The last fold's result and the exact sum of the words since, folded.
+fn added(last: u32, s: &[u8]) -> u16
+    requires { ⌜ length (now s) ≤ 65536 ⌝ }
+    ensures { λ r. ⌜ r ≡ folded (last + wordSum (now (s .entry))) ⌝ }
+{
+    fold(last as u64 + words(s))
+}
+
+// x with its carries brought back in until none is left.
+fn fold(x: u64) -> u16
+    ensures { λ r. ⌜ r ≡ folded x ⌝ }
+{
+    let mut left = x;
+    while 65535 < left {
+        left = left % 65536 + left / 65536;
+    }
+    left as u16
+}
+
+// The exact sum of the words of s: eight words a turn, then one by one.
+fn words(s: &[u8]) -> u64
+    requires { ⌜ length (now s) ≤ 65536 ⌝ }
+    ensures { λ r. ⌜ (r ≡ wordSum (now (s .entry))) × (r ≤ 4294967296) ⌝ }
+{
+    let mut sum: u64 = 0;
+    let mut i = 0;
+    while i + 15 < s.len() {
+        sum += eight_words(s, i);
+        i += 16;
+    }
+    sum + last_words(&s[i..])
+}
+
+// The exact sum of the words of s: one word a turn, then an odd last byte with a zero byte.
+fn last_words(s: &[u8]) -> u64
+    requires { ⌜ length (now s) ≤ 65536 ⌝ }
+    ensures { λ r. ⌜ (r ≡ wordSum (now (s .entry))) × (r ≤ 2147483648) ⌝ }
+{
+    let mut sum: u64 = 0;
+    let mut i = 0;
+    while i + 1 < s.len() {
+        sum += word_at(s, i);
+        i += 2;
+    }
+    if i < s.len() {
+        sum + word(s[i], 0)
+    } else {
+        sum
+    }
+}
+
+// The exact sum of the eight words from i on: what it takes off the sum of what is left.
+fn eight_words(s: &[u8], i: usize) -> u64
+    requires { ⌜ i + 15 < length (now s) ⌝ }
+    ensures { λ r. ⌜ (wordSum (drop i (now (s .entry))) ≡ r + wordSum (drop (i + 16) (now (s .entry)))) × (r ≤ 524280) ⌝ }
+{
+    word_at(s, i)
+        + word_at(s, i + 2)
+        + word_at(s, i + 4)
+        + word_at(s, i + 6)
+        + word_at(s, i + 8)
+        + word_at(s, i + 10)
+        + word_at(s, i + 12)
+        + word_at(s, i + 14)
+}
+
+// The word at i.
+fn word_at(s: &[u8], i: usize) -> u64
+    requires { ⌜ i + 1 < length (now s) ⌝ }
+    ensures { λ r. ⌜ (wordSum (drop i (now (s .entry))) ≡ r + wordSum (drop (i + 2) (now (s .entry)))) × (r ≤ 65535) ⌝ }
+{
+    word(s[i], s[i + 1])
+}
+
+// A big-endian word.
+fn word(hi: u8, lo: u8) -> u64
+    ensures { λ r. ⌜ (r ≡ hi * 256 + lo) × (r ≤ 65535) ⌝ }
+{
+    hi as u64 * 256 + lo as u64
+}
