@@ -1,0 +1,5 @@
+pub mod Fields
+pub mod FieldLaws
+pub mod Outer
+pub mod Inner
+pub mod InnerLaws

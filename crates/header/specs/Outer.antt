@@ -1,0 +1,79 @@
+-- The outer header (document 01, "Receiving"; RFC 791, 3.1): its fields, and the rules of numbers 2 to 5.
+use Prim.Native.Nat.{ℕ, _+_, _*_, _/_, _%_}
+use mathlib.Core.Bool.{Bool, cond, not, _||_}
+use mathlib.Core.List.{List, [], _∷_, _++_}
+use lib.ListN.{getD, length, take, drop}
+use lib.Dec.{eqb, ltb}
+use Rattle.checksum.specs.Sum.{isRight}
+use Rattle.refusals.specs.Refusals.{firstOf}
+use Rattle.refusals.specs.declared.Refusal.{Refusal}
+use Rattle.refusals.specs.declared.Refusal.the-variants.{OuterMalformed, OuterChecksum, OtherProtocol, Piece}
+use Rattle.refusals.specs.declared.Check.{Check}
+use Rattle.refusals.specs.declared.Check.the-variants.{Pass, Stop}
+use Rattle.header.specs.Fields.{wordAt, quadAt}
+use Rattle.header.specs.declared.outer.Outer.{Outer}
+use Rattle.header.specs.declared.outer.OuterRead.{OuterRead}
+use Rattle.header.specs.declared.outer.OuterRead.the-variants.{Header, Refused}
+
+-- the fields; the more-fragments flag and the offset are the low 14 bits behind the identification
+unfoldable pub outerOf : List ℕ → Outer
+outerOf d = record {
+  version = getD d 0 0 / 16;
+  header = getD d 0 0 % 16 * 4;
+  total = wordAt d 2;
+  fragment = wordAt d 6 % 16384;
+  protocol = getD d 9 0;
+  source = quadAt d 12;
+  destination = quadAt d 16;
+}
+
+-- malformed outer: under 20 bytes, version not 4, header words under 5, header longer than the bytes, or total length below
+-- the header or above the bytes
+unfoldable pub isOuterMalformed : ℕ → Outer → Bool
+isOuterMalformed n o =
+    ltb n 20
+    || not (eqb (o .version) 4)
+    || ltb (o .header) 20
+    || ltb n (o .header)
+    || ltb (o .total) (o .header)
+    || ltb n (o .total)
+
+-- outer checksum wrong: it is over the header, options included
+unfoldable pub isSumWrong : List ℕ → Outer → Bool
+isSumWrong d o = not (isRight (take (o .header) d))
+
+-- 2 and 3
+abbrev pub headerRows : ℕ → List ℕ → Outer → List (Bool × Refusal)
+headerRows n d o = (isOuterMalformed n o, OuterMalformed) ∷ ((isSumWrong d o, OuterChecksum) ∷ [])
+
+-- 4: the protocol is not 41
+abbrev pub protocolRows : Outer → List (Bool × Refusal)
+protocolRows o = (not (eqb (o .protocol) 41), OtherProtocol) ∷ []
+
+-- 5, a piece: more-fragments set or offset not 0
+abbrev pub pieceRows : Outer → List (Bool × Refusal)
+pieceRows o = (not (eqb (o .fragment) 0), Piece) ∷ []
+
+-- the first of 2 to 5 that a datagram of n bytes gets, which starts with d and has the fields o
+unfoldable pub outerCheck : ℕ → List ℕ → Outer → Check
+outerCheck n d o = firstOf (headerRows n d o ++ (protocolRows o ++ pieceRows o))
+
+abbrev pub readWith : Check → Outer → OuterRead
+readWith Pass o = Header o
+readWith (Stop refusal) o = Refused refusal
+
+-- the fields of a datagram's outer header, or the first refusal
+unfoldable pub outerReadOf : List ℕ → OuterRead
+outerReadOf d = readWith (outerCheck (length d) d (outerOf d)) (outerOf d)
+
+-- "Bytes after the total length are padding. The inner packet starts after the header, options included."
+unfoldable pub payloadOf : List ℕ → Outer → List ℕ
+payloadOf d o = drop (o .header) (take (o .total) d)
+
+-- document 01, "Path size" (RFC 792): a quote stands behind the first 8 bytes of an ICMPv4 message
+abbrev pub quoteOf : List ℕ → List ℕ
+quoteOf m = drop 8 m
+
+-- document 01, "Path size", of 16: the quoted header not version 4, under 5 words or cut off
+unfoldable pub isQuoteMalformed : ℕ → Outer → Bool
+isQuoteMalformed n o = not (eqb (o .version) 4) || ltb (o .header) 20 || ltb n (o .header)

@@ -1,0 +1,70 @@
+// The inner IPv6 header, read and judged.
+use crate::fields;
+ghost use mathlib.Core.Path.{_≡_};
+ghost use Prim.Native.Nat.{_≤_};
+ghost use lib.ListN.{length};
+ghost use Rattle.header.specs.Inner.{innerOf, isInnerMalformed, isPacketMalformed, innerPacketOf, mayDrawError};
+
+// The fields of an IPv6 header.
+pub struct Inner {
+    pub version: u8,
+    // The packet's length in bytes by its header: 40 and the payload length.
+    pub length: usize,
+    pub next: u8,
+    pub hop: u8,
+    pub source: [u8; 16],
+}
+
+pub fn inner_header(p: &[u8]) -> Inner
+    ensures { λ r. ⌜ r ≡ innerOf (now (p .entry)) ⌝ }
+{
+    let first = fields::byte(p, 0);
+    let payload = fields::word(p, 4);
+    let next = fields::byte(p, 6);
+    let hop = fields::byte(p, 7);
+    let source = fields::address(p, 8);
+    Inner {
+        version: first / 16,
+        length: 40 + payload as usize,
+        next,
+        hop,
+        source,
+    }
+}
+
+// Number 8 as in receiving, where n bytes remain for the packet: bytes behind it are passed over.
+pub fn inner_malformed(n: usize, i: Inner) -> bool
+    ensures { λ r. ⌜ r ≡ isInnerMalformed n i ⌝ }
+{
+    (n < 40) | (i.version != 6) | (n < i.length)
+}
+
+// Number 8 as in sending, of n bytes: none may stand behind the packet.
+pub fn packet_malformed(n: usize, i: Inner) -> bool
+    ensures { λ r. ⌜ r ≡ isPacketMalformed n i ⌝ }
+{
+    (n < 40) | (i.version != 6) | (n != i.length)
+}
+
+// The inner packet at the start of p, empty where it is malformed.
+pub fn inner_packet(p: &[u8]) -> &[u8]
+    ensures { λ r. ⌜ now r ≡ innerPacketOf (now (p .entry)) ⌝ }
+{
+    let i = inner_header(p);
+    if inner_malformed(p.len(), i) {
+        return &p[..0];
+    }
+    let end = i.length;
+    &p[..end]
+}
+
+// Whether a packet may draw an ICMPv6 error message.
+pub fn may_draw_error(p: &[u8]) -> bool
+    ensures { λ r. ⌜ r ≡ mayDrawError (now (p .entry)) ⌝ }
+{
+    let next = fields::byte(p, 6);
+    let kind = fields::byte(p, 40);
+    let source = fields::address(p, 8);
+    let error = (next == 58) & (40 < p.len()) & ((kind < 128) | (kind == 137));
+    !(address::multicast_or_unspecified(source) | error)
+}

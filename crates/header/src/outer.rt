@@ -1,0 +1,118 @@
+// The outer IPv4 header, read and judged; and the IPv4 header that a size report quotes.
+use crate::fields;
+use refusals::Check;
+use refusals::Refusal;
+ghost use mathlib.Core.Path.{_≡_};
+ghost use lib.ListN.{length, drop};
+ghost use Rattle.header.specs.Outer.{outerOf, isOuterMalformed, isSumWrong, outerCheck, outerReadOf, payloadOf, quoteOf, isQuoteMalformed};
+
+// The fields of an IPv4 header, lengths in bytes.
+pub struct Outer {
+    pub version: u8,
+    pub header: usize,
+    pub total: usize,
+    // The more-fragments flag and the offset: 0 in a whole datagram.
+    pub fragment: u16,
+    pub protocol: u8,
+    pub source: u32,
+    pub destination: u32,
+}
+
+pub enum OuterRead {
+    Header(Outer),
+    Refused(Refusal),
+}
+
+pub fn outer_header(d: &[u8]) -> Outer
+    ensures { λ r. ⌜ r ≡ outerOf (now (d .entry)) ⌝ }
+{
+    let first = fields::byte(d, 0);
+    let total = fields::word(d, 2);
+    let flags = fields::word(d, 6);
+    let protocol = fields::byte(d, 9);
+    let source = fields::quad(d, 12);
+    let destination = fields::quad(d, 16);
+    Outer {
+        version: first / 16,
+        header: (first % 16) as usize * 4,
+        total: total as usize,
+        fragment: flags % 16384,
+        protocol,
+        source,
+        destination,
+    }
+}
+
+// Number 2, of a datagram of n bytes.
+pub fn malformed(n: usize, o: Outer) -> bool
+    ensures { λ r. ⌜ r ≡ isOuterMalformed n o ⌝ }
+{
+    (n < 20)
+        | (o.version != 4)
+        | (o.header < 20)
+        | (n < o.header)
+        | (o.total < o.header)
+        | (n < o.total)
+}
+
+// Number 3.
+pub fn sum_wrong(d: &[u8], o: Outer) -> bool
+    ensures { λ r. ⌜ r ≡ isSumWrong (now (d .entry)) o ⌝ }
+{
+    let end = fields::least(o.header, d.len());
+    !checksum::right(&d[..end])
+}
+
+// Numbers 2 to 5 of a datagram of n bytes that starts with d.
+pub fn check_outer(n: usize, d: &[u8], o: Outer) -> Check
+    ensures { λ r. ⌜ r ≡ outerCheck n (now (d .entry)) o ⌝ }
+{
+    if malformed(n, o) {
+        return Check::Stop(Refusal::OuterMalformed);
+    }
+    if sum_wrong(d, o) {
+        return Check::Stop(Refusal::OuterChecksum);
+    }
+    if o.protocol != 41 {
+        return Check::Stop(Refusal::OtherProtocol);
+    }
+    if o.fragment != 0 {
+        return Check::Stop(Refusal::Piece);
+    }
+    Check::Pass
+}
+
+// The outer header of a datagram, or the first of the numbers 2 to 5.
+pub fn read_outer(d: &[u8]) -> OuterRead
+    ensures { λ r. ⌜ r ≡ outerReadOf (now (d .entry)) ⌝ }
+{
+    let o = outer_header(d);
+    let check = check_outer(d.len(), d, o);
+    match check {
+        Check::Pass => OuterRead::Header(o),
+        Check::Stop(refusal) => OuterRead::Refused(refusal),
+    }
+}
+
+// The part behind the header, options included, up to the total length: what is behind that is padding.
+pub fn payload(d: &[u8], o: Outer) -> &[u8]
+    ensures { λ r. ⌜ now r ≡ payloadOf (now (d .entry)) o ⌝ }
+{
+    let end = fields::least(o.total, d.len());
+    let whole = &d[..end];
+    fields::tail(whole, o.header)
+}
+
+// The part of an ICMPv4 message that quotes a datagram.
+pub fn quote(m: &[u8]) -> &[u8]
+    ensures { λ r. ⌜ now r ≡ quoteOf (now (m .entry)) ⌝ }
+{
+    fields::tail(m, 8)
+}
+
+// Number 16, of a quoted header in a quote of n bytes.
+pub fn quote_malformed(n: usize, o: Outer) -> bool
+    ensures { λ r. ⌜ r ≡ isQuoteMalformed n o ⌝ }
+{
+    (o.version != 4) | (o.header < 20) | (n < o.header)
+}
