@@ -1,9 +1,8 @@
 // Addresses: IPv4 addresses as 32-bit numbers, IPv6 addresses as 16 bytes.
 // Tests are joined by `|` and `&`, which evaluate both sides: the code has no branch, and reads as its definition does.
 ghost use mathlib.Core.Path.{_≡_};
-ghost use Prim.Native.Nat.{_≤_, min};
-ghost use lib.ListN.{take};
-ghost use Rattle.address.specs.Address.{isForbidden, quadOf, lastQuad, hasPrefix, linkLocalPrefix, isLinkLocal, isOnLink, isIdentifier, embeddedIn, linkLocalOf, areZero, isMulticast, isMulticastOrUnspecified, isBadSourceWith, isBadSource};
+ghost use Prim.Native.Nat.{min};
+ghost use Rattle.address.specs.Address.{isForbidden, quadOf, lastQuad, hasPrefix, isLinkLocal, isOnLink, isIdentifier, embeddedIn, linkLocalOf, areZero, isMulticastOrUnspecified, isBadSourceWith, isBadSource};
 
 // The first identifier byte of an address that we form.
 const FIRST_IDENTIFIER_BYTE: u8 = 0;

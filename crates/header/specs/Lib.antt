@@ -3,3 +3,7 @@ pub mod FieldLaws
 pub mod Outer
 pub mod Inner
 pub mod InnerLaws
+pub mod Wrap
+pub mod Icmp
+pub mod Sealed
+pub mod WriterLaws

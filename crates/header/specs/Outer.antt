@@ -1,6 +1,6 @@
 -- The outer header (document 01, "Receiving"; RFC 791, 3.1): its fields, and the rules of numbers 2 to 5.
-use Prim.Native.Nat.{ℕ, _+_, _*_, _/_, _%_}
-use mathlib.Core.Bool.{Bool, cond, not, _||_}
+use Prim.Native.Nat.{ℕ, _*_, _/_, _%_}
+use mathlib.Core.Bool.{Bool, not, _||_}
 use mathlib.Core.List.{List, [], _∷_, _++_}
 use lib.ListN.{getD, length, take, drop}
 use lib.Dec.{eqb, ltb}

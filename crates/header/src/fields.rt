@@ -1,6 +1,6 @@
 // Big-endian fields of a slice, read at any place: a byte past the end reads as 0.
 ghost use mathlib.Core.Path.{_≡_};
-ghost use Prim.Native.Nat.{_+_, _*_, _≤_, min};
+ghost use Prim.Native.Nat.{_+_, _*_, min};
 ghost use lib.ListN.{getD, drop};
 ghost use Rattle.header.specs.Fields.{wordAt, quadAt, addressAt};
 

@@ -1,7 +1,6 @@
 // The inner IPv6 header, read and judged.
 use crate::fields;
 ghost use mathlib.Core.Path.{_≡_};
-ghost use Prim.Native.Nat.{_≤_};
 ghost use lib.ListN.{length};
 ghost use Rattle.header.specs.Inner.{innerOf, isInnerMalformed, isPacketMalformed, innerPacketOf, mayDrawError};
 

@@ -3,7 +3,6 @@ use crate::fields;
 use refusals::Check;
 use refusals::Refusal;
 ghost use mathlib.Core.Path.{_≡_};
-ghost use lib.ListN.{length, drop};
 ghost use Rattle.header.specs.Outer.{outerOf, isOuterMalformed, isSumWrong, outerCheck, outerReadOf, payloadOf, quoteOf, isQuoteMalformed};
 
 // The fields of an IPv4 header, lengths in bytes.

@@ -1,12 +1,12 @@
 -- Laws of writing: one write behind another, and a write inside of what was written. Assumes nothing.
 use Prim.Native.Nat.{ℕ, _+_, _-_, _<_, _≤_}
-use mathlib.Core.Path.{_≡_, _∙_}
+use mathlib.Core.Path.{_≡_, ap, _∙_}
 use mathlib.Core.List.{List, [], _++_, append-assoc, append-nil}
 use native.Mathlib.Omega.{arith}
 use native.Mathlib.Nat.{zero-add}
 use borrow.Author.Tests.{lt-ltb, le-ltb}
 use lib.ListN.{length, take, drop, length-take, length-drop, length-append, drop-of-length-le}
-use lib.Seq.{take-append-seam, take-append-le, drop-append-le, drop-append-add, drop-drop, take-all, take-length, drop-length}
+use lib.Seq.{take-append-seam, drop-append-seam, take-append-le, drop-append-le, drop-append-add, drop-drop, take-all, take-length, drop-length}
 use Rattle.lent.specs.Written.{written, over, placed}
 
 -- what fits is written
@@ -37,7 +37,8 @@ pub placed-more : (at : ℕ) (w p d : List ℕ) {d₁ d₂ : List ℕ} → lengt
 placed-more at w p d l h e f =
     f ∙ rw (e, ← l) (placed-fits (length w) p (written w d) (rw (length-written w d (omega arith)) (omega arith)) ∙ over-next w p d)
 
-length-over : (at : ℕ) (p w : List ℕ) → at + length p ≤ length w → length (over at p w) ≡ length w
+-- so does one inside of it
+pub length-over : (at : ℕ) (p w : List ℕ) → at + length p ≤ length w → length (over at p w) ≡ length w
 length-over at p w h = simp (length-append, length-take, length-drop) (omega arith)
 
 over-inside : (at : ℕ) (w p d : List ℕ) → at + length p ≤ length w → over at p (written w d) ≡ written (over at p w) d
@@ -50,6 +51,10 @@ pub placed-inside : (at : ℕ) (w p d : List ℕ) {d₁ d₂ : List ℕ} → at 
     → d₁ ≡ written w d → d₂ ≡ placed at p d₁ → d₂ ≡ written (over at p w) d
 placed-inside at w p d h k e f =
     f ∙ rw e (placed-fits at p (written w d) (rw (length-written w d k) (omega arith)) ∙ over-inside at w p d h)
+
+-- a write over one of the same length leaves nothing of it
+pub written-again : (v w d : List ℕ) → length v ≡ length w → written v (written w d) ≡ written v d
+written-again v w d e = rw e (ap (λ (l : List ℕ). v ++ l) (drop-append-seam w (drop (length w) d)))
 
 -- a write over all of d
 pub written-whole : (w d : List ℕ) → length w ≡ length d → written w d ≡ w

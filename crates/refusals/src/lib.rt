@@ -1,6 +1,5 @@
 // The numbers given back: a name for each refusal of document 01's table, and the first of several tests that refuses.
 ghost use mathlib.Core.Path.{_≡_};
-ghost use mathlib.Core.Bool.{cond};
 ghost use Rattle.refusals.specs.Refusals.{numberOf};
 
 // Number 14, Too Big, carries values and stands in the answer of sending.

@@ -1,7 +1,5 @@
 -- `header::outer::sum_wrong` meets its contract: the sum is over the header, or all there is of it. Assumes nothing.
 use native.Mathlib.Omega.{arith}
-use mathlib.Core.Path.{ap}
-use mathlib.Core.Bool.{not}
 use lib.ListN.{length-take}
 use Rattle.header.specs.Outer.{isSumWrong}
 use Rattle.header.specs.FieldLaws.{take-least}

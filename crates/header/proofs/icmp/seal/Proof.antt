@@ -1,0 +1,29 @@
+-- `header::icmp::seal` meets its contract: the checksum stands inside of the packet. Assumes nothing.
+use native.Mathlib.Omega.{arith}
+use Rattle.lent.specs.Laws.{placed-inside}
+use Rattle.header.specs.Sealed.{sealed, one-pass}
+use Prim.Native.Nat.{ℕ}
+use mathlib.Core.Path.{_≡_, sym, ap, _∙_}
+use mathlib.Core.List.{[], _∷_, _++_}
+use lib.ListN.{length, take, drop, take-append-drop}
+use lib.Seq.{length-take-le}
+use Rattle.checksum.specs.Bytes.{bytes-of}
+use Rattle.header.proofs.icmp.seal.Statement.{statement}
+use Rattle.header.proofs.icmp.seal.Tie as tie
+
+returns : tie.Need-returns
+unfolding sealed
+returns c =
+    let a = c .before .before .before .before .before .before .before .before .before .before .before .before .args in
+    let out = a .out .now in
+    let whole : length (take (a .n) out) ≡ a .n = length-take-le (a .n) out (omega arith) in
+    let same = ap (λ (k : ℕ). take (a .n) out ++ drop k out) whole ∙ take-append-drop (a .n) out in
+    let sum = one-pass (a .n) out (omega arith) (omega arith) (omega arith) (bytes-of out (λ i. c .before .before .before .before .before .before .before .before .before .before .before .slice-known .given i .fits)) in
+    placed-inside 42 (take (a .n) out) (c .before .before .before .before .before .before .high .result ∷ (c .before .before .before .before .before .low .result ∷ [])) out (omega arith) (omega arith) (sym same) (c .before .before .place .ensures)
+    ∙ rw (c .before .before .before .before .before .low .ensures, c .before .before .before .before .before .before .high .ensures, c .before .before .before .before .before .before .before .complement .ensures, c .before .before .before .before .before .before .before .before .sum-from .ensures, sum)
+
+pub seal-spec : {M : Type 1} → statement M
+seal-spec =
+    tie.close
+    (tie.spec (omega arith) (omega arith) (omega arith) (omega arith) (omega arith) (omega arith) (omega arith)
+    (omega arith) (omega arith) (omega arith) (omega arith) (omega arith) (omega arith) returns)

@@ -1,0 +1,29 @@
+-- `header::icmp::solicitation` meets its contract: the message has no part behind its first 8 bytes. Assumes nothing.
+use native.Mathlib.Omega.{arith}
+use Rattle.header.specs.Sealed.{sealed-packet}
+use Rattle.header.specs.Icmp.{solicitationOf, solicitationAnswer, solicitationOutput}
+use Rattle.header.specs.WriterLaws.{solicitation-short, solicitation-pass}
+use Rattle.lent.specs.Written.{written}
+use Prim.Native.Nat.{ℕ}
+use mathlib.Core.Path.{ap, _∙_}
+use mathlib.Core.List.{List, [], _∷_}
+use lib.ListN.{length}
+use Rattle.header.proofs.icmp.solicitation.Statement.{statement}
+use Rattle.header.proofs.icmp.solicitation.Tie as tie
+
+returns : tie.Need-returns
+unfolding solicitationAnswer solicitationOutput
+returns c = let stop = solicitation-short (length (c .before .before .args .out .now)) (omega arith) in (rw stop, rw stop)
+
+returns-2 : tie.Need-returns-2
+unfolding solicitationAnswer solicitationOutput solicitationOf
+returns-2 c =
+    let a = c .before .before .before .before .before .before .before .args in
+    let pass = solicitation-pass (length (a .out .now)) (omega arith) in
+    let packet = sealed-packet 255 (a .from) (a .to) 133 0 (0 ∷ (0 ∷ (0 ∷ (0 ∷ [])))) (omega arith) (omega arith) in
+    (rw pass, rw pass (c .before .before .write-message .ensures ∙ ap (λ (p : List ℕ). written p (a .out .now)) packet))
+
+pub solicitation-spec : {M : Type 1} → statement M
+solicitation-spec =
+    tie.close
+    (tie.spec returns (omega arith) (omega arith) (omega arith) (omega arith) returns-2)

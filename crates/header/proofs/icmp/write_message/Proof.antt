@@ -1,0 +1,31 @@
+-- `header::icmp::write_message` meets its contract: three writes, each right behind the last, and the checksum put in. Assumes nothing.
+use native.Mathlib.Omega.{arith}
+use Rattle.lent.specs.Laws.{placed-more}
+use Rattle.header.specs.Sealed.{sealed-written}
+use Rattle.header.specs.WriterLaws.{length-ipv6Header}
+use Rattle.header.specs.Icmp.{ipv6Header}
+use Prim.Native.Nat.{_+_}
+use mathlib.Core.Path.{_≡_, _∙_}
+use mathlib.Core.List.{_++_, append-assoc}
+use lib.ListN.{length, length-append}
+use Rattle.header.proofs.icmp.write_message.Statement.{statement}
+use Rattle.header.proofs.icmp.write_message.Tie as tie
+
+returns : tie.Need-returns
+returns c =
+    let a = c .before .before .before .before .before .before .before .before .before .before .before .before .before .before .before .before .before .before .before .args in
+    let out = a .out .now in
+    let rest = a .rest .now in
+    let h = ipv6Header (8 + length rest) (a .hop) (a .from) (a .to) in
+    let l = length-ipv6Header (8 + length rest) (a .hop) (a .from) (a .to) (omega arith) (omega arith) in
+    let d₁ = placed-more 40 h (a .t4) out l (omega arith) (c .before .before .before .before .before .before .before .before .before .before .before .before .before .before .before .write-ipv6-header .ensures) (c .before .before .before .before .before .before .before .before .before .before .place .ensures) in
+    let l₂ : length (h ++ a .t4) ≡ 48 = length-append h (a .t4) ∙ omega arith in
+    let d₂ = placed-more 48 (h ++ a .t4) rest out l₂ (omega arith) d₁ (c .before .before .before .before .before .before .place2 .ensures) in
+    let l₃ : length ((h ++ a .t4) ++ rest) ≡ 48 + length rest = length-append (h ++ a .t4) rest ∙ omega arith in
+    sealed-written (48 + length rest) ((h ++ a .t4) ++ rest) out l₃ (omega arith) d₂ (c .before .before .seal .ensures) ∙ rw (append-assoc h (a .t4) rest)
+
+pub write-message-spec : {M : Type 1} → statement M
+write-message-spec =
+    tie.close
+    (tie.spec (omega arith) (omega arith) (omega arith) (omega arith) (omega arith) (omega arith) (omega arith)
+    (omega arith) (omega arith) returns)

@@ -1,0 +1,70 @@
+-- The ICMPv6 messages that we write: Packet Too Big (document 01, "Sending"; RFC 4443, 3.2) and the router solicitation
+-- (document 01, "Routers"; RFC 4861, 4.1).
+use Prim.Native.Nat.{ℕ, _+_, min}
+use mathlib.Core.List.{List, [], _∷_, _++_}
+use lib.ListN.{length, take}
+use lib.Dec.{ltb}
+use Rattle.checksum.specs.Sum.{onesSum, onesComplement}
+use Rattle.refusals.specs.Refusals.{firstOf}
+use Rattle.refusals.specs.declared.Refusal.the-variants.{InnerMalformed, OutputShort}
+use Rattle.refusals.specs.declared.Check.{Check}
+use Rattle.header.specs.Fields.{addressAt}
+use Rattle.header.specs.Wrap.{be16, be32, writerAnswer, writerOutput}
+use Rattle.header.specs.declared.wrap.Written.{Written}
+
+-- the IPv6 header of n bytes of ICMPv6: traffic class and flow label 0
+abbrev pub ipv6Header : ℕ → ℕ → List ℕ → List ℕ → List ℕ
+ipv6Header n hop from to = 96 ∷ (0 ∷ (0 ∷ (0 ∷ be16 n (58 ∷ (hop ∷ (from ++ to))))))
+
+-- what the pseudo header has behind the addresses (RFC 2460, 8.1): the length in 32 bits, three zero bytes, next header 58
+abbrev pub pseudoTail : ℕ → List ℕ
+pseudoTail n = be32 n (0 ∷ (0 ∷ (0 ∷ (58 ∷ []))))
+
+-- the sum of an ICMPv6 message and its pseudo header (RFC 4443, 2.3); addresses are the source's bytes and then the destination's
+unfoldable pub icmpSum : List ℕ → List ℕ → ℕ
+icmpSum addresses message = onesSum (addresses ++ (pseudoTail (length message) ++ message))
+
+-- a message of that type and code with a number for its checksum
+abbrev pub icmpWith : ℕ → ℕ → ℕ → List ℕ → List ℕ
+icmpWith kind code sum body = kind ∷ (code ∷ be16 sum body)
+
+-- "we write the complement of the sum taken with that field 0"
+unfoldable pub icmpMessage : List ℕ → ℕ → ℕ → List ℕ → List ℕ
+icmpMessage addresses kind code body = icmpWith kind code (onesComplement (icmpSum addresses (icmpWith kind code 0 body))) body
+
+-- the message in its IPv6 packet
+unfoldable pub icmpPacket : ℕ → List ℕ → List ℕ → ℕ → ℕ → List ℕ → List ℕ
+icmpPacket hop from to kind code body = ipv6Header (4 + length body) hop from to ++ icmpMessage (from ++ to) kind code body
+
+-- reporting address to the packet's source, hop limit 64, type 2, code 0, the size, then the first min(n, 1,232) bytes
+unfoldable pub tooBigOf : List ℕ → ℕ → List ℕ → List ℕ
+tooBigOf reporting size packet = icmpPacket 64 reporting (addressAt packet 8) 2 0 (be32 size (take 1232 packet))
+
+-- the message's length for a packet of n bytes
+abbrev pub tooBigLength : ℕ → ℕ
+tooBigLength n = 48 + min 1232 n
+
+-- without an IPv6 header there is no source to write to: 8; then 15
+unfoldable pub tooBigCheck : ℕ → ℕ → Check
+tooBigCheck n room = firstOf ((ltb n 40, InnerMalformed) ∷ ((ltb room (tooBigLength n), OutputShort) ∷ []))
+
+unfoldable pub tooBigAnswer : ℕ → ℕ → Written
+tooBigAnswer n room = writerAnswer (tooBigCheck n room) (tooBigLength n)
+
+unfoldable pub tooBigOutput : List ℕ → ℕ → List ℕ → List ℕ → List ℕ
+tooBigOutput reporting size packet out =
+    writerOutput (tooBigCheck (length packet) (length out)) (tooBigOf reporting size packet) out
+
+-- a solicitation: hop limit 255, type 133, code 0, reserved 0, no options
+unfoldable pub solicitationOf : List ℕ → List ℕ → List ℕ
+solicitationOf from to = icmpPacket 255 from to 133 0 (0 ∷ (0 ∷ (0 ∷ (0 ∷ []))))
+
+-- 15
+unfoldable pub solicitationCheck : ℕ → Check
+solicitationCheck room = firstOf ((ltb room 48, OutputShort) ∷ [])
+
+unfoldable pub solicitationAnswer : ℕ → Written
+solicitationAnswer room = writerAnswer (solicitationCheck room) 48
+
+unfoldable pub solicitationOutput : List ℕ → List ℕ → List ℕ → List ℕ
+solicitationOutput from to out = writerOutput (solicitationCheck (length out)) (solicitationOf from to) out

@@ -1,0 +1,65 @@
+-- The outer header that we write (document 01, "Sending"), and a packet wrapped in it.
+use Prim.Native.Nat.{ℕ, _+_, _/_, _%_}
+use mathlib.Core.Bool.{cond}
+use mathlib.Core.List.{List, [], _∷_, _++_}
+use lib.ListN.{length}
+use lib.Dec.{ltb}
+use Rattle.checksum.specs.Sum.{onesSum, onesComplement}
+use Rattle.lent.specs.Written.{written}
+use Rattle.refusals.specs.Refusals.{firstOf}
+use Rattle.refusals.specs.declared.Refusal.the-variants.{WrappedTooLong, OutputShort}
+use Rattle.refusals.specs.declared.Check.{Check}
+use Rattle.refusals.specs.declared.Check.the-variants.{Pass, Stop}
+use Rattle.header.specs.declared.wrap.OuterFields.{OuterFields}
+use Rattle.header.specs.declared.wrap.Written.{Written}
+use Rattle.header.specs.declared.wrap.Written.the-variants.{Length, Refused}
+
+-- the two bytes of a 16-bit number, and then a list
+abbrev pub be16 : ℕ → List ℕ → List ℕ
+be16 x s = x / 256 ∷ (x % 256 ∷ s)
+
+-- the four bytes of a 32-bit number, and then a list
+abbrev pub be32 : ℕ → List ℕ → List ℕ
+be32 x s = x / 16777216 ∷ (x / 65536 % 256 ∷ (x / 256 % 256 ∷ (x % 256 ∷ s)))
+
+-- the header before its checksum: version 4 and five words, type of service 0, total length, identification, don't-fragment,
+-- offset 0, TTL, protocol
+abbrev pub outerFront : ℕ → OuterFields → List ℕ
+outerFront total h =
+    69 ∷ (0 ∷ be16 total (be16 (h .identification) (cond (h .«dont_fragment») 64 0 ∷ (0 ∷ (h .ttl ∷ (h .protocol ∷ []))))))
+
+-- the header behind its checksum: source and destination
+abbrev pub outerBack : OuterFields → List ℕ
+outerBack h = be32 (h .source) (be32 (h .destination) [])
+
+-- the header with a number for its checksum
+abbrev pub outerWith : ℕ → OuterFields → ℕ → List ℕ
+outerWith total h sum = outerFront total h ++ be16 sum (outerBack h)
+
+-- "we write the complement of the sum taken with that field 0"
+unfoldable pub outerBytes : ℕ → OuterFields → List ℕ
+outerBytes total h = outerWith total h (onesComplement (onesSum (outerWith total h 0)))
+
+-- the packet behind its outer header
+unfoldable pub wrapped : OuterFields → List ℕ → List ℕ
+wrapped h packet = outerBytes (20 + length packet) h ++ packet
+
+-- 23, then 15, for a packet of n bytes
+unfoldable pub wrapCheck : ℕ → ℕ → Check
+wrapCheck n room = firstOf ((ltb 65535 (20 + n), WrappedTooLong) ∷ ((ltb room (20 + n), OutputShort) ∷ []))
+
+-- what a writer answers that would write n bytes
+abbrev pub writerAnswer : Check → ℕ → Written
+writerAnswer Pass n = Length n
+writerAnswer (Stop refusal) n = Refused refusal
+
+-- what a writer leaves in the output that would write w: "the lent output is untouched" after a refusal
+abbrev pub writerOutput : Check → List ℕ → List ℕ → List ℕ
+writerOutput Pass w out = written w out
+writerOutput (Stop refusal) w out = out
+
+unfoldable pub wrapAnswer : ℕ → ℕ → Written
+wrapAnswer n room = writerAnswer (wrapCheck n room) (20 + n)
+
+unfoldable pub wrapOutput : OuterFields → List ℕ → List ℕ → List ℕ
+wrapOutput h packet out = writerOutput (wrapCheck (length packet) (length out)) (wrapped h packet) out

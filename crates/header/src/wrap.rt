@@ -1,0 +1,102 @@
+// A packet wrapped in an outer header.
+use lent::place;
+use refusals::Refusal;
+ghost use mathlib.Core.Path.{_≡_};
+ghost use mathlib.Core.Bool.{cond};
+ghost use lib.ListN.{length};
+ghost use Prim.Native.Nat.{_/_, _%_};
+ghost use Rattle.header.specs.Wrap.{outerWith, outerBytes, wrapAnswer, wrapOutput};
+
+// The fields of the outer header that the caller chooses.
+pub struct OuterFields {
+    pub identification: u16,
+    pub dont_fragment: bool,
+    pub ttl: u8,
+    pub protocol: u8,
+    pub source: u32,
+    pub destination: u32,
+}
+
+// What a writer answers: how much it wrote, or why it wrote nothing.
+pub enum Written {
+    Length(usize),
+    Refused(Refusal),
+}
+
+// Writes an outer header and then the packet into out.
+pub fn wrap(h: OuterFields, packet: &[u8], out: &mut [u8]) -> Written
+    ensures { λ r. ⌜ r ≡ wrapAnswer (length (now (packet .entry))) (length (now (out .entry))) ⌝ }
+    ensures { λ _. ⌜ now (out .exit) ≡ wrapOutput h (now (packet .entry)) (now (out .entry)) ⌝ }
+{
+    let n = packet.len();
+    if 65515 < n {
+        return Written::Refused(Refusal::WrappedTooLong);
+    }
+    let total = 20 + n;
+    if out.len() < total {
+        return Written::Refused(Refusal::OutputShort);
+    }
+    let header = outer_bytes(total as u16, h);
+    place(&header, out, 0);
+    place(packet, out, 20);
+    Written::Length(total)
+}
+
+// The 20 bytes of an outer header of the total length, with their checksum.
+pub fn outer_bytes(total: u16, h: OuterFields) -> [u8; 20]
+    ensures { λ r. ⌜ r ≡ outerBytes total h ⌝ }
+{
+    let mut b = unsummed(total, h);
+    let sum = checksum::complement(checksum::sum(&b));
+    b[10] = high(sum);
+    b[11] = low(sum);
+    b
+}
+
+// The same with 0 for the checksum.
+fn unsummed(total: u16, h: OuterFields) -> [u8; 20]
+    ensures { λ r. ⌜ r ≡ outerWith total h 0 ⌝ }
+{
+    let flags = flags(h.dont_fragment);
+    [
+        0x45,
+        0,
+        (total / 256) as u8,
+        (total % 256) as u8,
+        (h.identification / 256) as u8,
+        (h.identification % 256) as u8,
+        flags,
+        0,
+        h.ttl,
+        h.protocol,
+        0,
+        0,
+        (h.source / 16777216) as u8,
+        (h.source / 65536 % 256) as u8,
+        (h.source / 256 % 256) as u8,
+        (h.source % 256) as u8,
+        (h.destination / 16777216) as u8,
+        (h.destination / 65536 % 256) as u8,
+        (h.destination / 256 % 256) as u8,
+        (h.destination % 256) as u8,
+    ]
+}
+
+// The byte of the flags: don't-fragment is its second bit.
+fn flags(dont_fragment: bool) -> u8
+    ensures { λ r. ⌜ r ≡ cond «dont_fragment» 64 0 ⌝ }
+{
+    if dont_fragment { 64 } else { 0 }
+}
+
+pub(crate) fn high(x: u16) -> u8
+    ensures { λ r. ⌜ r ≡ x / 256 ⌝ }
+{
+    (x / 256) as u8
+}
+
+pub(crate) fn low(x: u16) -> u8
+    ensures { λ r. ⌜ r ≡ x % 256 ⌝ }
+{
+    (x % 256) as u8
+}
