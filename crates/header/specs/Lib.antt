@@ -4,6 +4,6 @@ pub mod Outer
 pub mod Inner
 pub mod InnerLaws
 pub mod Wrap
-pub mod Icmp
-pub mod Sealed
 pub mod WriterLaws
+pub mod Right
+pub mod ReadBack

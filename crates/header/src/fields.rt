@@ -1,6 +1,6 @@
-// Big-endian fields of a slice, read at any place: a byte past the end reads as 0.
+// Big-endian fields: of a slice, read at any place, where a byte past the end reads as 0; and the bytes of a number.
 ghost use mathlib.Core.Path.{_≡_};
-ghost use Prim.Native.Nat.{_+_, _*_, min};
+ghost use Prim.Native.Nat.{_+_, _*_, _/_, _%_, min};
 ghost use lib.ListN.{getD, drop};
 ghost use Rattle.header.specs.Fields.{wordAt, quadAt, addressAt};
 
@@ -10,10 +10,24 @@ pub fn byte(d: &[u8], i: usize) -> u8
     if i < d.len() { d[i] } else { 0 }
 }
 
-pub(crate) fn least(a: usize, b: usize) -> usize
+pub fn least(a: usize, b: usize) -> usize
     ensures { λ r. ⌜ r ≡ min a b ⌝ }
 {
     if a < b { a } else { b }
+}
+
+// The high byte of a 16-bit number.
+pub fn high(x: u16) -> u8
+    ensures { λ r. ⌜ r ≡ x / 256 ⌝ }
+{
+    (x / 256) as u8
+}
+
+// The low byte of a 16-bit number.
+pub fn low(x: u16) -> u8
+    ensures { λ r. ⌜ r ≡ x % 256 ⌝ }
+{
+    (x % 256) as u8
 }
 
 // The part from k on, empty where k is past the end.

@@ -1,10 +1,10 @@
 // A packet wrapped in an outer header.
+use crate::fields;
 use lent::place;
 use refusals::Refusal;
 ghost use mathlib.Core.Path.{_≡_};
 ghost use mathlib.Core.Bool.{cond};
 ghost use lib.ListN.{length};
-ghost use Prim.Native.Nat.{_/_, _%_};
 ghost use Rattle.header.specs.Wrap.{outerWith, outerBytes, wrapAnswer, wrapOutput};
 
 // The fields of the outer header that the caller chooses.
@@ -48,8 +48,8 @@ pub fn outer_bytes(total: u16, h: OuterFields) -> [u8; 20]
 {
     let mut b = unsummed(total, h);
     let sum = checksum::complement(checksum::sum(&b));
-    b[10] = high(sum);
-    b[11] = low(sum);
+    b[10] = fields::high(sum);
+    b[11] = fields::low(sum);
     b
 }
 
@@ -87,16 +87,4 @@ fn flags(dont_fragment: bool) -> u8
     ensures { λ r. ⌜ r ≡ cond «dont_fragment» 64 0 ⌝ }
 {
     if dont_fragment { 64 } else { 0 }
-}
-
-pub(crate) fn high(x: u16) -> u8
-    ensures { λ r. ⌜ r ≡ x / 256 ⌝ }
-{
-    (x / 256) as u8
-}
-
-pub(crate) fn low(x: u16) -> u8
-    ensures { λ r. ⌜ r ≡ x % 256 ⌝ }
-{
-    (x % 256) as u8
 }

@@ -11,8 +11,8 @@ use Rattle.checksum.specs.Bytes.{Bytes, bytes-take, bytes-drop}
 use Rattle.checksum.specs.Laws.{wordSum, sum-moved}
 use Rattle.lent.specs.Written.{written, over}
 use Rattle.lent.specs.Laws.{length-over, written-again}
 use Rattle.header.specs.Wrap.{be16, be32}
-use Rattle.header.specs.Icmp.{ipv6Header, pseudoTail, icmpSum, icmpWith, icmpMessage, icmpPacket}
+use Rattle.messages.specs.Icmp.{ipv6Header, pseudoTail, icmpSum, icmpWith, icmpMessage, icmpPacket}
 
 -- the complement of the sum over the addresses and the message is put at the checksum's place
 unfoldable pub sealed : List ℕ → List ℕ

@@ -1,15 +1,15 @@
--- `header::icmp::write_message` meets its contract: three writes, each right behind the last, and the checksum put in. Assumes nothing.
+-- `messages::write_message` meets its contract: three writes, each right behind the last, and the checksum put in. Assumes nothing.
 use native.Mathlib.Omega.{arith}
 use Rattle.lent.specs.Laws.{placed-more}
-use Rattle.header.specs.Sealed.{sealed-written}
-use Rattle.header.specs.WriterLaws.{length-ipv6Header}
-use Rattle.header.specs.Icmp.{ipv6Header}
+use Rattle.messages.specs.Sealed.{sealed-written}
+use Rattle.messages.specs.WriterLaws.{length-ipv6Header}
+use Rattle.messages.specs.Icmp.{ipv6Header}
 use Prim.Native.Nat.{_+_}
 use mathlib.Core.Path.{_≡_, _∙_}
 use mathlib.Core.List.{_++_, append-assoc}
 use lib.ListN.{length, length-append}
-use Rattle.header.proofs.icmp.write_message.Statement.{statement}
-use Rattle.header.proofs.icmp.write_message.Tie as tie
+use Rattle.messages.proofs.write_message.Statement.{statement}
+use Rattle.messages.proofs.write_message.Tie as tie
 
 returns : tie.Need-returns
 returns c =

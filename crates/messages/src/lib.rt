@@ -1,8 +1,6 @@
 // The ICMPv6 messages that we write: Packet Too Big and the router solicitation.
-use crate::fields;
-use crate::wrap::Written;
-use crate::wrap::high;
-use crate::wrap::low;
+use header::fields;
+use header::wrap::Written;
 use lent::place;
 use refusals::Refusal;
 ghost use mathlib.Core.Path.{_≡_};
@@ -10,8 +8,8 @@ ghost use mathlib.Core.List.{_++_};
 ghost use Prim.Native.Nat.{_+_, _≤_};
 ghost use lib.ListN.{length, take};
 ghost use Rattle.lent.specs.Written.{written};
-ghost use Rattle.header.specs.Icmp.{ipv6Header, tooBigAnswer, tooBigOutput, solicitationAnswer, solicitationOutput};
-ghost use Rattle.header.specs.Sealed.{sealed};
+ghost use Rattle.messages.specs.Icmp.{ipv6Header, tooBigAnswer, tooBigOutput, solicitationAnswer, solicitationOutput};
+ghost use Rattle.messages.specs.Sealed.{sealed};
 
 // The most that a Packet Too Big quotes: the message is then 1,280 bytes long.
 const QUOTE: usize = 1232;
@@ -29,7 +27,7 @@ pub fn too_big(reporting: [u8; 16], size: u16, packet: &[u8], out: &mut [u8]) ->
         return Written::Refused(Refusal::OutputShort);
     }
     let to = fields::address(packet, 8);
-    let front = [2, 0, 0, 0, 0, 0, high(size), low(size)];
+    let front = [2, 0, 0, 0, 0, 0, fields::high(size), fields::low(size)];
     write_message(64, reporting, to, front, &packet[..quoted], out);
     Written::Length(48 + quoted)
 }
@@ -78,6 +76,6 @@ fn seal(n: usize, out: &mut [u8])
 {
     let sum = checksum::sum_from((n - 40 + 58) as u32, &out[8..n]);
     let field = checksum::complement(sum);
-    let bytes = [high(field), low(field)];
+    let bytes = [fields::high(field), fields::low(field)];
     place(&bytes, out, 42);
 }

@@ -1,15 +1,15 @@
--- `header::icmp::solicitation` meets its contract: the message has no part behind its first 8 bytes. Assumes nothing.
+-- `messages::solicitation` meets its contract: the message has no part behind its first 8 bytes. Assumes nothing.
 use native.Mathlib.Omega.{arith}
-use Rattle.header.specs.Sealed.{sealed-packet}
-use Rattle.header.specs.Icmp.{solicitationOf, solicitationAnswer, solicitationOutput}
-use Rattle.header.specs.WriterLaws.{solicitation-short, solicitation-pass}
+use Rattle.messages.specs.Sealed.{sealed-packet}
+use Rattle.messages.specs.Icmp.{solicitationOf, solicitationAnswer, solicitationOutput}
+use Rattle.messages.specs.WriterLaws.{solicitation-short, solicitation-pass}
 use Rattle.lent.specs.Written.{written}
 use Prim.Native.Nat.{ℕ}
 use mathlib.Core.Path.{ap, _∙_}
 use mathlib.Core.List.{List, [], _∷_}
 use lib.ListN.{length}
-use Rattle.header.proofs.icmp.solicitation.Statement.{statement}
-use Rattle.header.proofs.icmp.solicitation.Tie as tie
+use Rattle.messages.proofs.solicitation.Statement.{statement}
+use Rattle.messages.proofs.solicitation.Tie as tie
 
 returns : tie.Need-returns
 unfolding solicitationAnswer solicitationOutput

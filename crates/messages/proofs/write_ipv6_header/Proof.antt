@@ -1,12 +1,12 @@
--- `header::icmp::write_ipv6_header` meets its contract: three writes, each right behind the last. Assumes nothing.
+-- `messages::write_ipv6_header` meets its contract: three writes, each right behind the last. Assumes nothing.
 use native.Mathlib.Omega.{arith}
 use Rattle.lent.specs.Laws.{placed-first, placed-more}
 use Prim.Native.Nat.{ℕ}
 use mathlib.Core.Path.{refl}
 use mathlib.Core.List.{List, [], _∷_, _++_}
 use Rattle.header.specs.Wrap.{be16}
-use Rattle.header.proofs.icmp.write_ipv6_header.Statement.{statement}
-use Rattle.header.proofs.icmp.write_ipv6_header.Tie as tie
+use Rattle.messages.proofs.write_ipv6_header.Statement.{statement}
+use Rattle.messages.proofs.write_ipv6_header.Tie as tie
 
 returns : tie.Need-returns
 returns c =

@@ -1,15 +1,15 @@
--- `header::icmp::seal` meets its contract: the checksum stands inside of the packet. Assumes nothing.
+-- `messages::seal` meets its contract: the checksum stands inside of the packet. Assumes nothing.
 use native.Mathlib.Omega.{arith}
 use Rattle.lent.specs.Laws.{placed-inside}
-use Rattle.header.specs.Sealed.{sealed, one-pass}
+use Rattle.messages.specs.Sealed.{sealed, one-pass}
 use Prim.Native.Nat.{ℕ}
 use mathlib.Core.Path.{_≡_, sym, ap, _∙_}
 use mathlib.Core.List.{[], _∷_, _++_}
 use lib.ListN.{length, take, drop, take-append-drop}
 use lib.Seq.{length-take-le}
 use Rattle.checksum.specs.Bytes.{bytes-of}
-use Rattle.header.proofs.icmp.seal.Statement.{statement}
-use Rattle.header.proofs.icmp.seal.Tie as tie
+use Rattle.messages.proofs.seal.Statement.{statement}
+use Rattle.messages.proofs.seal.Tie as tie
 
 returns : tie.Need-returns
 unfolding sealed

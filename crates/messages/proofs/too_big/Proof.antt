@@ -1,16 +1,16 @@
--- `header::icmp::too_big` meets its contract: at each return the tests that led there say which case holds. Assumes nothing.
+-- `messages::too_big` meets its contract: at each return the tests that led there say which case holds. Assumes nothing.
 use native.Mathlib.Omega.{arith}
-use Rattle.header.specs.Sealed.{sealed-too-big}
-use Rattle.header.specs.Icmp.{tooBigOf, tooBigAnswer, tooBigOutput}
-use Rattle.header.specs.WriterLaws.{too-big-headless, too-big-short, too-big-pass}
+use Rattle.messages.specs.Sealed.{sealed-too-big}
+use Rattle.messages.specs.Icmp.{tooBigOf, tooBigAnswer, tooBigOutput}
+use Rattle.messages.specs.WriterLaws.{too-big-headless, too-big-short, too-big-pass}
 use Rattle.header.specs.FieldLaws.{take-least}
 use Rattle.lent.specs.Written.{written}
 use Prim.Native.Nat.{ℕ}
 use mathlib.Core.Path.{ap, _∙_}
 use mathlib.Core.List.{List}
 use lib.ListN.{length, take, length-take}
-use Rattle.header.proofs.icmp.too_big.Statement.{statement}
-use Rattle.header.proofs.icmp.too_big.Tie as tie
+use Rattle.messages.proofs.too_big.Statement.{statement}
+use Rattle.messages.proofs.too_big.Tie as tie
 
 returns : tie.Need-returns
 unfolding tooBigAnswer tooBigOutput

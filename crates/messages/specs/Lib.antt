@@ -1,0 +1,4 @@
+pub mod Icmp
+pub mod Sealed
+pub mod WriterLaws
+pub mod Right
