@@ -1,6 +1,6 @@
 // The Internet checksum of RFC 1071.
 ghost use mathlib.Core.Path.{_≡_};
-ghost use Prim.Native.Nat.{_+_, _*_, _≤_, _<_};
+ghost use Prim.Native.Nat.{_+_, _*_, _≤_, _<_, min};
 ghost use lib.ListN.{length, drop};
 ghost use Rattle.checksum.specs.Sum.{onesSum, onesSumFrom, onesComplement, isRight, isRightFrom};
 ghost use Rattle.checksum.specs.Laws.{wordSum, folded};
@@ -19,13 +19,17 @@ pub fn sum(s: &[u8]) -> u16
 pub fn sum_from(start: u32, s: &[u8]) -> u16
     ensures { λ r. ⌜ r ≡ onesSumFrom start (now (s .entry)) ⌝ }
 {
-    let mut sum = start;
+    let mut last = start;
     let mut at = 0;
-    while CHUNK <= s.len() - at {
-        sum = added(sum, &s[at..at + CHUNK]) as u32;
-        at += CHUNK;
+    loop {
+        let end = chunk_end(at, s.len());
+        let sum = added(last, &s[at..end]);
+        if end == s.len() {
+            return sum;
+        }
+        last = sum as u32;
+        at = end;
     }
-    added(sum, &s[at..])
 }
 
 // The one's complement of x: what is written for a sum x.
@@ -49,12 +53,24 @@ pub fn right_from(start: u32, s: &[u8]) -> bool
     sum_from(start, s) == 65535
 }
 
+// The end of the chunk that starts at a place.
+fn chunk_end(at: usize, length: usize) -> usize
+    requires { ⌜ at ≤ length ⌝ }
+    ensures { λ r. ⌜ r ≡ min (at + 65536) length ⌝ }
+{
+    if CHUNK < length - at {
+        at + CHUNK
+    } else {
+        length
+    }
+}
+
 // The last fold's result and the exact sum of the words since, folded.
 fn added(last: u32, s: &[u8]) -> u16
     requires { ⌜ length (now s) ≤ 65536 ⌝ }
     ensures { λ r. ⌜ r ≡ folded (last + wordSum (now (s .entry))) ⌝ }
 {
-    fold(last as u64 + words(s))
+    fold(last as u64 + words(s) as u64)
 }
 
 // x with its carries brought back in until none is left.
@@ -69,11 +85,11 @@ fn fold(x: u64) -> u16
 }
 
 // The exact sum of the words of s: eight words a turn, then one by one.
-fn words(s: &[u8]) -> u64
+fn words(s: &[u8]) -> u32
     requires { ⌜ length (now s) ≤ 65536 ⌝ }
-    ensures { λ r. ⌜ (r ≡ wordSum (now (s .entry))) × (r ≤ 4294967296) ⌝ }
+    ensures { λ r. ⌜ r ≡ wordSum (now (s .entry)) ⌝ }
 {
-    let mut sum: u64 = 0;
+    let mut sum: u32 = 0;
     let mut i = 0;
     while i + 15 < s.len() {
         sum += eight_words(s, i);
@@ -82,12 +98,12 @@ fn words(s: &[u8]) -> u64
     sum + last_words(&s[i..])
 }
 
-// The exact sum of the words of s: one word a turn, then an odd last byte with a zero byte.
-fn last_words(s: &[u8]) -> u64
-    requires { ⌜ length (now s) ≤ 65536 ⌝ }
-    ensures { λ r. ⌜ (r ≡ wordSum (now (s .entry))) × (r ≤ 2147483648) ⌝ }
+// The same of fewer than 16 bytes: one word a turn, then an odd last byte, padded with a zero byte.
+fn last_words(s: &[u8]) -> u32
+    requires { ⌜ length (now s) < 16 ⌝ }
+    ensures { λ r. ⌜ (r ≡ wordSum (now (s .entry))) × (r ≤ 65535 * 8) ⌝ }
 {
-    let mut sum: u64 = 0;
+    let mut sum: u32 = 0;
     let mut i = 0;
     while i + 1 < s.len() {
         sum += word_at(s, i);
@@ -101,9 +117,9 @@ fn last_words(s: &[u8]) -> u64
 }
 
 // The exact sum of the eight words from i on: what it takes off the sum of what is left.
-fn eight_words(s: &[u8], i: usize) -> u64
+fn eight_words(s: &[u8], i: usize) -> u32
     requires { ⌜ i + 15 < length (now s) ⌝ }
-    ensures { λ r. ⌜ (wordSum (drop i (now (s .entry))) ≡ r + wordSum (drop (i + 16) (now (s .entry)))) × (r ≤ 524280) ⌝ }
+    ensures { λ r. ⌜ (wordSum (drop i (now (s .entry))) ≡ r + wordSum (drop (i + 16) (now (s .entry)))) × (r ≤ 65535 * 8) ⌝ }
 {
     word_at(s, i)
         + word_at(s, i + 2)
@@ -116,7 +132,7 @@ fn eight_words(s: &[u8], i: usize) -> u64
 }
 
 // The word at i.
-fn word_at(s: &[u8], i: usize) -> u64
+fn word_at(s: &[u8], i: usize) -> u32
     requires { ⌜ i + 1 < length (now s) ⌝ }
     ensures { λ r. ⌜ (wordSum (drop i (now (s .entry))) ≡ r + wordSum (drop (i + 2) (now (s .entry)))) × (r ≤ 65535) ⌝ }
 {
@@ -124,8 +140,8 @@ fn word_at(s: &[u8], i: usize) -> u64
 }
 
 // A big-endian word.
-fn word(hi: u8, lo: u8) -> u64
+fn word(hi: u8, lo: u8) -> u32
     ensures { λ r. ⌜ (r ≡ hi * 256 + lo) × (r ≤ 65535) ⌝ }
 {
-    hi as u64 * 256 + lo as u64
+    hi as u32 * 256 + lo as u32
 }

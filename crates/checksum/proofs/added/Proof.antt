@@ -9,4 +9,4 @@ returns : tie.Need-returns
 returns c = c .fold .ensures ∙ ap folded (omega arith)
 
 pub added-spec : {M : Type 1} → statement M
-added-spec = tie.close (tie.spec (omega arith) (omega arith) (omega arith) returns)
+added-spec = tie.close (tie.spec (omega arith) (omega arith) (omega arith) (omega arith) returns)

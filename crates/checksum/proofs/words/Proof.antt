@@ -17,7 +17,8 @@ abbrev μ-loop : tie.MeasureT-loop
 returns : tie.Need-returns Inv-loop μ-loop
 returns c =
     let l = c .before .before .before in
-    omega (arith, ap wordSum (left-part (l .before .before .args .s .now) (l .loop .i)))
+    let s = l .before .before .args .s .now in
+    omega (arith, ap wordSum (left-part s (l .loop .i) (length s) (omega arith)))
 
 pub words-spec : {M : Type 1} → statement M
 words-spec =
