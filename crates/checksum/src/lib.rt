@@ -3,10 +3,14 @@ ghost use mathlib.Core.Path.{_≡_};
 ghost use Prim.Native.Nat.{_+_, _*_, _≤_, _<_, min};
 ghost use lib.ListN.{length, drop};
 ghost use Rattle.checksum.specs.Sum.{onesSum, onesSumFrom, onesComplement, isRight, isRightFrom};
-ghost use Rattle.checksum.specs.Laws.{wordSum, folded};
+ghost use Rattle.checksum.specs.Laws.{wordSum, folded, chunk};
 
 // The bytes that are added up before the carries are brought back.
 const CHUNK: usize = 65536;
+// What a carry out of 16 bits stands for.
+const CARRY: u64 = 65536;
+// Sixteen one bits.
+const ALL_ONES: u16 = 65535;
 
 // The one's complement sum of the words of s.
 pub fn sum(s: &[u8]) -> u16
@@ -36,7 +40,7 @@ pub fn sum_from(start: u32, s: &[u8]) -> u16
 pub fn complement(x: u16) -> u16
     ensures { λ r. ⌜ r ≡ onesComplement x ⌝ }
 {
-    65535 - x
+    ALL_ONES - x
 }
 
 // Whether the checksum that s holds is right.
@@ -50,13 +54,13 @@ pub fn right(s: &[u8]) -> bool
 pub fn right_from(start: u32, s: &[u8]) -> bool
     ensures { λ r. ⌜ r ≡ isRightFrom start (now (s .entry)) ⌝ }
 {
-    sum_from(start, s) == 65535
+    sum_from(start, s) == ALL_ONES
 }
 
 // The end of the chunk that starts at a place.
 fn chunk_end(at: usize, length: usize) -> usize
     requires { ⌜ at ≤ length ⌝ }
-    ensures { λ r. ⌜ r ≡ min (at + 65536) length ⌝ }
+    ensures { λ r. ⌜ r ≡ min (at + chunk) length ⌝ }
 {
     if CHUNK < length - at {
         at + CHUNK
@@ -67,7 +71,7 @@ fn chunk_end(at: usize, length: usize) -> usize
 
 // The last fold's result and the exact sum of the words since, folded.
 fn added(last: u32, s: &[u8]) -> u16
-    requires { ⌜ length (now s) ≤ 65536 ⌝ }
+    requires { ⌜ length (now s) ≤ chunk ⌝ }
     ensures { λ r. ⌜ r ≡ folded (last + wordSum (now (s .entry))) ⌝ }
 {
     fold(last as u64 + words(s) as u64)
@@ -78,15 +82,15 @@ fn fold(x: u64) -> u16
     ensures { λ r. ⌜ r ≡ folded x ⌝ }
 {
     let mut left = x;
-    while 65535 < left {
-        left = left % 65536 + left / 65536;
+    while CARRY <= left {
+        left = left % CARRY + left / CARRY;
     }
     left as u16
 }
 
 // The exact sum of the words of s: eight words a turn, then one by one.
 fn words(s: &[u8]) -> u32
-    requires { ⌜ length (now s) ≤ 65536 ⌝ }
+    requires { ⌜ length (now s) ≤ chunk ⌝ }
     ensures { λ r. ⌜ r ≡ wordSum (now (s .entry)) ⌝ }
 {
     let mut sum: u32 = 0;

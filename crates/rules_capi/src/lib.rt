@@ -2,7 +2,8 @@
 ghost use mathlib.Core.Path.{_≡_};
 ghost use Rattle.checksum.specs.Sum.{onesSumFrom};
 
-// The RFC 1071 sum of the words of s, continued from start (crate checksum, sum_from).
+// uint16_t bogtrumpet_checksum(uint32_t start, const uint8_t *bytes, size_t length);
+// The RFC 1071 sum of the words of the bytes, continued from start: checksum::sum_from.
 #[no_mangle]
 pub extern "C" fn bogtrumpet_checksum(start: u32, s: &[u8]) -> u16
     ensures { λ r. ⌜ r ≡ onesSumFrom start (now (s .entry)) ⌝ }

@@ -1,7 +1,7 @@
 -- `checksum::sum_from` meets its contract: the invariant says what is left to fold in; a full chunk is even, so it ends between two words.
 -- Assumes nothing.
 use native.Mathlib.Omega.{arith}
-use Prim.Native.Nat.{ℕ, _+_, _-_, _≤_, _<_}
+use Prim.Native.Nat.{ℕ, _+_, _-_, _≤_, _<_, _^_}
 use mathlib.Core.Path.{_≡_, ap, _∙_, sym}
 use mathlib.Core.List.{List}
 use lib.ListN.{length, drop}
@@ -13,7 +13,7 @@ use Rattle.checksum.proofs.sum_from.Tie as tie
 
 abbrev Inv-loop : tie.InvT-loop
 Inv-loop start s last₀ at₀ last at =
-    (at ≤ length s) × (last < 4294967296) × (folded (last + wordSum (drop at s)) ≡ folded (start + wordSum s))
+    (at ≤ length s) × (last < 2 ^ 32) × (folded (last + wordSum (drop at s)) ≡ folded (start + wordSum s))
 
 abbrev μ-loop : tie.MeasureT-loop
 μ-loop start s last₀ at₀ last at = length s - at
