@@ -82,7 +82,7 @@ fn main() {
     let mut random = Random(1071);
     compare_checksums(&mut random);
     println!("{:<24}{:>12}{:>12}{:>12}", "", "Rattle, ns", "Rust, ns", "ratio");
-    for length in [20, 40, 1500, 65535] {
+    for length in [20, 1500, 65535] {
         let s = random.bytes(length);
         row(
             &format!("checksum {length}"),
