@@ -88,7 +88,7 @@ fn fold(x: u64) -> u16
     left as u16
 }
 
-// The exact sum of the words of s: eight words a turn, then one by one.
+// The exact sum of the words of s, at most 32,768, so that 32 bits hold it: eight words a turn, then one by one.
 fn words(s: &[u8]) -> u32
     requires { ⌜ length (now s) ≤ chunk ⌝ }
     ensures { λ r. ⌜ r ≡ wordSum (now (s .entry)) ⌝ }
