@@ -1,9 +1,10 @@
 -- The rules on addresses. An IPv4 address is its number; an IPv6 address is the list of its sixteen bytes.
 use Prim.Native.Nat.{ℕ, zero, suc, _+_, _*_, _/_, _%_}
-use mathlib.Core.Bool.{Bool, true, false, cond, _&&_, _||_}
+use mathlib.Core.Bool.{Bool, true, cond, _&&_, _||_}
 use mathlib.Core.List.{List, [], _∷_}
 use lib.ListN.{getD, take}
 use lib.Dec.{eqb}
+use Rattle.lists.specs.Any.{anyOf}
 use Rattle.address.specs.declared.Embedded.{Embedded}
 use Rattle.address.specs.declared.Embedded.the-variants.{Ipv4, Nothing}
 
@@ -24,9 +25,9 @@ abbrev pub agree : ℕ → List ℕ → List ℕ → Bool
 agree zero p a = true
 agree (suc n) p a = agree n p a && eqb (getD p n 0) (getD a n 0)
 
--- the address is under the prefix of 64 bits
-unfoldable pub hasPrefix : List ℕ → List ℕ → Bool
-hasPrefix p a = agree 8 p a
+-- the address a is under the prefix p of 64 bits
+unfoldable pub isUnder : List ℕ → List ℕ → Bool
+isUnder a p = agree 8 p a
 
 -- fe80::/64
 abbrev pub linkLocalPrefix : List ℕ
@@ -34,16 +35,11 @@ linkLocalPrefix = 254 ∷ 128 ∷ 0 ∷ 0 ∷ 0 ∷ 0 ∷ 0 ∷ 0 ∷ []
 
 -- document 01, "Routers": link-local (fe80::/64)
 abbrev pub isLinkLocal : List ℕ → Bool
-isLinkLocal a = hasPrefix linkLocalPrefix a
-
--- the address is under one of the prefixes
-abbrev pub hasSomePrefix : List (List ℕ) → List ℕ → Bool
-hasSomePrefix [] a = false
-hasSomePrefix (p ∷ ps) a = hasPrefix p a || hasSomePrefix ps a
+isLinkLocal a = isUnder a linkLocalPrefix
 
 -- document 01, "Settings": up to 8 on-link prefixes, beside fe80::/64 which always counts
 unfoldable pub isOnLink : List (List ℕ) → ℕ → List ℕ → Bool
-isOnLink prefixes count a = isLinkLocal a || hasSomePrefix (take count prefixes) a
+isOnLink prefixes count a = isLinkLocal a || anyOf (isUnder a) (take count prefixes)
 
 -- document 01, "Receiving": behind the prefix 00 or 02, 00, 5E, FE
 unfoldable pub isIdentifier : List ℕ → Bool

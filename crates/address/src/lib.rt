@@ -2,7 +2,7 @@
 // Tests are joined by `|` and `&`, which evaluate both sides: the code has no branch, and reads as its definition does.
 ghost use mathlib.Core.Path.{_≡_};
 ghost use Prim.Native.Nat.{min};
-ghost use Rattle.address.specs.Address.{isForbidden, quadOf, lastQuad, hasPrefix, isLinkLocal, isOnLink, isIdentifier, embeddedIn, linkLocalOf, areZero, isMulticastOrUnspecified, isBadSourceWith, isBadSource};
+ghost use Rattle.address.specs.Address.{isForbidden, quadOf, lastQuad, isUnder, isLinkLocal, isOnLink, isIdentifier, embeddedIn, linkLocalOf, areZero, isMulticastOrUnspecified, isBadSourceWith, isBadSource};
 
 // The first identifier byte of an address that we form.
 const FIRST_IDENTIFIER_BYTE: u8 = 0;
@@ -34,8 +34,9 @@ pub fn last_quad(a: [u8; 16]) -> u32
     quad(a[12], a[13], a[14], a[15])
 }
 
-fn has_prefix(p: [u8; 8], a: [u8; 16]) -> bool
-    ensures { λ r. ⌜ r ≡ hasPrefix p a ⌝ }
+// Whether the address is under a prefix of 64 bits.
+fn under(a: [u8; 16], p: [u8; 8]) -> bool
+    ensures { λ r. ⌜ r ≡ isUnder a p ⌝ }
 {
     (p[0] == a[0])
         & (p[1] == a[1])
@@ -51,7 +52,7 @@ fn has_prefix(p: [u8; 8], a: [u8; 16]) -> bool
 pub fn link_local_prefixed(a: [u8; 16]) -> bool
     ensures { λ r. ⌜ r ≡ isLinkLocal a ⌝ }
 {
-    has_prefix([0xfe, 0x80, 0, 0, 0, 0, 0, 0], a)
+    under(a, [0xfe, 0x80, 0, 0, 0, 0, 0, 0])
 }
 
 fn least(a: usize, b: usize) -> usize
@@ -68,7 +69,7 @@ pub fn on_link(prefixes: [[u8; 8]; 8], count: usize, a: [u8; 16]) -> bool
     let n = least(count, 8);
     let mut i: usize = 0;
     while i < n {
-        found = found | has_prefix(prefixes[i], a);
+        found = found | under(a, prefixes[i]);
         i += 1;
     }
     found

@@ -1,19 +1,12 @@
 -- What a packet that is not malformed has. Assumes nothing.
 use Prim.Native.Nat.{ℕ, _≤_}
 use mathlib.Core.Path.{_≡_}
-use mathlib.Core.Bool.{Bool, true, false, not, _||_}
+use mathlib.Core.Bool.{false, not, _||_}
 use borrow.Author.Tests.{ltb-false}
 use lib.Dec.{eqb, ltb}
+use Rattle.lists.specs.Tests.{or-left, or-right}
 use Rattle.header.specs.Inner.{isInnerMalformed, isPacketMalformed}
 use Rattle.header.specs.declared.inner.Inner.{Inner}
-
-pub or-left : (a b : Bool) → (a || b) ≡ false → a ≡ false
-or-left true b h = h
-or-left false b h = cc
-
-pub or-right : (a b : Bool) → (a || b) ≡ false → b ≡ false
-or-right true b h = cc
-or-right false b h = h
 
 -- a received packet is not cut off
 pub inner-fits : (n : ℕ) (i : Inner) → isInnerMalformed n i ≡ false → i .length ≤ n

@@ -1,5 +1,4 @@
 pub mod Fields
-pub mod FieldLaws
 pub mod Outer
 pub mod Inner
 pub mod InnerLaws

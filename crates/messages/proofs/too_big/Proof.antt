@@ -3,7 +3,7 @@ use native.Mathlib.Omega.{arith}
 use Rattle.messages.specs.Sealed.{sealed-too-big}
 use Rattle.messages.specs.Icmp.{tooBigOf, tooBigAnswer, tooBigOutput}
 use Rattle.messages.specs.WriterLaws.{too-big-headless, too-big-short, too-big-pass}
-use Rattle.header.specs.FieldLaws.{take-least}
+use Rattle.lists.specs.Parts.{take-least}
 use Rattle.lent.specs.Written.{written}
 use Prim.Native.Nat.{ℕ}
 use mathlib.Core.Path.{ap, _∙_}

@@ -1,0 +1,1 @@
+// Definitions and laws of lists that several crates cite: no function.
