@@ -1,0 +1,80 @@
+-- One turn of a loop over the first n elements of xs: what a definition says of those from place i on, by the one at i and those from i + 1 on.
+-- Assumes nothing.
+use mathlib.Core.Path.{_≡_, refl, sym, ap, _∙_}
+use mathlib.Core.List.{List, [], _∷_, _++_, map, append-nil}
+use mathlib.Core.Bool.{Bool, not, _&&_, _||_, or-assoc, and-assoc}
+use Prim.Native.Nat.{ℕ, zero, suc, _+_, _<_, _≤_, min}
+use native.Mathlib.Numerals.{add-one}
+use native.Mathlib.Nat.{le-of-suc-le-suc, not-suc-le-zero}
+use native.Mathlib.Decide.{decLe}
+use native.Mathlib.Omega.{arith}
+use lib.ListN.{length, getD, take, drop, set, length-take, length-map, drop-of-length-le}
+use lib.Seq.{drop-cons, getD-take, take-all}
+use borrow.Author.Tests.{eq-eqb, ne-eqb}
+use Rattle.routers.specs.declared.Router.{Router}
+use Rattle.routers.specs.Routers.{any, earlier, earliest, dueOr, among, areDistinct}
+
+-- what a read past the last place gives
+abbrev pub noRouter : Router
+noRouter = record { address = 0; due = 0 }
+
+module _ {A : Type 0} (n i : ℕ) (xs : List A) where
+  pub past : length (take n xs) ≤ i → drop i (take n xs) ≡ []
+  past h = drop-of-length-le (take n xs) h
+
+  pub rest : (z : A) → i < length (take n xs) → drop i (take n xs) ≡ getD xs i z ∷ drop (i + 1) (take n xs)
+  rest z h =
+      let below : i < n = omega (arith, length-take n xs) in
+      rw (add-one, drop-cons (take n xs) i z, getD-take)
+
+  pub any-step : (z : A) → i < length (take n xs) → (p : A → Bool) (found : Bool)
+      → (found || any p (drop i (take n xs))) ≡ (found || p (getD xs i z) || any p (drop (i + 1) (take n xs)))
+  unfolding any
+  any-step z h p found = rw (rest z h, or-assoc)
+
+module _ (n i : ℕ) (rs : List Router) (within : i < length (take n rs)) where
+  pub earliest-step : (r : Router) → earliest r (drop i (take n rs)) ≡ earliest (earlier r (getD rs i noRouter)) (drop (i + 1) (take n rs))
+  unfolding earliest
+  earliest-step r = rw (rest n i rs noRouter within)
+
+  pub due-here : (d a : ℕ) → getD rs i noRouter .address ≡ a → dueOr d a (drop i (take n rs)) ≡ getD rs i noRouter .due
+  unfolding dueOr
+  due-here d a e = rw (rest n i rs noRouter within, eq-eqb _ _ e)
+
+  pub due-later : (d a : ℕ) → (getD rs i noRouter .address ≡ a → ⊥) → dueOr d a (drop i (take n rs)) ≡ dueOr d a (drop (i + 1) (take n rs))
+  unfolding dueOr
+  due-later d a e = rw (rest n i rs noRouter within, ne-eqb _ _ e)
+
+pub distinct-step : (n i : ℕ) (xs : List ℕ) → i < length (take n xs) → (so-far : Bool)
+    → (so-far && areDistinct (drop i (take n xs)))
+    ≡ (so-far && not (among (getD xs i 0) (drop (i + 1) (take n xs))) && areDistinct (drop (i + 1) (take n xs)))
+unfolding areDistinct
+distinct-step n i xs h so-far = rw (rest n i xs 0 h, and-assoc)
+
+-- a loop that stores f of each element of xs, one a turn
+module _ {A : Type 0} (f : A → Router) (xs : List A) (rs : List Router) (i : ℕ) where
+  pub fill : (z : A) → i < length xs → i < length rs
+      → set (map f (take i xs) ++ drop i rs) i (f (getD xs i z)) ≡ map f (take (i + 1) xs) ++ drop (i + 1) rs
+  fill z h k = rw (add-one, go xs rs i h k)
+    where
+      go : (xs : List A) (rs : List Router) (i : ℕ) → i < length xs → i < length rs
+          → set (map f (take i xs) ++ drop i rs) i (f (getD xs i z)) ≡ map f (take (suc i) xs) ++ drop (suc i) rs
+      go [] rs i h k = absurd (not-suc-le-zero h)
+      go (a ∷ xs) [] i h k = absurd (not-suc-le-zero k)
+      go (a ∷ xs) (r ∷ rs) zero h k = refl
+      go (a ∷ xs) (r ∷ rs) (suc i) h k = ap (λ (q : List Router). f a ∷ q) (go xs rs i (le-of-suc-le-suc h) (le-of-suc-le-suc k))
+
+  pub filled : length xs ≤ i → length rs ≤ i → map f (take i xs) ++ drop i rs ≡ map f xs
+  filled h k = rw (take-all i xs h, drop-of-length-le rs k, append-nil)
+
+-- what owning an array of structs says of its length is said of the list of its elements' fields
+pub unmapped : {X Y : Type 0} (f : X → Y) (xs : List X) (n : ℕ) → length (map f xs) ≡ n → length xs ≡ n
+unmapped f xs n h = sym (length-map xs f) ∙ h
+
+-- of at most n elements, the first c are the first min c n
+pub take-cap : {A : Type 0} (c m n : ℕ) (xs : List A) → length xs ≤ n → m ≡ min c n → take c xs ≡ take m xs
+take-cap c m n xs h e = go (decLe c n)
+  where
+    go : Dec (c ≤ n) → take c xs ≡ take m xs
+    go (yes l) = let same : c ≡ m = omega arith in ap (λ (k : ℕ). take k xs) same
+    go (no l) = take-all c xs (omega arith) ∙ sym (take-all m xs (omega arith))

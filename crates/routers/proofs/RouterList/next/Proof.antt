@@ -1,0 +1,70 @@
+-- `routers::RouterList::next`: the earliest of the list is the earliest of the best so far and those from i on.
+-- Assumes nothing.
+use borrow.Author.Needs.{needs}
+use borrow.Author.Tests.{le-leb, lt-leb}
+use native.Mathlib.Omega.{arith}
+use Prim.Native.Nat.{_-_, _≤_}
+use mathlib.Core.Path.{_≡_, _∙_}
+use lib.ListN.{drop}
+use Rattle.routers.specs.Routers.{live, nextOf, earliest, ifDue}
+use Rattle.routers.proofs.Laws.{noRouter, rest, past, earliest-step}
+use Rattle.routers.proofs.RouterList.next.Statement.{statement}
+use Rattle.routers.proofs.RouterList.next.Tie as tie
+
+abbrev Inv-loop : tie.InvT-loop
+Inv-loop now self n best₀ i₀ best i = (i ≤ n) × (nextOf now (live self) ≡ ifDue now (earliest best (drop i (live self))))
+
+abbrev μ-loop : tie.MeasureT-loop
+μ-loop now self n best₀ i₀ best i = n - i
+
+returns : tie.Need-returns Inv-loop μ-loop
+unfolding nextOf
+returns c =
+    let l = c .before .before .args .t1 in
+    rw (past (l .count) 0 (l .routers) (omega arith))
+
+loop-holds : tie.Need-loop-holds Inv-loop μ-loop
+unfolding nextOf
+loop-holds c =
+    let l = c .before .before .before .args .t1 in
+    (omega arith, rw (rest (l .count) 0 (l .routers) noRouter (omega arith)))
+
+loop-again : tie.Need-loop-again Inv-loop μ-loop
+loop-again c =
+    let b = c .before .before .before in
+    let a = b .before .before .before .before .args in
+    (omega arith, b .loop .inv .1 ∙ rw (earliest-step (a .t1 .count) (b .loop .i) (a .t1 .routers) (omega arith) (b .loop .best), c .earlier .ensures))
+
+-- past the last router the best is the earliest
+best : (c : tie.After-struct-known Inv-loop μ-loop)
+    → let b = c .before .before in let a = b .before .before .before .before .args in nextOf (a .now) (live (a .t1)) ≡ ifDue (a .now) (b .loop .best)
+unfolding earliest
+best c =
+    let b = c .before .before in
+    let l = b .before .before .before .before .args .t1 in
+    b .loop .inv .1 ∙ rw (past (l .count) (b .loop .i) (l .routers) (omega arith))
+
+returns-2 : tie.Need-returns-2 Inv-loop μ-loop
+returns-2 c = rw (best (c .before), le-leb _ _ (c .if2 .taken))
+
+returns-3 : tie.Need-returns-3 Inv-loop μ-loop
+returns-3 c = rw (best (c .before), lt-leb _ _ (c .if2 .left))
+
+pub next-spec : {M : Type 1} → statement M
+next-spec =
+    tie.close
+    (tie.spec
+    Inv-loop
+    μ-loop
+    (omega arith)
+    returns
+    (search needs)
+    loop-holds
+    (omega arith)
+    (omega arith)
+    (omega arith)
+    (omega arith)
+    (omega arith)
+    loop-again
+    returns-2
+    returns-3)

@@ -1,0 +1,2 @@
+pub mod Routers
+pub mod Fairness

@@ -1,0 +1,77 @@
+-- Document 01, "Routers" and "Settings": what the calls of the router list give.
+use Prim.Native.Nat.{ℕ}
+use mathlib.Core.List.{List, [], _∷_, map}
+use mathlib.Core.Bool.{Bool, true, false, cond, not, _&&_, _||_}
+use lib.ListN.{take}
+use lib.Dec.{ltb, leb, eqb}
+use Rattle.routers.specs.declared.Router.{Router}
+use Rattle.routers.specs.declared.RouterList.{RouterList}
+use Rattle.routers.specs.declared.Next.{Next}
+use Rattle.routers.specs.declared.Next.the-variants.{Due, NoneDue}
+
+-- "Settings": the routers of a list are the first `count` of its places, all 16 if `count` is larger
+abbrev pub live : RouterList → List Router
+live l = take (l .count) (l .routers)
+
+-- some element passes the test
+unfoldable pub any : {A : Type 0} → (A → Bool) → List A → Bool
+any p [] = false
+any p (x ∷ xs) = p x || any p xs
+
+-- "Receiving": a listed router is one whose address is in the list
+abbrev pub listed : ℕ → List Router → Bool
+listed a rs = any (λ r. eqb (r .address) a) rs
+
+-- "Routers": of two routers the one with the earlier due time, the first on a tie
+unfoldable pub earlier : Router → Router → Router
+earlier r s = cond (ltb (s .due) (r .due)) s r
+
+-- "Routers": the router with the earliest due time, lowest place on a tie, of a list that begins with r
+unfoldable pub earliest : Router → List Router → Router
+earliest r [] = r
+earliest r (s ∷ rs) = earliest (earlier r s) rs
+
+-- "Routers": a router is asked if its due time is not in the future
+abbrev pub ifDue : ℕ → Router → Next
+ifDue now r = cond (leb (r .due) now) (Due (r .address)) NoneDue
+
+-- "Routers": the router with the earliest due time that is not in the future, lowest place on a tie
+unfoldable pub nextOf : ℕ → List Router → Next
+nextOf now [] = NoneDue
+nextOf now (r ∷ rs) = ifDue now (earliest r rs)
+
+-- the due time of the router of that address, and `other` if it is not listed
+unfoldable pub dueOr : ℕ → ℕ → List Router → ℕ
+dueOr other a [] = other
+dueOr other a (r ∷ rs) = cond (eqb (r .address) a) (r .due) (dueOr other a rs)
+
+-- a router, due at d if it has the address a
+unfoldable pub dueIf : ℕ → ℕ → Router → Router
+dueIf a d r = record { address = r .address; due = cond (eqb (r .address) a) d (r .due) }
+
+-- "Routers": the due time of the router of address a becomes d
+abbrev pub rescheduled : ℕ → ℕ → List Router → List Router
+rescheduled a d rs = map (dueIf a d) rs
+
+abbrev pub rescheduledOf : ℕ → ℕ → RouterList → RouterList
+rescheduledOf a d l = record { routers = rescheduled a d (l .routers); count = l .count }
+
+-- "Settings": a router in both lists keeps its due time, a new one is due now
+abbrev pub kept : ℕ → List Router → ℕ → Router
+kept now old a = record { address = a; due = dueOr now a old }
+
+abbrev pub replacedOf : List ℕ → ℕ → ℕ → RouterList → RouterList
+replacedOf addresses n now l = record { routers = map (kept now (live l)) addresses; count = n }
+
+-- "Settings": at setup all are due at time 0
+abbrev pub newOf : List ℕ → ℕ → RouterList
+newOf addresses n = record { routers = map (λ a. record { address = a; due = 0 }) addresses; count = n }
+
+-- the address is among the addresses
+abbrev pub among : ℕ → List ℕ → Bool
+among a bs = any (λ b. eqb b a) bs
+
+-- "Settings": routers are distinct
+unfoldable pub areDistinct : List ℕ → Bool
+areDistinct [] = true
+areDistinct (a ∷ bs) = not (among a bs) && areDistinct bs
