@@ -3,7 +3,7 @@
 ghost use mathlib.Core.Path.{_≡_};
 ghost use Prim.Native.Nat.{_≤_};
 ghost use lib.ListN.{length, take, drop};
-ghost use Rattle.routers.specs.Routers.{live, listed, earlier, nextOf, dueOr, dueIf, rescheduledOf, replacedOf, newOf, among, areDistinct};
+ghost use Rattle.routers.specs.Routers.{live, listed, earlier, ifDue, nextOf, dueOr, dueIf, rescheduledOf, replacedOf, newOf, among, areDistinct};
 
 // How many routers a list has room for.
 pub const PLACES: usize = 16;
@@ -26,6 +26,17 @@ pub enum Next {
 }
 
 impl Router {
+    // The router, if its due time is not in the future.
+    fn if_due(self, now: u32) -> Next
+        ensures { λ r. ⌜ r ≡ ifDue now self ⌝ }
+    {
+        if self.due <= now as u64 {
+            Next::Due(self.address)
+        } else {
+            Next::NoneDue
+        }
+    }
+
     // The same router, due at `due` if it has that address.
     fn rescheduled(self, address: u32, due: u64) -> Self
         ensures { λ r. ⌜ r ≡ dueIf address due self ⌝ }
@@ -98,11 +109,7 @@ impl RouterList {
             best = earlier(best, self.routers[i]);
             i += 1;
         }
-        if best.due <= now as u64 {
-            Next::Due(best.address)
-        } else {
-            Next::NoneDue
-        }
+        best.if_due(now)
     }
 
     // The due time of the router of that address, and `other` if it is not listed.

@@ -1,10 +1,9 @@
 -- `routers::RouterList::next`: the earliest of the list is the earliest of the best so far and those from i on.
 -- Assumes nothing.
 use borrow.Author.Needs.{needs}
-use borrow.Author.Tests.{le-leb, lt-leb}
 use native.Mathlib.Omega.{arith}
 use Prim.Native.Nat.{_-_, _≤_}
-use mathlib.Core.Path.{_≡_, _∙_}
+use mathlib.Core.Path.{_≡_, sym, _∙_}
 use lib.ListN.{drop}
 use Rattle.routers.specs.Routers.{live, nextOf, earliest, ifDue}
 use Rattle.routers.proofs.Laws.{noRouter, rest, past, earliest-step}
@@ -35,20 +34,12 @@ loop-again c =
     let a = b .before .before .before .before .args in
     (omega arith, b .loop .inv .1 ∙ rw (earliest-step (a .t1 .count) (b .loop .i) (a .t1 .routers) (omega arith) (b .loop .best), c .earlier .ensures))
 
--- past the last router the best is the earliest
-best : (c : tie.After-struct-known Inv-loop μ-loop)
-    → let b = c .before .before in let a = b .before .before .before .before .args in nextOf (a .now) (live (a .t1)) ≡ ifDue (a .now) (b .loop .best)
+returns-2 : tie.Need-returns-2 Inv-loop μ-loop
 unfolding earliest
-best c =
+returns-2 c =
     let b = c .before .before in
     let l = b .before .before .before .before .args .t1 in
-    b .loop .inv .1 ∙ rw (past (l .count) (b .loop .i) (l .routers) (omega arith))
-
-returns-2 : tie.Need-returns-2 Inv-loop μ-loop
-returns-2 c = rw (best (c .before), le-leb _ _ (c .if2 .taken))
-
-returns-3 : tie.Need-returns-3 Inv-loop μ-loop
-returns-3 c = rw (best (c .before), lt-leb _ _ (c .if2 .left))
+    sym (b .loop .inv .1 ∙ rw (past (l .count) (b .loop .i) (l .routers) (omega arith), c .if-due .ensures))
 
 pub next-spec : {M : Type 1} → statement M
 next-spec =
@@ -66,5 +57,5 @@ next-spec =
     (omega arith)
     (omega arith)
     loop-again
-    returns-2
-    returns-3)
+    (omega arith)
+    returns-2)

@@ -1,0 +1,92 @@
+-- The cycle of calls {walk}. The measure is the count of the bytes that are left.
+-- Assumes nothing.
+use borrow.Author.Needs.{needs}
+use denote.Ref.{now}
+use native.Mathlib.Omega.{arith}
+use mathlib.Core.Path.{sym, _∙_}
+use Prim.Native.Nat.{ℕ, _<_}
+use lib.ListN.{length}
+use borrow.Fn.Kinds.{In}
+use borrow.Fn.PlainCycle.{Measures, is, falls, and}
+use Rattle.lifetimes.proofs.Sizes.{size-fits, size-least}
+use Rattle.lifetimes.proofs.Steps.{walk-end, walk-bad, walk-on, part}
+use Rattle.lifetimes.proofs.walk.Reads as walk
+use Rattle.lifetimes.proofs.walk.Kinds as walk-kinds
+use Rattle.lifetimes.proofs.+walk.Lts-walk as walk-lts
+use Rattle.lifetimes.proofs.option_lifetime.Reads as option-lifetime-reads
+use Rattle.lifetimes.proofs.option_size.Reads as option-size-reads
+use Rattle.lifetimes.proofs.shorter.Reads as shorter-reads
+use Rattle.lifetimes.proofs.+walk.{statement}
+use Rattle.lifetimes.proofs.+walk.Tie.{close}
+
+abbrev μ-walk : Measures 1 walk-kinds.ps ℕ
+μ-walk κs a = length (a .0 .now)
+
+abbrev walk-at : ℕ → In 1 walk-kinds.ps
+walk-at t = and 1 walk-kinds.ps (is 1 walk-kinds.ps μ-walk t) walk.Pre
+
+abbrev walk-below : ℕ → In 1 walk-kinds.ps
+walk-below t = and 1 walk-kinds.ps (falls 1 walk-kinds.ps _<_ μ-walk t) walk.Pre
+
+-- what the calls ask and give
+abbrev known : ℕ → walk-lts.Claims
+known t = (
+  option-size-reads.Asked,
+  option-size-reads.Learnt,
+  option-lifetime-reads.Asked,
+  option-lifetime-reads.Learnt,
+  shorter-reads.Asked,
+  shorter-reads.Learnt,
+  walk-below t,
+  walk.Post,
+)
+
+returns : (t : ℕ) → walk-lts.Need-returns (known t) (walk-at t) walk.Post
+returns t c =
+    let a = c .before .before .args in
+    walk-end (now (a .rest)) (a .smallest) (c .if1 .taken)
+
+returns-2 : (t : ℕ) → walk-lts.Need-returns-2 (known t) (walk-at t) walk.Post
+returns-2 t c =
+    let b = c .before in
+    let a = b .before .before .before .args in
+    walk-bad (now (a .rest)) (a .smallest) (b .before .if1 .left) (sym (b .option-size .ensures) ∙ c .if2 .taken)
+
+-- the first option lies within the bytes, and is at least 8 bytes long
+first : (t : ℕ) → walk-lts.Need-option-lifetime-requires (known t) (walk-at t) walk.Post
+first t c κs =
+    let bs = now (c .before .before .before .before .args .rest) in
+    let e = c .before .option-size .ensures in
+    omega (arith, e, size-fits bs, size-least bs (λ z. c .if2 .left (e ∙ z)))
+
+fits : (t : ℕ) → walk-lts.Need-sub-walk (known t) (walk-at t) walk.Post
+fits t c =
+    let b = c .before .before .before in
+    omega (arith, b .option-size .ensures, size-fits (now (b .before .before .before .args .rest)))
+
+starts : (t : ℕ) → walk-lts.Need-part-walk-start (known t) (walk-at t) walk.Post
+starts t c =
+    let b = c .before .before .before in
+    omega (arith, b .option-size .ensures, size-fits (now (b .before .before .before .args .rest)))
+
+returns-3 : (t : ℕ) → walk-lts.Need-returns-3 (known t) (walk-at t) walk.Post
+returns-3 t c =
+    let b = c .before .before .before .before in
+    let e = b .before .option-size .ensures in
+    let a = b .before .before .before .before .args in
+    c .walk .ensures
+    ∙ rw (part (now (a .rest)) _, c .before .before .shorter .ensures, c .before .before .before .option-lifetime .ensures, e)
+    (walk-on (now (a .rest)) (λ z. b .if2 .left (e ∙ z)) (a .smallest))
+
+pub +walk-spec : {M : Type 1} → statement M
++walk-spec = close μ-walk λ t. walk-lts.spec (known t) (walk-at t) walk.Post
+    (returns t)
+    (omega arith)
+    (returns-2 t)
+    (first t)
+    (omega arith)
+    (fits t)
+    (starts t)
+    (search needs)
+    (search needs)
+    (returns-3 t)

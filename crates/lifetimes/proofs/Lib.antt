@@ -1,0 +1,3 @@
+-- What the proofs of several functions use, and the laws that callers cite.
+pub mod Sizes
+pub mod Steps

@@ -1,0 +1,99 @@
+-- The walk over the options, an option at a time.
+-- Assumes nothing.
+use mathlib.Core.Path.{_≡_, refl, sym, ap, _∙_}
+use mathlib.Core.List.{List, [], _∷_, _++_, map, flatten, append-nil}
+use mathlib.Core.Bool.{Bool, true, false, cond}
+use Prim.Native.Nat.{ℕ, _+_, _-_, _≤_, min}
+use native.Mathlib.Decide.{ℕ-discrete}
+use native.Mathlib.Omega.{arith}
+use lib.ListN.{length, take, drop, length-append, length-take, length-drop}
+use lib.Seq.{take-all, getD-take}
+use lib.Dec.{eqb}
+use borrow.Author.Tests.{eq-eqb, ne-eqb}
+use Rattle.lifetimes.specs.declared.Smallest.{Smallest}
+use Rattle.lifetimes.specs.declared.Smallest.the-variants.{Seconds, NoneCounts}
+use Rattle.lifetimes.specs.declared.Options.{Options}
+use Rattle.lifetimes.specs.Options.{sizeAt, optionsFrom, optionsOf, areOptionsWhole}
+use Rattle.lifetimes.specs.Lifetimes.{lifetimeOf, counts, counted, least, smallestOf, soFar, shorter, walkOf}
+use Rattle.lifetimes.proofs.Sizes.{size-fits, size-least, options-none, options-cons}
+
+pub so-far : (s : Smallest) → smallestOf (soFar s) ≡ s
+unfolding least
+so-far (Seconds s) = refl
+so-far NoneCounts = refl
+
+-- one lifetime more, by whether it counts
+pub shorter-kept : (s : Smallest) (l : ℕ) → counts l ≡ false → s ≡ shorter s l
+unfolding shorter counted
+shorter-kept s l e = sym (so-far s) ∙ cc (append-nil (soFar s))
+
+pub shorter-first : (l : ℕ) → counts l ≡ true → Seconds l ≡ shorter NoneCounts l
+unfolding shorter counted least
+shorter-first l e = cc
+
+pub shorter-more : (s l : ℕ) → counts l ≡ true → Seconds (min s l) ≡ shorter (Seconds s) l
+unfolding shorter counted least
+shorter-more s l e = cc
+
+-- a lifetime that goes into the smallest so far is one of the lifetimes
+pub shorter-counted : (s : Smallest) (l : ℕ) (ls : List ℕ) → smallestOf (soFar (shorter s l) ++ counted ls) ≡ smallestOf (soFar s ++ counted (l ∷ ls))
+unfolding shorter counted least
+shorter-counted s l ls = go s (counts l)
+  where
+    go : (s : Smallest) (t : Bool)
+        → smallestOf (soFar (smallestOf (soFar s ++ cond t (l ∷ []) [])) ++ counted ls) ≡ smallestOf (soFar s ++ cond t (l ∷ counted ls) (counted ls))
+    go (Seconds s) true = refl
+    go (Seconds s) false = refl
+    go NoneCounts true = refl
+    go NoneCounts false = refl
+
+eqb-add : (n x y : ℕ) → eqb (n + x) (n + y) ≡ eqb x y
+eqb-add n x y = go (ℕ-discrete x y)
+  where
+    go : Dec (x ≡ y) → eqb (n + x) (n + y) ≡ eqb x y
+    go (yes e) = rw (eq-eqb x y e, eq-eqb (n + x) (n + y) (ap (λ (k : ℕ). n + k) e))
+    go (no ne) = rw (ne-eqb x y ne, ne-eqb (n + x) (n + y) (λ e. ne (omega arith)))
+
+-- the lifetime of an option is that of the bytes that it begins
+lifetime-first : (n : ℕ) (bs : List ℕ) → 8 ≤ n → lifetimeOf (take n bs) ≡ lifetimeOf bs
+unfolding lifetimeOf
+lifetime-first n bs h =
+    rw (
+      getD-take n bs 0 0 (omega arith),
+      getD-take n bs 1 0 (omega arith),
+      getD-take n bs 4 0 (omega arith),
+      getD-take n bs 5 0 (omega arith),
+      getD-take n bs 6 0 (omega arith),
+      getD-take n bs 7 0 (omega arith),
+    )
+
+pub walk-end : (bs : List ℕ) (s : Smallest) → length bs ≡ 0 → _≡_ {A = Options} (record { whole = true; smallest = s }) (walkOf bs s)
+unfolding areOptionsWhole optionsFrom flatten counted
+walk-end [] s h = rw (append-nil, so-far s)
+walk-end (b ∷ bs) s h = absurd (omega arith)
+
+-- an option that has length 0 or runs past the end
+pub walk-bad : (bs : List ℕ) (s : Smallest) → (length bs ≡ 0 → ⊥) → sizeAt bs ≡ 0
+    → _≡_ {A = Options} (record { whole = false; smallest = s }) (walkOf bs s)
+unfolding areOptionsWhole flatten counted
+walk-bad bs s h e = rw (options-none bs e, append-nil, so-far s, ne-eqb 0 (length bs) (λ z. h (sym z)))
+
+module _ (bs : List ℕ) (good : sizeAt bs ≡ 0 → ⊥) where
+  whole-on : areOptionsWhole bs ≡ areOptionsWhole (drop (sizeAt bs) bs)
+  unfolding areOptionsWhole flatten
+  whole-on =
+      let n = sizeAt bs in
+      let rest = drop n bs in
+      let all : length bs ≡ n + length rest = omega (arith, size-fits bs, length-drop n bs) in
+      let option : length (take n bs) ≡ n = omega (arith, size-fits bs, length-take n bs) in
+      rw (options-cons bs good, length-append, option, all, eqb-add)
+
+  -- the options after a good one
+  pub walk-on : (s : Smallest) → walkOf (drop (sizeAt bs) bs) (shorter s (lifetimeOf bs)) ≡ walkOf bs s
+  walk-on s =
+      rw (whole-on, options-cons bs good, lifetime-first (sizeAt bs) bs (size-least bs good))
+      (rw (shorter-counted s (lifetimeOf bs) (map lifetimeOf (optionsOf (drop (sizeAt bs) bs)))))
+
+-- the part of a slice that starts at n
+pub part : (bs : List ℕ) (n : ℕ) → take (length bs - n) (drop n bs) ≡ drop n bs
+part bs n = take-all (length bs - n) (drop n bs) (omega (arith, length-drop n bs))

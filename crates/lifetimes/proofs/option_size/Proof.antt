@@ -1,0 +1,28 @@
+-- `lifetimes::option_size`: by its tests.
+-- Assumes nothing.
+use borrow.Author.Tests.{le-leb, lt-leb}
+use native.Mathlib.Omega.{arith}
+use Rattle.lifetimes.specs.Options.{sizeAt}
+use Rattle.lifetimes.proofs.Sizes.{size-short}
+use Rattle.lifetimes.proofs.option_size.Statement.{statement}
+use Rattle.lifetimes.proofs.option_size.Tie as tie
+
+returns : tie.Need-returns
+returns c = size-short _ (c .if1 .taken)
+
+cast-size : tie.Need-cast-size
+cast-size c = omega (arith, c .shared-slice-known .given 1)
+
+mul-size : tie.Need-mul-size
+mul-size c = omega (arith, c .shared-slice-known .given 1)
+
+returns-2 : tie.Need-returns-2
+unfolding sizeAt
+returns-2 c = rw (le-leb _ _ (c .if2 .taken))
+
+returns-3 : tie.Need-returns-3
+unfolding sizeAt
+returns-3 c = rw (lt-leb _ _ (c .if2 .left))
+
+pub option-size-spec : {M : Type 1} → statement M
+option-size-spec = tie.close (tie.spec returns (omega arith) cast-size mul-size returns-2 returns-3)

@@ -1,0 +1,13 @@
+-- `lifetimes::options_whole`: what the walk finds.
+-- Assumes nothing.
+use mathlib.Core.Path.{ap}
+use borrow.Author.Needs.{needs}
+use Rattle.lifetimes.specs.declared.Options.{Options}
+use Rattle.lifetimes.proofs.options_whole.Statement.{statement}
+use Rattle.lifetimes.proofs.options_whole.Tie as tie
+
+returns : tie.Need-returns
+returns c = ap (λ (o : Options). o .whole) (c .walk .ensures)
+
+pub options-whole-spec : {M : Type 1} → statement M
+options-whole-spec = tie.close (tie.spec (search needs) returns)

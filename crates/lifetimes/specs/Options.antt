@@ -1,0 +1,30 @@
+-- RFC 4861, 4.6, and document 01, "Routers": the options of a neighbour discovery message.
+use Prim.Native.Nat.{ℕ, zero, suc, _*_, pred}
+use mathlib.Core.List.{List, [], _∷_, flatten}
+use mathlib.Core.Bool.{Bool, cond}
+use lib.ListN.{getD, length, take}
+use lib.Dec.{leb, eqb}
+
+-- RFC 4861, 4.6: an option's length, its second byte, counts units of 8 bytes
+abbrev pub unitBytes : ℕ
+unitBytes = 8
+
+-- the bytes that the first option takes, and 0 if it has length 0 or runs past the end
+unfoldable pub sizeAt : List ℕ → ℕ
+sizeAt bs = cond (leb (getD bs 1 0 * unitBytes) (length bs)) (getD bs 1 0 * unitBytes) 0
+
+-- the options one after another, up to the end or to the first that has length 0 or runs past the end; k bytes of the option before are
+-- still to be passed
+unfoldable pub optionsFrom : ℕ → List ℕ → List (List ℕ)
+optionsFrom k [] = []
+optionsFrom (suc k) (b ∷ bs) = optionsFrom k bs
+optionsFrom zero (b ∷ bs) =
+    let size = sizeAt (b ∷ bs) in
+    cond (eqb size 0) [] (take size (b ∷ bs) ∷ optionsFrom (pred size) bs)
+
+abbrev pub optionsOf : List ℕ → List (List ℕ)
+optionsOf bs = optionsFrom 0 bs
+
+-- document 01, "Routers": options walked one after another to the exact end, none of length 0
+unfoldable pub areOptionsWhole : List ℕ → Bool
+areOptionsWhole bs = eqb (length (flatten (optionsOf bs))) (length bs)

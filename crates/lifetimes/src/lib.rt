@@ -1,0 +1,160 @@
+// A router advertisement's options: whether they are whole, the smallest lifetime that counts, and when the router is due again.
+// Any bytes and any numbers are taken.
+ghost use mathlib.Core.Path.{_≡_};
+ghost use Prim.Native.Nat.{_≤_, max, min};
+ghost use lib.ListN.{length};
+ghost use Rattle.lifetimes.specs.Options.{sizeAt, areOptionsWhole};
+ghost use Rattle.lifetimes.specs.Lifetimes.{word, hasLifetime, lifetimeOf, counts, shorter, walkOf, optionsReadOf, delayOf, dueAfter};
+
+// An option's length counts units of 8 bytes (RFC 4861, 4.6).
+const UNIT: usize = 8;
+
+// A prefix option: its type and its length (RFC 4861, 4.6.2).
+const PREFIX: u8 = 3;
+
+const PREFIX_UNITS: u8 = 4;
+
+// A route option: its type and its greatest length (RFC 4191, 2.3).
+const ROUTE: u8 = 24;
+
+const ROUTE_UNITS: u8 = 3;
+
+// A lifetime without end, which does not count.
+const INFINITE: u32 = 0xffff_ffff;
+
+// How many seconds a router is not asked again if no lifetime counts.
+const LONGEST: u32 = 3600;
+
+// The smallest of the lifetimes that count.
+pub enum Smallest {
+    Seconds(u32),
+    NoneCounts,
+}
+
+// What the options say: whether they are walked to the exact end, none of length 0, and the smallest lifetime up to there.
+pub struct Options {
+    pub whole: bool,
+    pub smallest: Smallest,
+}
+
+fn big_endian(a: u8, b: u8, c: u8, d: u8) -> u32
+    ensures { λ r. ⌜ r ≡ word a b c d ⌝ }
+{
+    (a as u32) * 16777216 + (b as u32) * 65536 + (c as u32) * 256 + (d as u32)
+}
+
+// Whether an option of this type and length has a lifetime.
+fn has_lifetime(kind: u8, units: u8) -> bool
+    ensures { λ r. ⌜ r ≡ hasLifetime kind units ⌝ }
+{
+    ((kind == PREFIX) & (units == PREFIX_UNITS))
+        | ((kind == ROUTE) & (1 <= units) & (units <= ROUTE_UNITS))
+}
+
+// The bytes that the first option takes, and 0 if it has length 0 or runs past the end.
+fn option_size(rest: &[u8]) -> usize
+    ensures { λ r. ⌜ r ≡ sizeAt (now (rest .entry)) ⌝ }
+{
+    if rest.len() < 2 {
+        return 0;
+    }
+    let size = (rest[1] as usize) * UNIT;
+    if size <= rest.len() { size } else { 0 }
+}
+
+// The lifetime of the first option, 0 if it has none.
+fn option_lifetime(rest: &[u8]) -> u32
+    requires { ⌜ 8 ≤ length (now rest) ⌝ }
+    ensures { λ r. ⌜ r ≡ lifetimeOf (now (rest .entry)) ⌝ }
+{
+    if has_lifetime(rest[0], rest[1]) {
+        big_endian(rest[4], rest[5], rest[6], rest[7])
+    } else {
+        0
+    }
+}
+
+fn counts(lifetime: u32) -> bool
+    ensures { λ r. ⌜ r ≡ counts lifetime ⌝ }
+{
+    (0 < lifetime) & (lifetime < INFINITE)
+}
+
+fn smaller(a: u32, b: u32) -> u32
+    ensures { λ r. ⌜ r ≡ min a b ⌝ }
+{
+    if a < b { a } else { b }
+}
+
+fn larger(a: u32, b: u32) -> u32
+    ensures { λ r. ⌜ r ≡ max a b ⌝ }
+{
+    if a < b { b } else { a }
+}
+
+// The smallest lifetime once another one is known.
+fn shorter(smallest: Smallest, lifetime: u32) -> Smallest
+    ensures { λ r. ⌜ r ≡ shorter smallest lifetime ⌝ }
+{
+    if counts(lifetime) {
+        match smallest {
+            Smallest::Seconds(seconds) => Smallest::Seconds(smaller(seconds, lifetime)),
+            Smallest::NoneCounts => Smallest::Seconds(lifetime),
+        }
+    } else {
+        smallest
+    }
+}
+
+// The options in the rest of the message, to its exact end: a call for each option.
+fn walk(rest: &[u8], smallest: Smallest) -> Options
+    ensures { λ r. ⌜ r ≡ walkOf (now (rest .entry)) smallest ⌝ }
+{
+    if rest.len() == 0 {
+        return Options {
+            whole: true,
+            smallest,
+        };
+    }
+    let size = option_size(rest);
+    if size == 0 {
+        return Options {
+            whole: false,
+            smallest,
+        };
+    }
+    let next = shorter(smallest, option_lifetime(rest));
+    walk(&rest[size..], next)
+}
+
+// Whether the options are walked one after another to the exact end, none of length 0.
+pub fn options_whole(options: &[u8]) -> bool
+    ensures { λ r. ⌜ r ≡ areOptionsWhole (now (options .entry)) ⌝ }
+{
+    let read = walk(options, Smallest::NoneCounts);
+    read.whole
+}
+
+// The same, with the smallest of the router's own lifetime and those of the options.
+pub fn options_read(router: u16, options: &[u8]) -> Options
+    ensures { λ r. ⌜ r ≡ optionsReadOf router (now (options .entry)) ⌝ }
+{
+    walk(options, shorter(Smallest::NoneCounts, router as u32))
+}
+
+// For how many seconds the router is not asked again.
+fn delay(interval: u16, smallest: Smallest) -> u32
+    ensures { λ r. ⌜ r ≡ delayOf interval smallest ⌝ }
+{
+    match smallest {
+        Smallest::Seconds(seconds) => larger(interval as u32, seconds / 2),
+        Smallest::NoneCounts => LONGEST,
+    }
+}
+
+// When the router is due again.
+pub fn due_after(now: u32, interval: u16, smallest: Smallest) -> u64
+    ensures { λ r. ⌜ r ≡ dueAfter now interval smallest ⌝ }
+{
+    now as u64 + delay(interval, smallest) as u64
+}
