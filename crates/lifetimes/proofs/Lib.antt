@@ -1,3 +1,5 @@
 -- What the proofs of several functions use, and the laws that callers cite.
 pub mod Sizes
 pub mod Steps
+pub mod Whole
+pub mod PutOff

@@ -11,7 +11,7 @@ use lib.Dec.{leb}
 use borrow.Author.Tests.{eq-eqb, ne-eqb, leb-true}
 use Rattle.lifetimes.specs.Options.{unitBytes, sizeAt, optionsFrom, optionsOf}
 
--- an option is within the bytes, and at least 8 bytes long
+-- an option is within the bytes
 pub size-fits : (bs : List ℕ) → sizeAt bs ≤ length bs
 unfolding sizeAt
 size-fits bs = go (leb (getD bs 1 0 * unitBytes) (length bs)) refl
@@ -20,13 +20,17 @@ size-fits bs = go (leb (getD bs 1 0 * unitBytes) (length bs)) refl
     go true e = leb-true _ _ e
     go false e = omega arith
 
-pub size-least : (bs : List ℕ) → (sizeAt bs ≡ 0 → ⊥) → 8 ≤ sizeAt bs
+-- an option that is not 0 bytes long is as long as its length says
+pub size-units : (bs : List ℕ) → (sizeAt bs ≡ 0 → ⊥) → sizeAt bs ≡ getD bs 1 0 * unitBytes
 unfolding sizeAt
-size-least bs = go (leb (getD bs 1 0 * unitBytes) (length bs))
+size-units bs = go (leb (getD bs 1 0 * unitBytes) (length bs))
   where
-    go : (t : Bool) → (cond t (getD bs 1 0 * unitBytes) 0 ≡ 0 → ⊥) → 8 ≤ cond t (getD bs 1 0 * unitBytes) 0
-    go true h = omega arith
+    go : (t : Bool) → (cond t (getD bs 1 0 * unitBytes) 0 ≡ 0 → ⊥) → cond t (getD bs 1 0 * unitBytes) 0 ≡ getD bs 1 0 * unitBytes
+    go true h = refl
     go false h = absurd (h refl)
+
+pub size-least : (bs : List ℕ) → (sizeAt bs ≡ 0 → ⊥) → unitBytes ≤ sizeAt bs
+size-least bs h = omega (arith, h, size-units bs h)
 
 -- an option that has no length byte
 pub size-short : (bs : List ℕ) → length bs < 2 → 0 ≡ sizeAt bs

@@ -14,7 +14,8 @@ use Rattle.lifetimes.specs.declared.Smallest.{Smallest}
 use Rattle.lifetimes.specs.declared.Smallest.the-variants.{Seconds, NoneCounts}
 use Rattle.lifetimes.specs.declared.Options.{Options}
 use Rattle.lifetimes.specs.Options.{sizeAt, optionsFrom, optionsOf, areOptionsWhole}
-use Rattle.lifetimes.specs.Lifetimes.{lifetimeOf, counts, counted, least, smallestOf, soFar, shorter, walkOf}
+use Rattle.lifetimes.specs.Lifetimes.{lifetimeOf, counts, counted, least, smallestOf}
+use Rattle.lifetimes.specs.SoFar.{soFar, shorter, walkOf}
 use Rattle.lifetimes.proofs.Sizes.{size-fits, size-least, options-none, options-cons}
 
 pub so-far : (s : Smallest) → smallestOf (soFar s) ≡ s

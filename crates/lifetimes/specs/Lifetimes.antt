@@ -1,6 +1,6 @@
 -- Document 01, "Routers": the lifetimes of a router advertisement, and when its router is due again.
 use Prim.Native.Nat.{ℕ, _+_, _*_, _/_, min, max}
-use mathlib.Core.List.{List, [], _∷_, _++_, map}
+use mathlib.Core.List.{List, [], _∷_, map}
 use mathlib.Core.Bool.{Bool, cond, _&&_, _||_}
 use lib.ListN.{getD}
 use lib.Dec.{ltb, leb, eqb}
@@ -13,22 +13,30 @@ use Rattle.lifetimes.specs.Options.{optionsOf, areOptionsWhole}
 abbrev pub word : ℕ → ℕ → ℕ → ℕ → ℕ
 word a b c d = a * 16777216 + b * 65536 + c * 256 + d
 
--- "Routers": prefix options are of type 3 and length 4, route options of type 24 and length 1 to 3
-abbrev pub hasLifetime : ℕ → ℕ → Bool
-hasLifetime kind units = eqb kind 3 && eqb units 4 || eqb kind 24 && leb 1 units && leb units 3
+-- "Routers": prefix options (type 3, length 4)
+abbrev pub isPrefix : ℕ → ℕ → Bool
+isPrefix kind units = eqb kind 3 && eqb units 4
+
+-- "Routers": route options (type 24, length 1 to 3)
+abbrev pub isRoute : ℕ → ℕ → Bool
+isRoute kind units = eqb kind 24 && leb 1 units && leb units 3
 
 -- RFC 4861, 4.6.2, and RFC 4191, 2.3: the valid lifetime of a prefix option and the route lifetime of a route option are its bytes 4 to 7;
 -- zero, which does not count, for any other option
 unfoldable pub lifetimeOf : List ℕ → ℕ
-lifetimeOf o = cond (hasLifetime (getD o 0 0) (getD o 1 0)) (word (getD o 4 0) (getD o 5 0) (getD o 6 0) (getD o 7 0)) 0
+lifetimeOf o = cond (isPrefix (getD o 0 0) (getD o 1 0) || isRoute (getD o 0 0) (getD o 1 0)) (word (getD o 4 0) (getD o 5 0) (getD o 6 0) (getD o 7 0)) 0
 
 -- "Routers": the router's lifetime and those of the options
 abbrev pub lifetimesOf : ℕ → List ℕ → List ℕ
 lifetimesOf router bs = router ∷ map lifetimeOf (optionsOf bs)
 
+-- a lifetime without end (RFC 4861, 4.6.2, and RFC 4191, 2.3: all one bits)
+abbrev pub infinite : ℕ
+infinite = 0xffff_ffff
+
 -- "Routers": zero and 0xffffffff don't count
 abbrev pub counts : ℕ → Bool
-counts l = ltb 0 l && ltb l 0xffff_ffff
+counts l = ltb 0 l && ltb l infinite
 
 unfoldable pub counted : List ℕ → List ℕ
 counted [] = []
@@ -47,24 +55,15 @@ smallestOf (l ∷ ls) = Seconds (least l ls)
 abbrev pub optionsReadOf : ℕ → List ℕ → Options
 optionsReadOf router bs = record { whole = areOptionsWhole bs; smallest = smallestOf (counted (lifetimesOf router bs)) }
 
+-- "Routers": 3,600 if none counts
+abbrev pub withoutLifetime : ℕ
+withoutLifetime = 3600
+
 -- "Routers": the larger of the interval and half the smallest lifetime, rounded down; 3,600 if none counts
 unfoldable pub delayOf : ℕ → Smallest → ℕ
 delayOf interval (Seconds s) = max interval (s / 2)
-delayOf interval NoneCounts = 3600
+delayOf interval NoneCounts = withoutLifetime
 
 -- "Routers": due becomes now + that
 abbrev pub dueAfter : ℕ → ℕ → Smallest → ℕ
 dueAfter now interval smallest = now + delayOf interval smallest
-
--- a smallest lifetime as a list
-abbrev pub soFar : Smallest → List ℕ
-soFar (Seconds s) = s ∷ []
-soFar NoneCounts = []
-
--- the smallest of the lifetimes so far and one more
-unfoldable pub shorter : Smallest → ℕ → Smallest
-shorter smallest l = smallestOf (soFar smallest ++ counted (l ∷ []))
-
--- what a walk finds, with the smallest of the lifetimes so far
-abbrev pub walkOf : List ℕ → Smallest → Options
-walkOf bs smallest = record { whole = areOptionsWhole bs; smallest = smallestOf (soFar smallest ++ counted (map lifetimeOf (optionsOf bs))) }

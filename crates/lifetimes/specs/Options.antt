@@ -1,5 +1,6 @@
 -- RFC 4861, 4.6, and document 01, "Routers": the options of a neighbour discovery message.
-use Prim.Native.Nat.{ℕ, zero, suc, _*_, pred}
+use Prim.Native.Nat.{ℕ, zero, suc, _*_, _<_, pred}
+use mathlib.Core.Path.{_≡_}
 use mathlib.Core.List.{List, [], _∷_, flatten}
 use mathlib.Core.Bool.{Bool, cond}
 use lib.ListN.{getD, length, take}
@@ -8,6 +9,14 @@ use lib.Dec.{leb, eqb}
 -- RFC 4861, 4.6: an option's length, its second byte, counts units of 8 bytes
 abbrev pub unitBytes : ℕ
 unitBytes = 8
+
+-- RFC 4861, 4.6: an option is as many bytes as its length says, and has no length 0
+abbrev pub IsOption : List ℕ → Type 0
+IsOption o = (0 < length o) × (length o ≡ getD o 1 0 * unitBytes)
+
+unfoldable pub AreOptions : List (List ℕ) → Type 0
+AreOptions [] = Unit {0}
+AreOptions (o ∷ os) = IsOption o × AreOptions os
 
 -- the bytes that the first option takes, and 0 if it has length 0 or runs past the end
 unfoldable pub sizeAt : List ℕ → ℕ

@@ -1,10 +1,12 @@
 // A router advertisement's options: whether they are whole, the smallest lifetime that counts, and when the router is due again.
 // Any bytes and any numbers are taken.
 ghost use mathlib.Core.Path.{_≡_};
+ghost use mathlib.Core.Bool.{_||_};
 ghost use Prim.Native.Nat.{_≤_, max, min};
 ghost use lib.ListN.{length};
 ghost use Rattle.lifetimes.specs.Options.{sizeAt, areOptionsWhole};
-ghost use Rattle.lifetimes.specs.Lifetimes.{word, hasLifetime, lifetimeOf, counts, shorter, walkOf, optionsReadOf, delayOf, dueAfter};
+ghost use Rattle.lifetimes.specs.Lifetimes.{word, isPrefix, isRoute, lifetimeOf, counts, optionsReadOf, delayOf, dueAfter};
+ghost use Rattle.lifetimes.specs.SoFar.{shorter, walkOf};
 
 // An option's length counts units of 8 bytes (RFC 4861, 4.6).
 const UNIT: usize = 8;
@@ -23,7 +25,7 @@ const ROUTE_UNITS: u8 = 3;
 const INFINITE: u32 = 0xffff_ffff;
 
 // How many seconds a router is not asked again if no lifetime counts.
-const LONGEST: u32 = 3600;
+const WITHOUT_LIFETIME: u32 = 3600;
 
 // The smallest of the lifetimes that count.
 pub enum Smallest {
@@ -45,7 +47,7 @@ fn big_endian(a: u8, b: u8, c: u8, d: u8) -> u32
 
 // Whether an option of this type and length has a lifetime.
 fn has_lifetime(kind: u8, units: u8) -> bool
-    ensures { λ r. ⌜ r ≡ hasLifetime kind units ⌝ }
+    ensures { λ r. ⌜ r ≡ (isPrefix kind units || isRoute kind units) ⌝ }
 {
     ((kind == PREFIX) & (units == PREFIX_UNITS))
         | ((kind == ROUTE) & (1 <= units) & (units <= ROUTE_UNITS))
@@ -148,7 +150,7 @@ fn delay(interval: u16, smallest: Smallest) -> u32
 {
     match smallest {
         Smallest::Seconds(seconds) => larger(interval as u32, seconds / 2),
-        Smallest::NoneCounts => LONGEST,
+        Smallest::NoneCounts => WITHOUT_LIFETIME,
     }
 }
 

@@ -2,7 +2,10 @@
 -- Assumes nothing.
 use borrow.Author.Tests.{le-leb, lt-leb}
 use native.Mathlib.Omega.{arith}
-use Rattle.lifetimes.specs.Options.{sizeAt}
+use denote.Ref.{now}
+use Prim.Native.Nat.{_*_}
+use lib.ListN.{length, getD}
+use Rattle.lifetimes.specs.Options.{unitBytes, sizeAt}
 use Rattle.lifetimes.proofs.Sizes.{size-short}
 use Rattle.lifetimes.proofs.option_size.Statement.{statement}
 use Rattle.lifetimes.proofs.option_size.Tie as tie
@@ -18,11 +21,15 @@ mul-size c = omega (arith, c .shared-slice-known .given 1)
 
 returns-2 : tie.Need-returns-2
 unfolding sizeAt
-returns-2 c = rw (le-leb _ _ (c .if2 .taken))
+returns-2 c =
+    let bs = now (c .before .before .before .args .rest) in
+    rw (le-leb (getD bs 1 0 * unitBytes) (length bs) (c .if2 .taken))
 
 returns-3 : tie.Need-returns-3
 unfolding sizeAt
-returns-3 c = rw (lt-leb _ _ (c .if2 .left))
+returns-3 c =
+    let bs = now (c .before .before .before .args .rest) in
+    rw (lt-leb (getD bs 1 0 * unitBytes) (length bs) (c .if2 .left))
 
 pub option-size-spec : {M : Type 1} → statement M
 option-size-spec = tie.close (tie.spec returns (omega arith) cast-size mul-size returns-2 returns-3)
