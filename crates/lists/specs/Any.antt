@@ -1,11 +1,12 @@
 -- Whether some element of a list passes a test, or two elements of it are the same; and how a loop finds out. Assumes nothing.
-use Prim.Native.Nat.{ℕ, _+_, _≤_, _<_}
+use Prim.Native.Nat.{ℕ, _+_, _≤_, _<_, min}
 use mathlib.Core.Path.{_≡_, sym, ap, _∙_}
-use mathlib.Core.Bool.{Bool, false, _||_, or-assoc}
+use mathlib.Core.Bool.{Bool, false, _||_, or-assoc, or-false}
 use mathlib.Core.List.{List, [], _∷_}
 use native.Mathlib.Omega.{arith}
 use native.Mathlib.Numerals.{add-one}
 use lib.ListN.{length, getD, take, drop, length-take, drop-of-length-le}
+use Rattle.lists.specs.Parts.{take-least}
 use lib.Seq.{drop-cons, getD-take, length-take-le}
 
 module _ {A : Type 0} where
@@ -19,9 +20,17 @@ module _ {A : Type 0} where
   twice same [] = false
   twice same (x ∷ xs) = anyOf (same x) xs || twice same xs
 
-  -- where such a loop ends
+  -- behind the first n elements there is none
   pub front-end : (xs : List A) (n i : ℕ) → n ≤ i → drop i (take n xs) ≡ []
   front-end xs n i h = drop-of-length-le (take n xs) {i = i} (rw length-take (omega arith))
+
+  -- where a loop ends that asks the first `count` elements of xs from `start` on: what it found is what there is
+  pub loop-end : (f : List A → Bool) (xs : List A) (start n i count : ℕ) (found : Bool) → f [] ≡ false → n ≤ i → n ≡ min count (length xs)
+      → (found || f (drop i (take n xs))) ≡ f (drop start (take n xs)) → found ≡ f (drop start (take count xs))
+  loop-end f xs start n i count found none h e inv =
+      let done : (found || f []) ≡ f (drop start (take n xs)) = rw (front-end xs n i h) at inv in
+      let kept : (found || false) ≡ f (drop start (take n xs)) = rw none at done in
+      sym (or-false found) ∙ kept ∙ rw (e, take-least count xs)
 
   module _ (xs : List A) (n i : ℕ) (d : A) (inside : i < n) (whole : n ≤ length xs) where
     -- the first n elements from i on: the one at i, and those behind it

@@ -1,10 +1,10 @@
 -- Parts of a list whose ends lie anywhere: a count past the end is read as the length. Assumes nothing.
 use Prim.Native.Nat.{ℕ, zero, suc, _-_, min}
-use mathlib.Core.Path.{_≡_, _∙_}
-use mathlib.Core.List.{List, [], _∷_}
+use mathlib.Core.Path.{_≡_, sym, _∙_}
+use mathlib.Core.List.{List, [], _∷_, map}
 use native.Mathlib.Nat.{min-zero, zero-min, suc-min-suc}
 use native.Mathlib.Omega.{arith}
-use lib.ListN.{length, take, drop, length-drop}
+use lib.ListN.{length, take, drop, length-drop, length-map}
 use lib.Seq.{take-all}
 
 module _ {A : Type 0} where
@@ -21,3 +21,7 @@ module _ {A : Type 0} where
   -- the part of a slice from k to its end, where k is n or the end
   pub part-from : (n k : ℕ) (xs : List A) → k ≡ min n (length xs) → take (length xs - k) (drop k xs) ≡ drop n xs
   part-from n k xs h = take-all (length xs - k) (drop k xs) (omega (arith, length-drop k xs)) ∙ rw h (drop-least n xs)
+
+-- a list is as long as the list of what a function makes of its elements
+pub unmapped : {X Y : Type 0} (f : X → Y) (xs : List X) (n : ℕ) → length (map f xs) ≡ n → length xs ≡ n
+unmapped f xs n h = sym (length-map xs f) ∙ h

@@ -1,0 +1,42 @@
+-- `settings::Settings::some_locator_forbidden` meets its contract: what is left to ask is the rest of the locators. Assumes nothing.
+use borrow.Author.Needs.{needs}
+use native.Mathlib.Omega.{arith}
+use Prim.Native.Nat.{_-_}
+use mathlib.Core.Path.{_≡_, refl, _∙_}
+use mathlib.Core.Bool.{_||_}
+use lib.ListN.{take, drop, length}
+use Rattle.lists.specs.Any.{anyOf, any-turn, loop-end}
+use Rattle.lists.specs.Parts.{unmapped}
+use Rattle.settings.specs.Locators.{noLocator}
+use Rattle.settings.specs.Settings.{isForbiddenLocator}
+use Rattle.settings.proofs.Settings.some_locator_forbidden.Statement.{statement}
+use Rattle.settings.proofs.Settings.some_locator_forbidden.Tie as tie
+
+abbrev Inv-loop : tie.InvT-loop
+Inv-loop self n found₀ i₀ found i = (found || anyOf (isForbiddenLocator self) (drop i (take n (self .locators)))) ≡ anyOf (isForbiddenLocator self) (take n (self .locators))
+
+abbrev μ-loop : tie.MeasureT-loop
+μ-loop self n found₀ i₀ found i = n - i
+
+loop-holds : tie.Need-loop-holds Inv-loop μ-loop
+loop-holds c = refl
+
+loop-again : tie.Need-loop-again Inv-loop μ-loop
+loop-again c =
+    let l = c .before .before .before in
+    let a = l .before .before .args in
+    let full : length (a .t1 .locators) ≡ 8 = search unmapped in
+    rw (c .forbidden-to .ensures) (any-turn (a .t1 .locators) (l .before .least .result) (l .loop .i) noLocator (omega arith) (omega arith) (isForbiddenLocator (a .t1)) (l .loop .found) ∙ l .loop .inv)
+
+returns : tie.Need-returns Inv-loop μ-loop
+returns c =
+    let l = c .before in
+    let a = l .before .before .args in
+    let full : length (a .t1 .locators) ≡ 8 = search unmapped in
+    loop-end (anyOf (isForbiddenLocator (a .t1))) (a .t1 .locators) 0 (l .before .least .result) (l .loop .i) (a .t1 .«locator_count») (l .loop .found) refl (omega arith) (omega arith) (l .loop .inv)
+
+pub some-locator-forbidden-spec : {M : Type 1} → statement M
+some-locator-forbidden-spec =
+    tie.close
+    (tie.spec Inv-loop μ-loop (search needs) loop-holds (omega arith) (omega arith) (search needs) (omega arith)
+    (omega arith) loop-again returns)

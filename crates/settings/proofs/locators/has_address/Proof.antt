@@ -1,0 +1,41 @@
+-- `settings::locators::has_address` meets its contract: what is left to ask is the rest of the locators. Assumes nothing.
+use borrow.Author.Needs.{needs}
+use native.Mathlib.Omega.{arith}
+use Prim.Native.Nat.{_-_}
+use mathlib.Core.Path.{_≡_, refl, _∙_}
+use mathlib.Core.Bool.{_||_}
+use lib.ListN.{take, drop, length}
+use Rattle.lists.specs.Any.{anyOf, any-turn, loop-end}
+use Rattle.lists.specs.Parts.{unmapped}
+use Rattle.settings.specs.Locators.{noLocator, isAt}
+use Rattle.settings.proofs.locators.has_address.Statement.{statement}
+use Rattle.settings.proofs.locators.has_address.Tie as tie
+
+abbrev Inv-loop : tie.InvT-loop
+Inv-loop count a all n found₀ i₀ found i = (found || anyOf (isAt a) (drop i (take n all))) ≡ anyOf (isAt a) (take n all)
+
+abbrev μ-loop : tie.MeasureT-loop
+μ-loop count a all n found₀ i₀ found i = n - i
+
+loop-holds : tie.Need-loop-holds Inv-loop μ-loop
+loop-holds c = refl
+
+loop-again : tie.Need-loop-again Inv-loop μ-loop
+loop-again c =
+    let l = c .before .before .before in
+    let a = l .before .before .args in
+    let full : length (a .t1) ≡ 8 = search unmapped in
+    (any-turn (a .t1) (l .before .least .result) (l .loop .i) noLocator (omega arith) (omega arith) (isAt (a .a)) (l .loop .found) ∙ l .loop .inv)
+
+returns : tie.Need-returns Inv-loop μ-loop
+returns c =
+    let l = c .before in
+    let a = l .before .before .args in
+    let full : length (a .t1) ≡ 8 = search unmapped in
+    loop-end (anyOf (isAt (a .a))) (a .t1) 0 (l .before .least .result) (l .loop .i) (a .count) (l .loop .found) refl (omega arith) (omega arith) (l .loop .inv)
+
+pub has-address-spec : {M : Type 1} → statement M
+has-address-spec =
+    tie.close
+    (tie.spec Inv-loop μ-loop (search needs) loop-holds (omega arith) (omega arith) (omega arith) (omega arith)
+    loop-again returns)

@@ -1,0 +1,112 @@
+// Locators, and the settings' prefixes as the on-link test takes them.
+ghost use mathlib.Core.Path.{_≡_};
+ghost use Prim.Native.Nat.{_+_, _<_, min};
+ghost use lib.ListN.{take, drop};
+ghost use Rattle.lists.specs.Any.{anyOf, twice};
+ghost use Rattle.settings.specs.Locators.{isAt, isLocator, sameLocator, locatorFound, rowAt, rowsOf};
+
+pub struct Locator {
+    pub address: u32,
+    pub interface: u8,
+}
+
+pub enum Found {
+    Address(u32),
+    Nothing,
+}
+
+pub(crate) fn least(a: usize, b: usize) -> usize
+    ensures { λ r. ⌜ r ≡ min a b ⌝ }
+{
+    if a < b { a } else { b }
+}
+
+// The address of the locator of that number.
+pub fn locator_address(all: [Locator; 8], count: usize, number: usize) -> Found
+    ensures { λ r. ⌜ r ≡ locatorFound all count number ⌝ }
+{
+    let n = least(count, 8);
+    if number < n {
+        let l = all[number];
+        Found::Address(l.address)
+    } else {
+        Found::Nothing
+    }
+}
+
+// Whether one of the first `count` locators has the address.
+pub fn has_address(all: [Locator; 8], count: usize, a: u32) -> bool
+    ensures { λ r. ⌜ r ≡ anyOf (isAt a) (take count all) ⌝ }
+{
+    let n = least(count, 8);
+    let mut found = false;
+    let mut i: usize = 0;
+    while i < n {
+        let l = all[i];
+        found = found | (l.address == a);
+        i += 1;
+    }
+    found
+}
+
+// Whether one of the first `count` locators, from `from` on, has the address on the interface.
+pub fn has_locator(all: [Locator; 8], from: usize, count: usize, a: u32, interface: u8) -> bool
+    ensures { λ r. ⌜ r ≡ anyOf (isLocator a interface) (drop from (take count all)) ⌝ }
+{
+    let n = least(count, 8);
+    let mut found = false;
+    let mut i: usize = from;
+    while i < n {
+        let l = all[i];
+        found = found | ((l.address == a) & (l.interface == interface));
+        i += 1;
+    }
+    found
+}
+
+// Whether a pair of address and interface stands twice among the first `count` locators.
+pub fn repeated(all: [Locator; 8], count: usize) -> bool
+    ensures { λ r. ⌜ r ≡ twice sameLocator (take count all) ⌝ }
+{
+    let n = least(count, 8);
+    let mut found = false;
+    let mut i: usize = 0;
+    while i < n {
+        let l = all[i];
+        found = found | has_locator(all, i + 1, n, l.address, l.interface);
+        i += 1;
+    }
+    found
+}
+
+fn row(flat: [u8; 64], k: usize) -> [u8; 8]
+    requires { ⌜ k < 57 ⌝ }
+    ensures { λ r. ⌜ r ≡ rowAt flat k ⌝ }
+{
+    [
+        flat[k],
+        flat[k + 1],
+        flat[k + 2],
+        flat[k + 3],
+        flat[k + 4],
+        flat[k + 5],
+        flat[k + 6],
+        flat[k + 7],
+    ]
+}
+
+// The 64 bytes as eight prefixes of eight.
+pub fn rows(flat: [u8; 64]) -> [[u8; 8]; 8]
+    ensures { λ r. ⌜ r ≡ rowsOf flat ⌝ }
+{
+    [
+        row(flat, 0),
+        row(flat, 8),
+        row(flat, 16),
+        row(flat, 24),
+        row(flat, 32),
+        row(flat, 40),
+        row(flat, 48),
+        row(flat, 56),
+    ]
+}
