@@ -1,0 +1,4 @@
+-- The laws behind the proofs.
+pub mod Scan
+pub mod Newest
+pub mod Rows

@@ -1,0 +1,15 @@
+use borrow.Author.Needs.{needs}
+use Rattle.paths.specs.Kept.{inForce}
+use Rattle.paths.proofs.in_force.Statement.{statement}
+use Rattle.paths.proofs.in_force.Tie as tie
+
+returns : tie.Need-returns
+unfolding inForce
+returns c = search needs
+
+returns-2 : tie.Need-returns-2
+unfolding inForce
+returns-2 c = search needs
+
+pub in-force-spec : {M : Type 1} → statement M
+in-force-spec = tie.close (tie.spec (search needs) (search needs) returns returns-2)

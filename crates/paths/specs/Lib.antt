@@ -1,0 +1,5 @@
+-- What the contracts of `paths` cite, and what is claimed of the whole.
+pub mod Packets
+pub mod Candidate
+pub mod Kept
+pub mod Table

@@ -1,0 +1,58 @@
+-- The path table: accepted reports, the newest first, at most one of each neighbour and at most 64.
+use Prim.Native.Nat.{ℕ, suc, _-_, min, max}
+use mathlib.Core.Bool.{cond}
+use mathlib.Core.List.{List, [], _∷_, _++_, map}
+use lib.Dec.{eqb}
+use lib.ListN.{length, take, drop, replicate}
+use Rattle.paths.specs.Kept.{Report, mostNeighbours, lastOf, keptFrom}
+use Rattle.paths.specs.declared.Kept.{Kept}
+use Rattle.paths.specs.declared.PathTable.{PathTable}
+
+-- the fresh table: none of its 64 places is in use
+abbrev pub noReports : PathTable
+noReports =
+    let none : List ℕ = replicate mostNeighbours 0 in
+    record { neighbours = none; sizes = none; times = none; count = 0 }
+
+-- the reports that three arrays hold, place by place
+abbrev pub rows : List ℕ → List ℕ → List ℕ → List Report
+rows [] sizes times = []
+rows (v ∷ vs) [] times = []
+rows (v ∷ vs) (s ∷ ss) [] = []
+rows (v ∷ vs) (s ∷ ss) (t ∷ ts) = record { neighbour = v; size = s; time = t } ∷ rows vs ss ts
+
+-- the reports of the table: those of the places in use
+abbrev pub held : PathTable → List Report
+held t = take (t .count) (rows (t .neighbours) (t .sizes) (t .times))
+
+-- the size kept toward v
+unfoldable pub keptIn : PathTable → ℕ → ℕ → Kept
+keptIn t v now = keptFrom (lastOf v (held t)) now
+
+-- the place of v among neighbours, or their number
+abbrev pub placeOf : ℕ → List ℕ → ℕ
+placeOf v [] = 0
+placeOf v (a ∷ others) = cond (eqb a v) 0 (suc (placeOf v others))
+
+-- the place of v's last report, or the number of reports
+abbrev pub placeIn : ℕ → List Report → ℕ
+placeIn v es = placeOf v (map (λ (e : Report). e .neighbour) es)
+
+-- a list without its element at p
+abbrev pub cut : {A : Type 0} → ℕ → List A → List A
+cut p xs = take p xs ++ drop (suc p) xs
+
+-- x in front, and the element at p gone
+abbrev pub pushed : {A : Type 0} → A → ℕ → List A → List A
+pushed x p xs = x ∷ cut p xs
+
+-- the table after an accepted report: that stands in front; v's old one, else the last of 64, makes room
+unfoldable pub tableAfter : PathTable → ℕ → ℕ → ℕ → PathTable
+tableAfter t v size now =
+    let p : ℕ = min (placeIn v (held t)) (mostNeighbours - 1) in
+    record {
+      neighbours = pushed v p (t .neighbours);
+      sizes = pushed size p (t .sizes);
+      times = pushed now p (t .times);
+      count = max (length (held t)) (suc p);
+    }

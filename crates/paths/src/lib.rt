@@ -1,0 +1,155 @@
+// The path sizes that a tunnel end keeps: at most 64 neighbours, the newest accepted report first.
+pub mod packets;
+pub mod plateaus;
+
+ghost use mathlib.Core.Path.{_≡_};
+ghost use Prim.Native.Nat.{_<_, _≤_, min, max};
+ghost use lib.ListN.{length, take};
+ghost use Rattle.paths.specs.Kept.{mostNeighbours, whileYoung, inForce};
+ghost use Rattle.paths.specs.Table.{noReports, keptIn, tableAfter, placeOf, pushed};
+
+// Documents 01, "Path size": so many neighbours are kept, and a report's size for so many seconds.
+const NEIGHBOURS: usize = 64;
+
+const LIFETIME: u64 = 600;
+
+// Accepted reports, newest first, at most one of each neighbour: place by place whose, of what size and when.
+// The first `count` places are in use.
+#[repr(C)]
+pub struct PathTable {
+    pub neighbours: [u32; NEIGHBOURS],
+    pub sizes: [u16; NEIGHBOURS],
+    pub times: [u32; NEIGHBOURS],
+    pub count: usize,
+}
+
+// The size that is kept toward a neighbour, if there is one.
+pub enum Kept {
+    Size(u16),
+    Nothing,
+}
+
+// The size that a report asks for, if it can be used.
+pub enum Candidate {
+    Size(u16),
+    Unusable,
+}
+
+// The size in force over a link: the kept one, else the link's.
+pub fn in_force(link: u16, kept: Kept) -> u16
+    ensures { λ r. ⌜ r ≡ inForce link kept ⌝ }
+{
+    match kept {
+        Kept::Size(size) => size,
+        Kept::Nothing => link,
+    }
+}
+
+fn while_young(size: u16, time: u32, now: u32) -> Kept
+    ensures { λ r. ⌜ r ≡ whileYoung size time now ⌝ }
+{
+    if (now as u64) < (time as u64) + LIFETIME {
+        Kept::Size(size)
+    } else {
+        Kept::Nothing
+    }
+}
+
+fn least(a: usize, b: usize) -> usize
+    ensures { λ r. ⌜ r ≡ min a b ⌝ }
+{
+    if a < b { a } else { b }
+}
+
+fn most(a: usize, b: usize) -> usize
+    ensures { λ r. ⌜ r ≡ max a b ⌝ }
+{
+    if a < b { b } else { a }
+}
+
+// The place of the neighbour among the first `count`, or `count`.
+fn place(neighbours: &[u32], count: usize, neighbour: u32) -> usize
+    requires { ⌜ count ≤ length (now neighbours) ⌝ }
+    ensures { λ r. ⌜ r ≡ placeOf neighbour (take count (now (neighbours .entry))) ⌝ }
+{
+    let mut i: usize = 0;
+    while i < count {
+        if neighbours[i] == neighbour {
+            return i;
+        }
+        i = i + 1;
+    }
+    i
+}
+
+// One in front, and the one at `last` gone.
+fn push_number(row: &mut [u32; NEIGHBOURS], first: u32, last: usize)
+    requires { ⌜ (last < mostNeighbours) × (length (now row) ≡ mostNeighbours) ⌝ }
+    ensures { λ _. ⌜ now (row .exit) ≡ pushed first last (now (row .entry)) ⌝ }
+{
+    let mut carried = first;
+    let mut i: usize = 0;
+    while i <= last {
+        let next = row[i];
+        row[i] = carried;
+        carried = next;
+        i = i + 1;
+    }
+}
+
+fn push_size(row: &mut [u16; NEIGHBOURS], first: u16, last: usize)
+    requires { ⌜ (last < mostNeighbours) × (length (now row) ≡ mostNeighbours) ⌝ }
+    ensures { λ _. ⌜ now (row .exit) ≡ pushed first last (now (row .entry)) ⌝ }
+{
+    let mut carried = first;
+    let mut i: usize = 0;
+    while i <= last {
+        let next = row[i];
+        row[i] = carried;
+        carried = next;
+        i = i + 1;
+    }
+}
+
+impl PathTable {
+    pub fn new() -> Self
+        ensures { λ r. ⌜ r ≡ noReports ⌝ }
+    {
+        PathTable {
+            neighbours: [0; NEIGHBOURS],
+            sizes: [0; NEIGHBOURS],
+            times: [0; NEIGHBOURS],
+            count: 0,
+        }
+    }
+
+    // The size kept toward a neighbour at a time.
+    pub fn kept(self, neighbour: u32, now: u32) -> Kept
+        ensures { λ r. ⌜ r ≡ keptIn self neighbour now ⌝ }
+    {
+        let count = least(self.count, NEIGHBOURS);
+        let neighbours = self.neighbours;
+        let p = place(&neighbours, count, neighbour);
+        if p < count {
+            let sizes = self.sizes;
+            let times = self.times;
+            while_young(sizes[p], times[p], now)
+        } else {
+            Kept::Nothing
+        }
+    }
+
+    // The table after an accepted report: it stands in front; the neighbour's old one, else the oldest of 64, is gone.
+    pub fn accepted(mut self, neighbour: u32, size: u16, now: u32) -> Self
+        ensures { λ r. ⌜ r ≡ tableAfter self neighbour size now ⌝ }
+    {
+        let count = least(self.count, NEIGHBOURS);
+        let neighbours = self.neighbours;
+        let last = least(place(&neighbours, count, neighbour), NEIGHBOURS - 1);
+        push_number(&mut self.neighbours, neighbour, last);
+        push_size(&mut self.sizes, size, last);
+        push_number(&mut self.times, now, last);
+        self.count = most(count, last + 1);
+        self
+    }
+}
