@@ -2,3 +2,9 @@
 pub mod Scan
 pub mod Newest
 pub mod Rows
+pub mod Same
+pub mod Answers
+pub mod Rise
+pub mod Bound
+pub mod Largest
+pub mod Holds

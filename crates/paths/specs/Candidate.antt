@@ -28,5 +28,5 @@ unfoldable pub candidateOf : ℕ → ℕ → Candidate
 candidateOf reported total = cond (eqb reported 0) (plateauBelow total) (cond (ltb reported leastSize) Unusable (Size reported))
 
 -- 19: not below the size in force
-unfoldable pub isBelow : ℕ → ℕ → Bool
+abbrev pub isBelow : ℕ → ℕ → Bool
 isBelow candidate inForce = ltb candidate inForce

@@ -3,3 +3,9 @@ pub mod Packets
 pub mod Candidate
 pub mod Kept
 pub mod Table
+pub mod Record
+pub mod Calls
+pub mod Sender
+pub mod Claim
+pub mod Largest
+pub mod Values

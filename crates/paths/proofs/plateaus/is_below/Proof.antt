@@ -1,10 +1,8 @@
 use borrow.Author.Needs.{needs}
-use Rattle.paths.specs.Candidate.{isBelow}
 use Rattle.paths.proofs.plateaus.is_below.Statement.{statement}
 use Rattle.paths.proofs.plateaus.is_below.Tie as tie
 
 returns : tie.Need-returns
-unfolding isBelow
 returns c = search needs
 
 pub is-below-spec : {M : Type 1} → statement M

@@ -1,0 +1,35 @@
+-- Over the table of the reports that the plain record has, every call gets the record's answer.
+use mathlib.Core.Path.{_≡_, refl}
+use mathlib.Core.List.{List, [], _∷_}
+use Prim.Native.Nat.{ℕ}
+use Rattle.paths.specs.Kept.{Report}
+use Rattle.paths.specs.Calls.{Call, clock, report, send, Answer, accepted, notBelow, tooBig, other, table, plain, answer, remembered, latest, history, keptAfter}
+use Rattle.paths.specs.Claim.{SameKept, tableOf}
+use Rattle.paths.proofs.Same.{kept-same, tableOf-holds}
+
+pub same-kept : SameKept
+same-kept es v now = kept-same (tableOf es) es (tableOf-holds es) v now
+
+same-remembered : (es : List Report) (now : ℕ) (a : Answer) → remembered table (tableOf es) now a ≡ tableOf (remembered plain es now a)
+same-remembered es now (accepted v c) = refl
+same-remembered es now notBelow = refl
+same-remembered es now (tooBig s) = refl
+same-remembered es now other = refl
+
+module _ (limit : ℕ → ℕ) (link : ℕ) where
+  same-answer : (es : List Report) (now : ℕ) (x : Call) → answer table limit link (tableOf es) now x ≡ answer plain limit link es now x
+  same-answer es now (clock t) = refl
+  same-answer es now (report v c) = rw (same-kept es v now)
+  same-answer es now (send mine v n fits) = rw (same-kept es v now)
+
+  pub same-history : (es : List Report) (now : ℕ) (xs : List Call) → history table limit link (tableOf es) now xs ≡ history plain limit link es now xs
+  same-history es now [] = refl
+  same-history es now (x ∷ xs) =
+      let a : Answer = answer plain limit link es now x in
+      cc (same-answer es now x, same-remembered es now a, same-history (remembered plain es now a) (latest now x) xs)
+
+  pub same-after : (es : List Report) (now : ℕ) (xs : List Call) (v : ℕ) → keptAfter table limit link (tableOf es) now xs v ≡ keptAfter plain limit link es now xs v
+  same-after es now [] v = same-kept es v now
+  same-after es now (x ∷ xs) v =
+      let a : Answer = answer plain limit link es now x in
+      cc (same-answer es now x, same-remembered es now a, same-after (remembered plain es now a) (latest now x) xs v)

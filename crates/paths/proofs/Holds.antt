@@ -1,0 +1,44 @@
+-- What is claimed of the path sizes holds, and the checked values compute.
+use mathlib.Core.Path.{refl}
+use mathlib.Core.List.{[]}
+use native.Mathlib.Omega.{arith}
+use lib.ListN.{take}
+use Rattle.paths.specs.Packets.{largestPacket, dontFragment}
+use Rattle.paths.specs.Candidate.{candidateOf, plateauBelow}
+use Rattle.paths.specs.Kept.{whileYoung, inForce}
+use Rattle.paths.specs.Table.{keptIn, tableAfter}
+use Rattle.paths.specs.Claim.{Grows, DemandThree}
+use Rattle.paths.specs.Values.{Values}
+use Rattle.paths.proofs.Answers.{same-history, same-after}
+use Rattle.paths.proofs.Bound.{from-first}
+
+pub demand-three : DemandThree
+demand-three limit grows link calls =
+    record {
+      answers = same-history limit link [] 0 calls;
+      sizes = λ k v. same-after limit link [] 0 (take k calls) v;
+      senders = λ v. rw (same-history limit link [] 0 calls) (from-first limit grows link v calls [] tt 0);
+    }
+
+-- M grows with the path size, so that the bound of demand 3 holds for it
+pub largestPacket-grows : Grows largestPacket
+unfolding largestPacket
+largestPacket-grows P Q l = omega arith
+
+pub values : Values
+unfolding largestPacket dontFragment candidateOf plateauBelow whileYoung inForce keptIn tableAfter
+values =
+    record {
+      path1300 = (refl, refl, refl);
+      path1301 = (refl, refl, refl);
+      path1500 = (refl, refl, refl);
+      path600 = (refl, refl, refl);
+      plateau = (refl, refl, refl, refl);
+      usable = (refl, refl, refl);
+      below = refl;
+      larger = refl;
+      equal = refl;
+      age = (refl, refl);
+      neighbours = (refl, refl);
+      reached = (omega arith, refl, refl);
+    }

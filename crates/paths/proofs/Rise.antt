@@ -1,0 +1,102 @@
+-- The size toward a neighbour falls by a report of its own alone: time and other neighbours' reports end what is kept, and with it the size rises to the link's.
+use mathlib.Core.Path.{_≡_, refl}
+use mathlib.Core.Logic.{_⊎_, ⊎-elim, inl, inr}
+use mathlib.Core.Bool.{Bool, true, false, cond, false≢true}
+use mathlib.Core.List.{List, [], _∷_}
+use mathlib.Core.Option.{Option, none, some}
+use Prim.Native.Nat.{ℕ, zero, suc, _+_, _≤_}
+use native.Mathlib.Nat.{le-refl}
+use native.Mathlib.Omega.{arith}
+use borrow.Author.Tests.{lt-ltb, ltb-true}
+use lib.Dec.{ltb, eqb}
+use Rattle.paths.specs.Kept.{Report, lifetime, mostNeighbours, lastOf, whileYoung, keptFrom, inForce}
+use Rattle.paths.specs.Table.{placeIn, cut}
+use Rattle.paths.specs.Record.{lastOfEach, othersSince, recordKept}
+use Rattle.paths.specs.Calls.{plain, sizeToward}
+use Rattle.paths.specs.declared.Kept.{Kept}
+use Rattle.paths.specs.declared.Kept.the-variants.{Size, Nothing}
+use Rattle.paths.proofs.Newest.{tested, others-place, without-each}
+
+-- ---- what is kept stays or ends
+
+abbrev Fades : Kept → Kept → Type 0
+Fades k l = (l ≡ k) ⊎ (l ≡ Nothing)
+
+fades-cond : (a b : Bool) (k l : Kept) → (b ≡ true → a ≡ true) → Fades k l → Fades (cond a k Nothing) (cond b l Nothing)
+fades-cond true true k l h f = f
+fades-cond true false k l h f = inr refl
+fades-cond false true k l h f = absurd (false≢true (h refl))
+fades-cond false false k l h f = inl refl
+
+-- by time
+keptFrom-later : (o : Option Report) (now then : ℕ) → now ≤ then → Fades (keptFrom o now) (keptFrom o then)
+unfolding whileYoung
+keptFrom-later none now then l = inl refl
+keptFrom-later (some e) now then l =
+    fades-cond (ltb now (e .time + lifetime)) (ltb then (e .time + lifetime)) (Size (e .size)) (Size (e .size))
+    (λ h. lt-ltb now (e .time + lifetime) (omega (arith, ltb-true then (e .time + lifetime) h))) (inl refl)
+
+-- a list without one element has v at most one place further on
+placeIn-cut : (v p : ℕ) (es : List Report) → placeIn v es ≤ suc (placeIn v (cut p es))
+placeIn-cut v p [] = omega arith
+placeIn-cut v zero (e ∷ es) =
+    ⊎-elim (λ h. rw h (omega arith)) (λ h. rw h (omega arith)) (tested (eqb (e .neighbour) v))
+placeIn-cut v (suc p) (e ∷ es) =
+    ⊎-elim (λ h. rw h (omega arith)) (λ h. rw h (omega (arith, placeIn-cut v p es))) (tested (eqb (e .neighbour) v))
+
+-- another neighbour's report takes away nothing from the count of others since
+others-grow : (v : ℕ) (e : Report) (es : List Report) → eqb (e .neighbour) v ≡ false → othersSince v es ≤ othersSince v (e ∷ es)
+others-grow v e es other =
+    let p : placeIn v (lastOfEach (e ∷ es)) ≡ suc (placeIn v (cut (placeIn (e .neighbour) (lastOfEach es)) (lastOfEach es))) = cc (without-each (e .neighbour) es) in
+    omega (arith, others-place v es, others-place v (e ∷ es), placeIn-cut v (placeIn (e .neighbour) (lastOfEach es)) (lastOfEach es))
+
+module _ (es : List Report) (v now : ℕ) where
+  kept-later : (then : ℕ) → now ≤ then → Fades (recordKept es v now) (recordKept es v then)
+  unfolding recordKept
+  kept-later then l =
+      let few : Bool = ltb (othersSince v es) mostNeighbours in
+      fades-cond few few (keptFrom (lastOf v es) now) (keptFrom (lastOf v es) then) (λ h. h) (keptFrom-later (lastOf v es) now then l)
+
+  kept-others : (e : Report) → eqb (e .neighbour) v ≡ false → Fades (recordKept es v now) (recordKept (e ∷ es) v now)
+  unfolding recordKept
+  kept-others e other =
+      let n : lastOf v (e ∷ es) ≡ lastOf v es = cc in
+      rw n
+      (fades-cond (ltb (othersSince v es) mostNeighbours) (ltb (othersSince v (e ∷ es)) mostNeighbours) (keptFrom (lastOf v es) now) (keptFrom (lastOf v es) now)
+      (λ h. lt-ltb (othersSince v es) mostNeighbours (omega (arith, others-grow v e es other, ltb-true (othersSince v (e ∷ es)) mostNeighbours h)))
+      (inl refl))
+
+-- ---- so the size over a link only rises
+
+module _ (link : ℕ) where
+  -- no accepted size is above the link's
+  abbrev pub Small : List Report → Type 0
+  Small [] = Unit {0}
+  Small (e ∷ es) = (e .size ≤ link) × Small es
+
+  small-cond : (b : Bool) (k : Kept) → inForce link k ≤ link → inForce link (cond b k Nothing) ≤ link
+  unfolding inForce
+  small-cond true k s = s
+  small-cond false k s = le-refl link
+
+  small-last : (v now : ℕ) (es : List Report) → Small es → inForce link (keptFrom (lastOf v es) now) ≤ link
+  unfolding inForce whileYoung
+  small-last v now [] s = le-refl link
+  small-last v now (e ∷ es) s =
+      ⊎-elim (λ h. rw h (small-cond (ltb now (e .time + lifetime)) (Size (e .size)) (s .0))) (λ h. rw h (small-last v now es (s .1)))
+      (tested (eqb (e .neighbour) v))
+
+  rises : (k l : Kept) → inForce link k ≤ link → Fades k l → inForce link k ≤ inForce link l
+  unfolding inForce
+  rises k l s f = ⊎-elim (λ e. rw e (le-refl _)) (λ e. rw e s) f
+
+  module _ (es : List Report) (small : Small es) (v now : ℕ) where
+    pub size-small : sizeToward plain link es now v ≤ link
+    unfolding recordKept
+    size-small = small-cond (ltb (othersSince v es) mostNeighbours) (keptFrom (lastOf v es) now) (small-last v now es small)
+
+    pub size-later : (then : ℕ) → now ≤ then → sizeToward plain link es now v ≤ sizeToward plain link es then v
+    size-later then l = rises (recordKept es v now) (recordKept es v then) size-small (kept-later es v now then l)
+
+    pub size-others : (e : Report) → eqb (e .neighbour) v ≡ false → sizeToward plain link es now v ≤ sizeToward plain link (e ∷ es) now v
+    size-others e other = rises (recordKept es v now) (recordKept (e ∷ es) v now) size-small (kept-others es v now e other)

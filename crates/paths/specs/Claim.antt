@@ -1,0 +1,36 @@
+-- What is claimed of the path sizes: the table keeps what the plain record keeps, and demand 3 holds of every list of calls.
+use Prim.Native.Nat.{ℕ, _≤_}
+use mathlib.Core.Path.{_≡_}
+use mathlib.Core.List.{List, [], _∷_}
+use lib.ListN.{take}
+use Rattle.paths.specs.Kept.{Report}
+use Rattle.paths.specs.Table.{noReports, keptIn, tableAfter}
+use Rattle.paths.specs.Record.{recordKept}
+use Rattle.paths.specs.Calls.{Call, table, plain, history, keptAfter}
+use Rattle.paths.specs.Sender.{Bound, eventsOf}
+use Rattle.paths.specs.declared.PathTable.{PathTable}
+
+-- the table after accepted reports, the newest first
+abbrev pub tableOf : List Report → PathTable
+tableOf [] = noReports
+tableOf (e ∷ es) = tableAfter (tableOf es) (e .neighbour) (e .size) (e .time)
+
+-- after any accepted reports the table keeps what the record keeps, toward every neighbour and at any time
+abbrev pub SameKept : Type 0
+SameKept = (es : List Report) (v now : ℕ) → keptIn (tableOf es) v now ≡ recordKept es v now
+
+-- the larger the path, the more it lets through
+abbrev pub Grows : (ℕ → ℕ) → Type 0
+Grows limit = (P Q : ℕ) → P ≤ Q → limit P ≤ limit Q
+
+pub record PathsHold (limit : ℕ → ℕ) (link : ℕ) (calls : List Call) : Type 0 where
+  -- every call gets the answer that the plain record gives
+  pub answers : history table limit link (table .fresh) 0 calls ≡ history plain limit link (plain .fresh) 0 calls
+  -- the size kept toward any neighbour is the record's, after any number of the calls
+  pub sizes : (k v : ℕ) → keptAfter table limit link (table .fresh) 0 (take k calls) v ≡ keptAfter plain limit link (plain .fresh) 0 (take k calls) v
+  -- a sender to v that heeds the sizes named to it gets at most one Too Big more than v has accepted reports since its first packet
+  pub senders : (v : ℕ) → Bound (eventsOf v (history table limit link (table .fresh) 0 calls))
+
+-- demand 3 of the path sizes, as one statement about a whole list of calls
+abbrev pub DemandThree : Type 0
+DemandThree = (limit : ℕ → ℕ) → Grows limit → (link : ℕ) (calls : List Call) → PathsHold limit link calls
