@@ -5,10 +5,10 @@ use Prim.Native.Nat.{ℕ}
 use Rattle.paths.specs.Kept.{Report}
 use Rattle.paths.specs.Calls.{Call, clock, report, send, Answer, accepted, notBelow, tooBig, other, table, plain, answer, remembered, latest, history, keptAfter}
 use Rattle.paths.specs.Claim.{SameKept, tableOf}
-use Rattle.paths.proofs.Same.{kept-same, tableOf-holds}
+use Rattle.paths.proofs.Same.{kept-same, tableOf-keeps}
 
 pub same-kept : SameKept
-same-kept es v now = kept-same (tableOf es) es (tableOf-holds es) v now
+same-kept es v now = kept-same (tableOf es) es (tableOf-keeps es) v now
 
 same-remembered : (es : List Report) (now : ℕ) (a : Answer) → remembered table (tableOf es) now a ≡ tableOf (remembered plain es now a)
 same-remembered es now (accepted v c) = refl

@@ -6,5 +6,6 @@ pub mod Same
 pub mod Answers
 pub mod Rise
 pub mod Bound
+pub mod Heard
 pub mod Largest
 pub mod Holds

@@ -39,16 +39,22 @@ module _ (v : ℕ) where
       (⊎-elim (λ e. rw e (ap suc (i .0), refl, cc (lt-ltb 0 (suc (min n (length vs))) (omega arith))))
       (λ e. rw e (ap suc (i .0), ap suc (i .1), cc (leb·suc-suc (suc (placeOf v (take n vs))) (min n (length vs)), i .2))) (tested (eqb a v)))
 
--- what the code finds in a table whose arrays are full
-module _ (t : PathTable) (v now n p : ℕ) (vs : length (t .neighbours) ≡ mostNeighbours) (ss : length (t .sizes) ≡ mostNeighbours)
-    (ts : length (t .times) ≡ mostNeighbours) (count : n ≡ min (t .count) mostNeighbours) (place : p ≡ placeOf v (take n (t .neighbours))) where
+-- what the code knows of a table: its arrays are full, n places are in use, and p is the place of v among them
+pub record Scanned (t : PathTable) (v n p : ℕ) : Type 0 where
+  pub neighbours : length (t .neighbours) ≡ mostNeighbours
+  pub sizes : length (t .sizes) ≡ mostNeighbours
+  pub times : length (t .times) ≡ mostNeighbours
+  pub count : n ≡ min (t .count) mostNeighbours
+  pub place : p ≡ placeOf v (take n (t .neighbours))
+
+module _ {t : PathTable} {v n p : ℕ} (c : Scanned t v n p) (now : ℕ) where
   reads : Found v (t .count) (t .neighbours) (t .sizes) (t .times) (held t)
   reads = found v (t .count) (t .neighbours) (t .sizes) (t .times) (cc) (cc)
 
   in-use : p ≡ placeOf v (take (t .count) (t .neighbours))
   in-use =
       let l : n ≡ length (take (t .count) (t .neighbours)) = omega (arith, length-take (t .count) (t .neighbours)) in
-      place ∙ ap (λ (k : ℕ). placeOf v (take k (t .neighbours))) l ∙ ap (placeOf v) (take-length-take (t .count) (t .neighbours))
+      c .place ∙ ap (λ (k : ℕ). placeOf v (take k (t .neighbours))) l ∙ ap (placeOf v) (take-length-take (t .count) (t .neighbours))
 
   pub kept-at : keptIn t v now ≡ cond (ltb p n) (whileYoung (getD (t .sizes) p 0) (getD (t .times) p 0) now) Nothing
   unfolding keptIn

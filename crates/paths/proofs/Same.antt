@@ -8,22 +8,20 @@ use native.Mathlib.Nat.{not-suc-le-zero, eq-or-lt-of-le}
 use native.Mathlib.Omega.{arith}
 use lib.Dec.{ltb}
 use lib.ListN.{length, take}
-use Rattle.paths.specs.Candidate.{isBelow}
-use Rattle.paths.specs.Kept.{Report, mostNeighbours, lastOf, keptFrom, inForce}
-use Rattle.paths.specs.Table.{rows, held, placeIn, cut, keptIn, tableAfter, noReports}
+use Rattle.paths.specs.Kept.{Report, mostNeighbours, lastOf, keptFrom}
+use Rattle.paths.specs.Table.{rows, held, placeIn, cut, keptIn, tableAfter}
 use Rattle.paths.specs.Record.{lastOfEach, recordKept}
-use Rattle.paths.specs.Calls.{Call, clock, report, send, Answer, accepted, notBelow, tooBig, other, table, plain, answer, remembered, latest, history, keptAfter}
 use Rattle.paths.specs.Claim.{tableOf}
 use Rattle.paths.specs.declared.PathTable.{PathTable}
 use Rattle.paths.proofs.Newest.{keptFrom-cond, take-length-take, take-cut, cut-last, placeIn-le, placeIn-take, lastOf-take, lastOf-each, others-place, without-each}
 
--- what the table holds of the record es
-abbrev pub Holds : PathTable → List Report → Type 0
-Holds t es = held t ≡ take mostNeighbours (lastOfEach es)
+-- the table keeps the 64 newest of the record es
+abbrev pub Keeps : PathTable → List Report → Type 0
+Keeps t es = held t ≡ take mostNeighbours (lastOfEach es)
 
 -- ---- the same size
 
-pub kept-same : (t : PathTable) (es : List Report) → Holds t es → (v now : ℕ) → keptIn t v now ≡ recordKept es v now
+pub kept-same : (t : PathTable) (es : List Report) → Keeps t es → (v now : ℕ) → keptIn t v now ≡ recordKept es v now
 unfolding keptIn recordKept
 kept-same t es h v now =
     ap (λ (l : List Report). keptFrom (lastOf v l) now) h
@@ -64,10 +62,10 @@ cut-grown n p es l =
     (λ h. let m : max n (suc p) ≡ n = omega arith in cc)
     (eq-or-lt-of-le l)
 
-pub after-holds : (t : PathTable) (es : List Report) → Holds t es → (v c now : ℕ)
-    → Holds (tableAfter t v c now) (record { neighbour = v; size = c; time = now } ∷ es)
+pub after-keeps : (t : PathTable) (es : List Report) → Keeps t es → (v c now : ℕ)
+    → Keeps (tableAfter t v c now) (record { neighbour = v; size = c; time = now } ∷ es)
 unfolding tableAfter
-after-holds t es h v c now =
+after-keeps t es h v c now =
     let p : ℕ = min (placeIn v (held t)) (mostNeighbours - 1) in
     let e : Report = record { neighbour = v; size = c; time = now } in
     let n : ℕ = length (held t) in
@@ -82,6 +80,6 @@ after-holds t es h v c now =
       without-each v es,
     )
 
-pub tableOf-holds : (es : List Report) → Holds (tableOf es) es
-tableOf-holds [] = refl
-tableOf-holds (e ∷ es) = after-holds (tableOf es) es (tableOf-holds es) (e .neighbour) (e .size) (e .time)
+pub tableOf-keeps : (es : List Report) → Keeps (tableOf es) es
+tableOf-keeps [] = refl
+tableOf-keeps (e ∷ es) = after-keeps (tableOf es) es (tableOf-keeps es) (e .neighbour) (e .size) (e .time)

@@ -1,6 +1,6 @@
 // The path sizes that a tunnel end keeps: at most 64 neighbours, the newest accepted report first.
 pub mod packets;
-pub mod plateaus;
+pub mod reported;
 
 ghost use mathlib.Core.Path.{_≡_};
 ghost use Prim.Native.Nat.{_<_, _≤_, min, max};
@@ -8,12 +8,13 @@ ghost use lib.ListN.{length, take};
 ghost use Rattle.paths.specs.Kept.{mostNeighbours, whileYoung, inForce};
 ghost use Rattle.paths.specs.Table.{noReports, keptIn, tableAfter, placeOf, pushed};
 
-// Documents 01, "Path size": so many neighbours are kept, and a report's size for so many seconds.
+// How many neighbours are kept.
 const NEIGHBOURS: usize = 64;
 
+// For how many seconds a report is in force.
 const LIFETIME: u64 = 600;
 
-// Accepted reports, newest first, at most one of each neighbour: place by place whose, of what size and when.
+// Accepted reports, the newest first, at most one of each neighbour: place by place whose it is, its size and its time.
 // The first `count` places are in use.
 #[repr(C)]
 pub struct PathTable {
@@ -35,82 +36,6 @@ pub enum Candidate {
     Unusable,
 }
 
-// The size in force over a link: the kept one, else the link's.
-pub fn in_force(link: u16, kept: Kept) -> u16
-    ensures { λ r. ⌜ r ≡ inForce link kept ⌝ }
-{
-    match kept {
-        Kept::Size(size) => size,
-        Kept::Nothing => link,
-    }
-}
-
-fn while_young(size: u16, time: u32, now: u32) -> Kept
-    ensures { λ r. ⌜ r ≡ whileYoung size time now ⌝ }
-{
-    if (now as u64) < (time as u64) + LIFETIME {
-        Kept::Size(size)
-    } else {
-        Kept::Nothing
-    }
-}
-
-fn least(a: usize, b: usize) -> usize
-    ensures { λ r. ⌜ r ≡ min a b ⌝ }
-{
-    if a < b { a } else { b }
-}
-
-fn most(a: usize, b: usize) -> usize
-    ensures { λ r. ⌜ r ≡ max a b ⌝ }
-{
-    if a < b { b } else { a }
-}
-
-// The place of the neighbour among the first `count`, or `count`.
-fn place(neighbours: &[u32], count: usize, neighbour: u32) -> usize
-    requires { ⌜ count ≤ length (now neighbours) ⌝ }
-    ensures { λ r. ⌜ r ≡ placeOf neighbour (take count (now (neighbours .entry))) ⌝ }
-{
-    let mut i: usize = 0;
-    while i < count {
-        if neighbours[i] == neighbour {
-            return i;
-        }
-        i = i + 1;
-    }
-    i
-}
-
-// One in front, and the one at `last` gone.
-fn push_number(row: &mut [u32; NEIGHBOURS], first: u32, last: usize)
-    requires { ⌜ (last < mostNeighbours) × (length (now row) ≡ mostNeighbours) ⌝ }
-    ensures { λ _. ⌜ now (row .exit) ≡ pushed first last (now (row .entry)) ⌝ }
-{
-    let mut carried = first;
-    let mut i: usize = 0;
-    while i <= last {
-        let next = row[i];
-        row[i] = carried;
-        carried = next;
-        i = i + 1;
-    }
-}
-
-fn push_size(row: &mut [u16; NEIGHBOURS], first: u16, last: usize)
-    requires { ⌜ (last < mostNeighbours) × (length (now row) ≡ mostNeighbours) ⌝ }
-    ensures { λ _. ⌜ now (row .exit) ≡ pushed first last (now (row .entry)) ⌝ }
-{
-    let mut carried = first;
-    let mut i: usize = 0;
-    while i <= last {
-        let next = row[i];
-        row[i] = carried;
-        carried = next;
-        i = i + 1;
-    }
-}
-
 impl PathTable {
     pub fn new() -> Self
         ensures { λ r. ⌜ r ≡ noReports ⌝ }
@@ -123,7 +48,7 @@ impl PathTable {
         }
     }
 
-    // The size kept toward a neighbour at a time.
+    // The size kept toward a neighbour at a time. No row of the table is copied that is not read.
     pub fn kept(self, neighbour: u32, now: u32) -> Kept
         ensures { λ r. ⌜ r ≡ keptIn self neighbour now ⌝ }
     {
@@ -139,7 +64,7 @@ impl PathTable {
         }
     }
 
-    // The table after an accepted report: it stands in front; the neighbour's old one, else the oldest of 64, is gone.
+    // The table after an accepted report: that stands in front; the neighbour's old one, else the last of 64, makes room.
     pub fn accepted(mut self, neighbour: u32, size: u16, now: u32) -> Self
         ensures { λ r. ⌜ r ≡ tableAfter self neighbour size now ⌝ }
     {
@@ -152,4 +77,82 @@ impl PathTable {
         self.count = most(count, last + 1);
         self
     }
+}
+
+// The size in force over a link: the kept one, otherwise the link's.
+pub fn in_force(link: u16, kept: Kept) -> u16
+    ensures { λ r. ⌜ r ≡ inForce link kept ⌝ }
+{
+    match kept {
+        Kept::Size(size) => size,
+        Kept::Nothing => link,
+    }
+}
+
+// A report's size while that is under 600 s old.
+fn while_young(size: u16, time: u32, now: u32) -> Kept
+    ensures { λ r. ⌜ r ≡ whileYoung size time now ⌝ }
+{
+    if (now as u64) < (time as u64) + LIFETIME {
+        Kept::Size(size)
+    } else {
+        Kept::Nothing
+    }
+}
+
+// The place of a neighbour among the first `count`, or `count`.
+fn place(neighbours: &[u32], count: usize, neighbour: u32) -> usize
+    requires { ⌜ count ≤ length (now neighbours) ⌝ }
+    ensures { λ r. ⌜ r ≡ placeOf neighbour (take count (now (neighbours .entry))) ⌝ }
+{
+    let mut i: usize = 0;
+    while i < count {
+        if neighbours[i] == neighbour {
+            return i;
+        }
+        i = i + 1;
+    }
+    i
+}
+
+// A row with one more in front, and the one at `last` gone.
+fn push_number(row: &mut [u32; NEIGHBOURS], first: u32, last: usize)
+    requires { ⌜ (last < mostNeighbours) × (length (now row) ≡ mostNeighbours) ⌝ }
+    ensures { λ _. ⌜ now (row .exit) ≡ pushed first last (now (row .entry)) ⌝ }
+{
+    let mut carried = first;
+    let mut i: usize = 0;
+    while i <= last {
+        let next = row[i];
+        row[i] = carried;
+        carried = next;
+        i = i + 1;
+    }
+}
+
+// The same for the row of sizes.
+fn push_size(row: &mut [u16; NEIGHBOURS], first: u16, last: usize)
+    requires { ⌜ (last < mostNeighbours) × (length (now row) ≡ mostNeighbours) ⌝ }
+    ensures { λ _. ⌜ now (row .exit) ≡ pushed first last (now (row .entry)) ⌝ }
+{
+    let mut carried = first;
+    let mut i: usize = 0;
+    while i <= last {
+        let next = row[i];
+        row[i] = carried;
+        carried = next;
+        i = i + 1;
+    }
+}
+
+fn least(a: usize, b: usize) -> usize
+    ensures { λ r. ⌜ r ≡ min a b ⌝ }
+{
+    if a < b { a } else { b }
+}
+
+fn most(a: usize, b: usize) -> usize
+    ensures { λ r. ⌜ r ≡ max a b ⌝ }
+{
+    if a < b { b } else { a }
 }

@@ -2,15 +2,25 @@ use mathlib.Core.Path.{_≡_}
 use native.Mathlib.Omega.{arith}
 use borrow.Author.Needs.{needs}
 use lib.ListN.{length}
-use Rattle.paths.proofs.Rows.{made}
+use Rattle.paths.specs.Kept.{mostNeighbours}
+use Rattle.paths.proofs.Rows.{Scanned, made}
 use Rattle.paths.proofs.PathTable.accepted.Statement.{statement}
 use Rattle.paths.proofs.PathTable.accepted.Tie as tie
 
-full : (c : tie.Start) → (length (c .args .t1 .neighbours) ≡ 64) × (length (c .args .t1 .sizes) ≡ 64) × (length (c .args .t1 .times) ≡ 64)
-full c = (search needs, search needs, search needs)
-
 place-requires : tie.Need-place-requires
-place-requires c κs = omega (arith, full (c .before .before .before))
+place-requires c κs = let full : length (c .before .before .before .args .t1 .neighbours) ≡ mostNeighbours = search needs in omega arith
+
+scanned : (c : tie.After-place)
+    → Scanned (c .before .before .before .before .args .t1) (c .before .before .before .before .args .neighbour) (c .before .before .before .least .result)
+    (c .place .result)
+scanned c =
+    record {
+      neighbours = search needs;
+      sizes = search needs;
+      times = search needs;
+      count = c .before .before .before .least .ensures;
+      place = c .place .ensures;
+    }
 
 returns : tie.Need-returns
 returns c =
@@ -19,25 +29,12 @@ returns c =
     let neighbours = sizes .before .before in
     let last = neighbours .before .before in
     let p = last .before in
-    let n = p .before .before .before in
-    let a = n .before .args in
-    let f = full (n .before) in
-    made (a .t1) (a .neighbour) (a .now) (n .least .result) (p .place .result) (f .0) (f .1) (f .2) (n .least .ensures)
-    (p .place .ensures) (a .size) (last .least2 .result) (c .most .result) _ _ _ (last .least2 .ensures) (omega arith) (neighbours .push-number .ensures)
-    (sizes .push-size .ensures) (times .push-number2 .ensures)
+    let a = p .before .before .before .before .args in
+    made (scanned p) (a .now) (a .size) (last .least2 .result) (c .most .result) _ _ _ (last .least2 .ensures) (omega arith)
+    (neighbours .push-number .ensures) (sizes .push-size .ensures) (times .push-number2 .ensures)
 
 pub accepted-spec : {M : Type 1} → statement M
 accepted-spec =
     tie.close
-    (tie.spec
-    (omega arith)
-    (λ c. search needs)
-    place-requires
-    (omega arith)
-    (omega arith)
-    (λ c κs. search needs)
-    (λ c κs. search needs)
-    (λ c κs. search needs)
-    (omega arith)
-    (omega arith)
-    returns)
+    (tie.spec (omega arith) (λ c. search needs) place-requires (omega arith) (omega arith) (λ c κs. search needs) (λ c κs. search needs) (λ c κs. search needs)
+    (omega arith) (omega arith) returns)

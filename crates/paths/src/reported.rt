@@ -3,7 +3,7 @@ use crate::Candidate;
 ghost use mathlib.Core.Path.{_≡_};
 ghost use Rattle.paths.specs.Candidate.{plateauBelow, candidateOf, isBelow};
 
-// The least path size that is usable.
+// The least size that is usable.
 const LEAST_SIZE: u16 = 68;
 
 // RFC 1191, section 7.
@@ -26,7 +26,7 @@ fn plateau_below(n: u16) -> Candidate
     ensures { λ r. ⌜ r ≡ plateauBelow n ⌝ }
 {
     let mut i: usize = 0;
-    while i < 11 {
+    while i < PLATEAUS.len() {
         let p = PLATEAUS[i];
         if p < n {
             return Candidate::Size(p);

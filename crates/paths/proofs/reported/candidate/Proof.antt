@@ -1,8 +1,8 @@
 use native.Mathlib.Omega.{arith}
 use borrow.Author.Tests.{eq-eqb, ne-eqb, lt-ltb, le-ltb}
 use Rattle.paths.specs.Candidate.{candidateOf}
-use Rattle.paths.proofs.plateaus.candidate.Statement.{statement}
-use Rattle.paths.proofs.plateaus.candidate.Tie as tie
+use Rattle.paths.proofs.reported.candidate.Statement.{statement}
+use Rattle.paths.proofs.reported.candidate.Tie as tie
 
 returns : tie.Need-returns
 unfolding candidateOf

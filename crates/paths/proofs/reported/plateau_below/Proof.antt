@@ -2,17 +2,17 @@ use mathlib.Core.Path.{_≡_, refl, sym, ap, _∙_}
 use Prim.Native.Nat.{_≤_, _-_}
 use native.Mathlib.Omega.{arith}
 use borrow.Author.Needs.{needs}
-use lib.ListN.{drop, drop-of-length-le}
+use lib.ListN.{length, drop, drop-of-length-le}
 use Rattle.paths.specs.Candidate.{plateaus, firstBelow, plateauBelow}
 use Rattle.paths.proofs.Scan.{below-hit, below-miss}
-use Rattle.paths.proofs.plateaus.plateau_below.Statement.{statement}
-use Rattle.paths.proofs.plateaus.plateau_below.Tie as tie
+use Rattle.paths.proofs.reported.plateau_below.Statement.{statement}
+use Rattle.paths.proofs.reported.plateau_below.Tie as tie
 
 abbrev Inv-loop : tie.InvT-loop
-Inv-loop n i₀ i = (i ≤ 11) × (firstBelow n plateaus ≡ firstBelow n (drop i plateaus))
+Inv-loop n i₀ i = (i ≤ length plateaus) × (firstBelow n plateaus ≡ firstBelow n (drop i plateaus))
 
 abbrev μ-loop : tie.MeasureT-loop
-μ-loop n i₀ i = 11 - i
+μ-loop n i₀ i = length plateaus - i
 
 loop-holds : tie.Need-loop-holds Inv-loop μ-loop
 loop-holds c = (omega arith, refl)
