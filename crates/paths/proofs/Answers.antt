@@ -1,14 +1,20 @@
 -- Over the table of the reports that the plain record has, every call gets the record's answer.
-use mathlib.Core.Path.{_≡_, refl}
+use mathlib.Core.Path.{_≡_, refl, ap}
 use mathlib.Core.List.{List, [], _∷_}
 use Prim.Native.Nat.{ℕ}
-use Rattle.paths.specs.Kept.{Report}
+use Rattle.paths.specs.Kept.{Report, inForce}
+use Rattle.paths.specs.Table.{keptIn}
+use Rattle.paths.specs.Record.{recordKept}
 use Rattle.paths.specs.Calls.{Call, clock, report, send, Answer, accepted, notBelow, tooBig, other, table, plain, answer, remembered, latest, history, keptAfter}
 use Rattle.paths.specs.Claim.{SameKept, tableOf}
 use Rattle.paths.proofs.Same.{kept-same, tableOf-keeps}
 
 pub same-kept : SameKept
 same-kept es v now = kept-same (tableOf es) es (tableOf-keeps es) v now
+
+-- and so the same size is in force over every link
+pub same-in-force : (es : List Report) (v now link : ℕ) → inForce link (keptIn (tableOf es) v now) ≡ inForce link (recordKept es v now)
+same-in-force es v now link = ap (inForce link) (same-kept es v now)
 
 same-remembered : (es : List Report) (now : ℕ) (a : Answer) → remembered table (tableOf es) now a ≡ tableOf (remembered plain es now a)
 same-remembered es now (accepted v c) = refl

@@ -13,7 +13,7 @@ use Rattle.paths.specs.Kept.{Report}
 use Rattle.paths.specs.Calls.{Call, clock, report, send, Answer, accepted, notBelow, tooBig, other, plain, sizeToward, remembered, latest, answer, history}
 use Rattle.paths.specs.Sender.{Event, told, passed, lowered, nothing, AtMostAll, Heeds, tooBigs, reports, Bound, packetEvent, eventOf, eventsOf}
 use Rattle.paths.specs.Claim.{Grows}
-use Rattle.paths.proofs.Newest.{tested}
+use Rattle.paths.proofs.Reports.{tested}
 use Rattle.paths.proofs.Rise.{Small, size-small, size-later, size-others}
 
 and-left : (a b : Bool) → (a && b) ≡ true → a ≡ true
@@ -90,8 +90,8 @@ module _ (limit : ℕ → ℕ) (grows : Grows limit) where
       bounded (report w c ∷ xs) es small now ms =
           let e : Report = record { neighbour = w; size = c; time = now } in
           ⊎-elim
-          (λ h. rw h (reported (eventsOf v (history plain limit link (e ∷ es) now xs)) ms (sizeToward plain link es now v) (eqb w v) (sizeToward plain link (e ∷ es) now v)
-          (size-others link es small v now e) (bounded xs (e ∷ es) (rw h at (small-after es small now (report w c))) now ms)))
+          (λ h. rw h (reported (eventsOf v (history plain limit link (e ∷ es) now xs)) ms (sizeToward plain link es now v) (eqb w v)
+          (sizeToward plain link (e ∷ es) now v) (size-others link es small v now e) (bounded xs (e ∷ es) (rw h at (small-after es small now (report w c))) now ms)))
           (λ h. rw h (bounded xs es small now ms))
           (tested (isBelow c (sizeToward plain link es now w)))
       bounded (send mine w n fits ∷ xs) es small now ms =

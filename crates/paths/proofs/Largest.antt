@@ -9,7 +9,7 @@ use lib.Dec.{ltb}
 use Rattle.paths.specs.Candidate.{plateaus, firstBelow, plateauBelow}
 use Rattle.paths.specs.Largest.{LargestBelow, PlateauRule}
 use Rattle.paths.specs.declared.Candidate.the-variants.{Size, Unusable}
-use Rattle.paths.proofs.Newest.{tested}
+use Rattle.paths.proofs.Reports.{tested}
 
 abbrev Descending : List ℕ → Type 0
 Descending [] = Unit {0}

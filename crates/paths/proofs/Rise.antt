@@ -1,4 +1,4 @@
--- The size toward a neighbour falls by a report of its own alone: time and other neighbours' reports end what is kept, and with it the size rises to the link's.
+-- The size toward a neighbour falls by a report of its own alone: time and other neighbours' reports only end what is kept.
 use mathlib.Core.Path.{_≡_, refl}
 use mathlib.Core.Logic.{_⊎_, ⊎-elim, inl, inr}
 use mathlib.Core.Bool.{Bool, true, false, cond, false≢true}
@@ -15,7 +15,7 @@ use Rattle.paths.specs.Record.{lastOfEach, othersSince, recordKept}
 use Rattle.paths.specs.Calls.{plain, sizeToward}
 use Rattle.paths.specs.declared.Kept.{Kept}
 use Rattle.paths.specs.declared.Kept.the-variants.{Size, Nothing}
-use Rattle.paths.proofs.Newest.{tested, others-place, without-each}
+use Rattle.paths.proofs.Reports.{tested, others-place, without-each}
 
 -- ---- what is kept stays or ends
 
@@ -47,8 +47,9 @@ placeIn-cut v (suc p) (e ∷ es) =
 -- another neighbour's report takes away nothing from the count of others since
 others-grow : (v : ℕ) (e : Report) (es : List Report) → eqb (e .neighbour) v ≡ false → othersSince v es ≤ othersSince v (e ∷ es)
 others-grow v e es other =
-    let p : placeIn v (lastOfEach (e ∷ es)) ≡ suc (placeIn v (cut (placeIn (e .neighbour) (lastOfEach es)) (lastOfEach es))) = cc (without-each (e .neighbour) es) in
-    omega (arith, others-place v es, others-place v (e ∷ es), placeIn-cut v (placeIn (e .neighbour) (lastOfEach es)) (lastOfEach es))
+    let q : ℕ = placeIn (e .neighbour) (lastOfEach es) in
+    let p : placeIn v (lastOfEach (e ∷ es)) ≡ suc (placeIn v (cut q (lastOfEach es))) = cc (without-each (e .neighbour) es) in
+    omega (arith, others-place v es, others-place v (e ∷ es), placeIn-cut v q (lastOfEach es))
 
 module _ (es : List Report) (v now : ℕ) where
   kept-later : (then : ℕ) → now ≤ then → Fades (recordKept es v now) (recordKept es v then)
@@ -61,8 +62,9 @@ module _ (es : List Report) (v now : ℕ) where
   unfolding recordKept
   kept-others e other =
       let n : lastOf v (e ∷ es) ≡ lastOf v es = cc in
+      let k : Kept = keptFrom (lastOf v es) now in
       rw n
-      (fades-cond (ltb (othersSince v es) mostNeighbours) (ltb (othersSince v (e ∷ es)) mostNeighbours) (keptFrom (lastOf v es) now) (keptFrom (lastOf v es) now)
+      (fades-cond (ltb (othersSince v es) mostNeighbours) (ltb (othersSince v (e ∷ es)) mostNeighbours) k k
       (λ h. lt-ltb (othersSince v es) mostNeighbours (omega (arith, others-grow v e es other, ltb-true (othersSince v (e ∷ es)) mostNeighbours h)))
       (inl refl))
 

@@ -14,7 +14,7 @@ use Rattle.paths.specs.Kept.{Report, mostNeighbours, lastOf, keptFrom, w
 use Rattle.paths.specs.Table.{rows, held, placeOf, placeIn, pushed, keptIn, tableAfter}
 use Rattle.paths.specs.declared.PathTable.{PathTable}
 use Rattle.paths.specs.declared.Kept.the-variants.{Nothing}
-use Rattle.paths.proofs.Newest.{tested, keptFrom-cond, take-length-take}
+use Rattle.paths.proofs.Reports.{tested, keptFrom-cond, take-length-take}
 
 -- the report at a place
 abbrev rowAt : List ℕ → List ℕ → List ℕ → ℕ → Report

@@ -1,4 +1,4 @@
--- The table against the plain record: it holds the last report of each of the 64 newest neighbours, and so keeps the same sizes and gives the same answers.
+-- The table against the plain record: it holds the last reports of the 64 newest neighbours, and so keeps the same sizes.
 use mathlib.Core.Path.{_≡_, refl, ap, _∙_}
 use mathlib.Core.Logic.{⊎-elim}
 use mathlib.Core.List.{List, [], _∷_}
@@ -13,9 +13,9 @@ use Rattle.paths.specs.Table.{rows, held, placeIn, cut, keptIn, tableAft
 use Rattle.paths.specs.Record.{lastOfEach, recordKept}
 use Rattle.paths.specs.Claim.{tableOf}
 use Rattle.paths.specs.declared.PathTable.{PathTable}
-use Rattle.paths.proofs.Newest.{keptFrom-cond, take-length-take, take-cut, cut-last, placeIn-le, placeIn-take, lastOf-take, lastOf-each, others-place, without-each}
+use Rattle.paths.proofs.Reports.{keptFrom-cond, take-length-take, take-cut, cut-last, placeIn-le, placeIn-take, lastOf-take, lastOf-each, others-place, without-each}
 
--- the table keeps the 64 newest of the record es
+-- the table holds the last reports of the 64 newest neighbours of the record es
 abbrev pub Keeps : PathTable → List Report → Type 0
 Keeps t es = held t ≡ take mostNeighbours (lastOfEach es)
 

@@ -84,3 +84,10 @@ module _ {M : Type 0} (K : Memory M) (limit : ℕ → ℕ) (link : ℕ) where
   abbrev pub keptAfter : M → ℕ → List Call → ℕ → Kept
   keptAfter m now [] v = K .kept m v now
   keptAfter m now (x ∷ xs) v = keptAfter (remembered K m now (answer m now x)) (latest now x) xs v
+
+  -- the same for a list of calls that starts on a fresh node: nothing is remembered, and the latest time is 0
+  abbrev pub historyOf : List Call → List (Call × Answer)
+  historyOf calls = history (K .fresh) 0 calls
+
+  abbrev pub keptOf : List Call → ℕ → Kept
+  keptOf calls v = keptAfter (K .fresh) 0 calls v

@@ -6,7 +6,7 @@ use lib.ListN.{take}
 use Rattle.paths.specs.Kept.{Report}
 use Rattle.paths.specs.Table.{noReports, keptIn, tableAfter}
 use Rattle.paths.specs.Record.{recordKept}
-use Rattle.paths.specs.Calls.{Call, table, plain, history, keptAfter}
+use Rattle.paths.specs.Calls.{Call, table, plain, historyOf, keptOf}
 use Rattle.paths.specs.Sender.{Bound, eventsOf}
 use Rattle.paths.specs.declared.PathTable.{PathTable}
 
@@ -25,11 +25,11 @@ Grows limit = (P Q : ℕ) → P ≤ Q → limit P ≤ limit Q
 
 pub record PathsHold (limit : ℕ → ℕ) (link : ℕ) (calls : List Call) : Type 0 where
   -- every call gets the answer that the plain record gives
-  pub answers : history table limit link (table .fresh) 0 calls ≡ history plain limit link (plain .fresh) 0 calls
+  pub answers : historyOf table limit link calls ≡ historyOf plain limit link calls
   -- the size kept toward any neighbour is the record's, after any number of the calls
-  pub sizes : (k v : ℕ) → keptAfter table limit link (table .fresh) 0 (take k calls) v ≡ keptAfter plain limit link (plain .fresh) 0 (take k calls) v
+  pub sizes : (k v : ℕ) → keptOf table limit link (take k calls) v ≡ keptOf plain limit link (take k calls) v
   -- a sender to v that heeds the sizes named to it gets at most one Too Big more than v has accepted reports since its first packet
-  pub senders : (v : ℕ) → Bound (eventsOf v (history table limit link (table .fresh) 0 calls))
+  pub senders : (v : ℕ) → Bound (eventsOf v (historyOf table limit link calls))
 
 -- demand 3 of the path sizes, as one statement about a whole list of calls
 abbrev pub DemandThree : Type 0

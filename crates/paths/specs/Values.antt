@@ -6,7 +6,7 @@ use mathlib.Core.List.{List, [], _∷_, map}
 use Rattle.paths.specs.Packets.{largestPacket, dontFragment}
 use Rattle.paths.specs.Candidate.{candidateOf}
 use Rattle.paths.specs.Kept.{inForce}
-use Rattle.paths.specs.Calls.{Call, clock, report, send, Answer, accepted, notBelow, tooBig, other, table, sendAnswer, history, keptAfter}
+use Rattle.paths.specs.Calls.{Call, clock, report, send, Answer, accepted, notBelow, tooBig, other, table, sendAnswer, historyOf, keptOf}
 use Rattle.paths.specs.Sender.{Event, Heeds, tooBigs, reports, fromFirst, eventsOf}
 use Rattle.paths.specs.declared.Candidate.the-variants.{Size, Unusable}
 
@@ -16,10 +16,10 @@ LetsThrough P n flag =
     (sendAnswer (largestPacket P) n true ≡ other) × (dontFragment P ≡ flag) × (sendAnswer (largestPacket P) (n + 1) true ≡ tooBig n)
 
 abbrev answersTo : List Call → List Answer
-answersTo calls = map (λ (x : Call × Answer). x .1) (history table largestPacket 1500 (table .fresh) 0 calls)
+answersTo calls = map (λ (x : Call × Answer). x .1) (historyOf table largestPacket 1500 calls)
 
 abbrev sizeToward7 : List Call → ℕ
-sizeToward7 calls = inForce 1500 (keptAfter table largestPacket 1500 (table .fresh) 0 calls 7)
+sizeToward7 calls = inForce 1500 (keptOf table largestPacket 1500 calls 7)
 
 -- a report of each of n other neighbours
 abbrev others : ℕ → List Call
@@ -30,7 +30,7 @@ others (suc n) = report (100 + n) 1400 ∷ others n
 abbrev toldTwice : List Event
 toldTwice =
     eventsOf 7
-    (history table largestPacket 1500 (table .fresh) 0
+    (historyOf table largestPacket 1500
     (report 7 1499 ∷ send true 7 1480 true ∷ report 7 1400 ∷ send true 7 1479 true ∷ send true 7 1380 true ∷ []))
 
 pub record Values : Type 0 where
@@ -43,15 +43,18 @@ pub record Values : Type 0 where
   -- P 600: 1,280 passes, flag clear
   pub path600 : LetsThrough 600 1280 false
   -- candidate 0: quoted 1,500 gives 1,492; 1,492 gives 1,006; 69 gives 68; 68 is 18
-  pub plateau : (candidateOf 0 1500 ≡ Size 1492) × (candidateOf 0 1492 ≡ Size 1006) × (candidateOf 0 69 ≡ Size 68) × (candidateOf 0 68 ≡ Unusable)
+  pub plateau : (candidateOf 0 1500 ≡ Size 1492) × (candidateOf 0 1492 ≡ Size 1006) × (candidateOf 0 69 ≡ Size 68)
+      × (candidateOf 0 68 ≡ Unusable)
   -- size 68 accepted, 67 is 18, 1,500 is 19
   pub usable : (candidateOf 68 1500 ≡ Size 68) × (candidateOf 67 1500 ≡ Unusable) × (candidateOf 1500 1500 ≡ Size 1500)
   pub below : answersTo (report 7 1500 ∷ report 7 68 ∷ []) ≡ notBelow ∷ accepted 7 68 ∷ []
   -- a later, larger report does not raise the size; an equal one does not renew its age
-  pub larger : answersTo (report 7 1300 ∷ report 7 1300 ∷ report 7 1400 ∷ report 7 1299 ∷ []) ≡ accepted 7 1300 ∷ notBelow ∷ notBelow ∷ accepted 7 1299 ∷ []
+  pub larger : answersTo (report 7 1300 ∷ report 7 1300 ∷ report 7 1400 ∷ report 7 1299 ∷ [])
+      ≡ accepted 7 1300 ∷ notBelow ∷ notBelow ∷ accepted 7 1299 ∷ []
   pub equal : sizeToward7 (clock 1000 ∷ report 7 1300 ∷ clock 1500 ∷ report 7 1300 ∷ clock 1600 ∷ []) ≡ 1500
   -- accepted at 1,000: in force at 1,599, gone at 1,600
-  pub age : (sizeToward7 (clock 1000 ∷ report 7 1300 ∷ clock 1599 ∷ []) ≡ 1300) × (sizeToward7 (clock 1000 ∷ report 7 1300 ∷ clock 1600 ∷ []) ≡ 1500)
+  pub age : (sizeToward7 (clock 1000 ∷ report 7 1300 ∷ clock 1599 ∷ []) ≡ 1300)
+      × (sizeToward7 (clock 1000 ∷ report 7 1300 ∷ clock 1600 ∷ []) ≡ 1500)
   -- the 63rd other neighbour leaves a size, the 64th removes it
   pub neighbours : (sizeToward7 (report 7 1300 ∷ others 63) ≡ 1300) × (sizeToward7 (report 7 1300 ∷ others 64) ≡ 1500)
   -- the bound of demand 3 is reached: two Too Big answers, one accepted report

@@ -11,8 +11,8 @@ place-requires : tie.Need-place-requires
 place-requires c κs = let full : length (c .before .before .before .args .t1 .neighbours) ≡ mostNeighbours = search needs in omega arith
 
 scanned : (c : tie.After-place)
-    → Scanned (c .before .before .before .before .args .t1) (c .before .before .before .before .args .neighbour) (c .before .before .before .least .result)
-    (c .place .result)
+    → Scanned (c .before .before .before .before .args .t1) (c .before .before .before .before .args .neighbour)
+    (c .before .before .before .least .result) (c .place .result)
 scanned c =
     record {
       neighbours = search needs;
@@ -36,5 +36,5 @@ returns c =
 pub accepted-spec : {M : Type 1} → statement M
 accepted-spec =
     tie.close
-    (tie.spec (omega arith) (λ c. search needs) place-requires (omega arith) (omega arith) (λ c κs. search needs) (λ c κs. search needs) (λ c κs. search needs)
-    (omega arith) (omega arith) returns)
+    (tie.spec (omega arith) (λ c. search needs) place-requires (omega arith) (omega arith) (λ c κs. search needs) (λ c κs. search needs)
+    (λ c κs. search needs) (omega arith) (omega arith) returns)

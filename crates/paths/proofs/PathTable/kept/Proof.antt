@@ -12,8 +12,8 @@ place-requires : tie.Need-place-requires
 place-requires c κs = let full : length (c .before .before .before .args .self .neighbours) ≡ mostNeighbours = search needs in omega arith
 
 scanned : (c : tie.After-place)
-    → Scanned (c .before .before .before .before .args .self) (c .before .before .before .before .args .neighbour) (c .before .before .before .least .result)
-    (c .place .result)
+    → Scanned (c .before .before .before .before .args .self) (c .before .before .before .before .args .neighbour)
+    (c .before .before .before .least .result) (c .place .result)
 scanned c =
     record {
       neighbours = search needs;

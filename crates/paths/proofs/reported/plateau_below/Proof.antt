@@ -21,12 +21,12 @@ returns : tie.Need-returns Inv-loop μ-loop
 unfolding plateauBelow
 returns c =
     let b = c .before .before in
-    sym (b .loop .inv .1 ∙ below-hit (b .before .args .n) plateaus (b .loop .i) (omega arith) (c .if1 .taken))
+    sym (b .loop .inv .1 ∙ below-hit (b .before .args .n) plateaus (b .loop .i) (omega arith) (omega arith))
 
 loop-again : tie.Need-loop-again Inv-loop μ-loop
 loop-again c =
     let b = c .before .before in
-    (omega arith, b .loop .inv .1 ∙ below-miss (b .before .args .n) plateaus (b .loop .i) (omega arith) (c .if1 .left))
+    (omega arith, b .loop .inv .1 ∙ below-miss (b .before .args .n) plateaus (b .loop .i) (omega arith) (omega arith))
 
 returns-2 : tie.Need-returns-2 Inv-loop μ-loop
 unfolding plateauBelow
