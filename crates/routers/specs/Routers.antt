@@ -9,6 +9,10 @@ use Rattle.routers.specs.declared.RouterList.{RouterList}
 use Rattle.routers.specs.declared.Next.{Next}
 use Rattle.routers.specs.declared.Next.the-variants.{Due, NoneDue}
 
+-- "Settings": routers 0 to 16
+abbrev pub places : ℕ
+places = 16
+
 -- "Settings": the routers of a list are the first `count` of its places, all 16 if `count` is larger
 abbrev pub live : RouterList → List Router
 live l = take (l .count) (l .routers)

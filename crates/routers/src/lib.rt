@@ -3,7 +3,7 @@
 ghost use mathlib.Core.Path.{_≡_};
 ghost use Prim.Native.Nat.{_≤_};
 ghost use lib.ListN.{length, take, drop};
-ghost use Rattle.routers.specs.Routers.{live, listed, earlier, ifDue, nextOf, dueOr, dueIf, rescheduledOf, replacedOf, newOf, among, areDistinct};
+ghost use Rattle.routers.specs.Routers.{places, live, listed, earlier, ifDue, nextOf, dueOr, dueIf, rescheduledOf, replacedOf, newOf, among, areDistinct};
 
 // How many routers a list has room for.
 pub const PLACES: usize = 16;
@@ -75,7 +75,7 @@ impl RouterList {
 
     // How many routers are in the list.
     fn size(self) -> usize
-        ensures { λ r. ⌜ (r ≡ length (live self)) × (r ≤ 16) ⌝ }
+        ensures { λ r. ⌜ (r ≡ length (live self)) × (r ≤ places) ⌝ }
     {
         let count = self.count;
         if count < PLACES { count } else { PLACES }
@@ -159,7 +159,7 @@ impl RouterList {
 
 // Whether the address stands at a place from `from` on, before `n`.
 fn stands(addresses: [u32; PLACES], from: usize, n: usize, address: u32) -> bool
-    requires { ⌜ n ≤ 16 ⌝ }
+    requires { ⌜ n ≤ places ⌝ }
     ensures { λ r. ⌜ r ≡ among address (drop from (take n addresses)) ⌝ }
 {
     let mut found = false;

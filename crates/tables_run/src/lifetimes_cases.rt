@@ -3,241 +3,147 @@ use crate::write;
 use lifetimes::Smallest;
 use routers::RouterList;
 
-// A prefix option, valid for 3,600 s, preferred for 7 s.
-const PREFIX: [u8; 32] = [
-    3,
-    4,
-    64,
-    0,
-    0,
-    0,
-    14,
-    16,
-    0,
-    0,
-    0,
-    7,
-    0,
-    0,
-    0,
-    0,
-    0,
-    0,
-    0,
-    0,
-    0,
-    0,
-    0,
-    0,
-    0,
-    0,
-    0,
-    0,
-    0,
-    0,
-    0,
-    0,
-];
+const ROUTER: u32 = 0x0a00_0001;
 
-pub fn whole() {
-    write::answer(b"no option at all is whole", lifetimes::options_whole(b""));
-    let one = [1u8, 1, 0, 0, 0, 0, 0, 0];
-    write::answer(
-        b"one option to the exact end is whole",
-        lifetimes::options_whole(&one),
-    );
-    let two = [1u8, 1, 0, 0, 0, 0, 0, 0, 24, 1, 0, 0, 0, 0, 0, 7];
-    write::answer(
+fn whole(case: &[u8], options: &[u8]) {
+    write::answer(case, lifetimes::options_whole(options));
+}
+
+pub fn all_whole() {
+    whole(b"no option at all is whole", b"");
+    whole(b"one option to the exact end is whole", b"\x01\x01......");
+    whole(
         b"two options to the exact end are whole",
-        lifetimes::options_whole(&two),
+        b"\x01\x01......\x18\x01......",
     );
-    let zero = [1u8, 0, 0, 0, 0, 0, 0, 0];
-    write::answer(
-        b"an option of length 0 is whole",
-        lifetimes::options_whole(&zero),
-    );
-    let later = [1u8, 1, 0, 0, 0, 0, 0, 0, 1, 0, 0, 0, 0, 0, 0, 0];
-    write::answer(
+    whole(b"an option of length 0 is whole", b"\x01\x00......");
+    whole(
         b"a later option of length 0 is whole",
-        lifetimes::options_whole(&later),
+        b"\x01\x01......\x01\x00......",
     );
-    let past = [1u8, 2, 0, 0, 0, 0, 0, 0];
-    write::answer(
+    whole(
         b"an option that runs past the end is whole",
-        lifetimes::options_whole(&past),
+        b"\x01\x02......",
     );
-    let byte = [1u8, 1, 0, 0, 0, 0, 0, 0, 1];
-    write::answer(
+    whole(
         b"one byte behind the last option is whole",
-        lifetimes::options_whole(&byte),
+        b"\x01\x01......\x01",
     );
     let longest = [255u8; 2040];
-    write::answer(
-        b"the longest option, 2,040 bytes, is whole",
-        lifetimes::options_whole(&longest),
-    );
+    whole(b"the longest option, 2,040 bytes, is whole", &longest);
 }
 
-pub fn lengths() {
-    write::smallest(
+fn smallest(case: &[u8], router: u16, options: &[u8]) {
+    write::smallest(case, lifetimes::options_read(router, options));
+}
+
+// A prefix option is valid for 3,600 s and preferred for 7 s, and a route lasts 9 s.
+pub fn kinds() {
+    smallest(
         b"prefix option for 3,600 s, router 0",
-        lifetimes::options_read(0, &PREFIX),
+        0,
+        b"\x03\x04@.\x00\x00\x0e\x10\x00\x00\x00\x07....prefix of 16 byt",
     );
-    write::smallest(
+    smallest(
         b"prefix option for 3,600 s, router 1,800",
-        lifetimes::options_read(1800, &PREFIX),
+        1800,
+        b"\x03\x04@.\x00\x00\x0e\x10\x00\x00\x00\x07....prefix of 16 byt",
     );
-    let one = [24u8, 1, 0, 0, 0, 0, 0, 9];
-    write::smallest(
-        b"route option of length 1 for 9 s, router 30",
-        lifetimes::options_read(30, &one),
+    smallest(
+        b"prefix option of length 1, router 30",
+        30,
+        b"\x03\x01@.\x00\x00\x00\x09",
     );
-    let two = [24u8, 2, 0, 0, 0, 0, 0, 9, 0, 0, 0, 0, 0, 0, 0, 0];
-    write::smallest(
-        b"route option of length 2 for 9 s, router 30",
-        lifetimes::options_read(30, &two),
-    );
-    let three = [
-        24u8,
-        3,
-        0,
-        0,
-        0,
-        0,
-        0,
-        9,
-        0,
-        0,
-        0,
-        0,
-        0,
-        0,
-        0,
-        0,
-        0,
-        0,
-        0,
-        0,
-        0,
-        0,
-        0,
-        0,
-    ];
-    write::smallest(
-        b"route option of length 3 for 9 s, router 30",
-        lifetimes::options_read(30, &three),
-    );
-    let four = [
-        24u8,
-        4,
-        0,
-        0,
-        0,
-        0,
-        0,
-        9,
-        0,
-        0,
-        0,
-        0,
-        0,
-        0,
-        0,
-        0,
-        0,
-        0,
-        0,
-        0,
-        0,
-        0,
-        0,
-        0,
-        0,
-        0,
-        0,
-        0,
-        0,
-        0,
-        0,
-        0,
-    ];
-    write::smallest(
-        b"route option of length 4 for 9 s, router 30",
-        lifetimes::options_read(30, &four),
-    );
-    let short = [3u8, 1, 64, 0, 0, 0, 0, 9];
-    write::smallest(
-        b"prefix option of length 1 for 9 s, router 30",
-        lifetimes::options_read(30, &short),
-    );
-    let unknown = [5u8, 1, 0, 0, 0, 0, 0, 9];
-    write::smallest(
+    smallest(
         b"option of type 5, router 30",
-        lifetimes::options_read(30, &unknown),
+        30,
+        b"\x05\x01..\x00\x00\x00\x09",
     );
 }
 
-pub fn smallest() {
-    let two = [24u8, 1, 0, 0, 0, 0, 1, 0, 24, 1, 0, 0, 0, 0, 0, 200];
-    write::smallest(
+pub fn routes() {
+    smallest(
+        b"route option of length 1 for 9 s, router 30",
+        30,
+        b"\x18\x01..\x00\x00\x00\x09",
+    );
+    smallest(
+        b"route option of length 2 for 9 s, router 30",
+        30,
+        b"\x18\x02..\x00\x00\x00\x098 bytes.",
+    );
+    smallest(
+        b"route option of length 3 for 9 s, router 30",
+        30,
+        b"\x18\x03..\x00\x00\x00\x09prefix of 16 byt",
+    );
+    smallest(
+        b"route option of length 4 for 9 s, router 30",
+        30,
+        b"\x18\x04..\x00\x00\x00\x09prefix of 16 byt8 bytes.",
+    );
+}
+
+pub fn counted() {
+    smallest(
         b"routes for 256 s and 200 s, router 1,800",
-        lifetimes::options_read(1800, &two),
+        1800,
+        b"\x18\x01..\x00\x00\x01\x00\x18\x01..\x00\x00\x00\xc8",
     );
-    let zero = [24u8, 1, 0, 0, 0, 0, 0, 0];
-    write::smallest(
+    smallest(
         b"route for 0 s, router 30",
-        lifetimes::options_read(30, &zero),
+        30,
+        b"\x18\x01..\x00\x00\x00\x00",
     );
-    write::smallest(
-        b"route for 0 s, router 0",
-        lifetimes::options_read(0, &zero),
-    );
-    let endless = [24u8, 1, 0, 0, 255, 255, 255, 255];
-    write::smallest(
+    smallest(b"route for 0 s, router 0", 0, b"\x18\x01..\x00\x00\x00\x00");
+    smallest(
         b"route for 0xffffffff s, router 0",
-        lifetimes::options_read(0, &endless),
+        0,
+        b"\x18\x01..\xff\xff\xff\xff",
     );
-    let nearly = [24u8, 1, 0, 0, 255, 255, 255, 254];
-    write::smallest(
+    smallest(
         b"route for 0xfffffffe s, router 0",
-        lifetimes::options_read(0, &nearly),
+        0,
+        b"\x18\x01..\xff\xff\xff\xfe",
     );
-    write::smallest(
-        b"no option, router 65,535",
-        lifetimes::options_read(65535, b""),
+    smallest(b"no option, router 65,535", 65535, b"");
+}
+
+fn due(case: &[u8], now: u32, smallest: Smallest) {
+    write::second(case, lifetimes::due_after(now, 120, smallest));
+}
+
+pub fn due_times() {
+    due(
+        b"at 1,000 half of 1,801 s, rounded down",
+        1000,
+        Smallest::Seconds(1801),
+    );
+    due(
+        b"at 1,000 half of 241 s, as long as the interval",
+        1000,
+        Smallest::Seconds(241),
+    );
+    due(
+        b"at 1,000 half of 3 s, below the interval",
+        1000,
+        Smallest::Seconds(3),
+    );
+    due(b"at 1,000, no lifetime counts", 1000, Smallest::NoneCounts);
+    due(
+        b"at the last 32-bit second half of 1,801 s",
+        4294967295,
+        Smallest::Seconds(1801),
     );
 }
 
-pub fn due() {
-    write::second(
-        b"half of 1,801 s, rounded down, after 1,000",
-        lifetimes::due_after(1000, 120, Smallest::Seconds(1801)),
-    );
-    write::second(
-        b"half of 241 s, as long as the interval",
-        lifetimes::due_after(1000, 120, Smallest::Seconds(241)),
-    );
-    write::second(
-        b"half of 3 s, below the interval",
-        lifetimes::due_after(1000, 120, Smallest::Seconds(3)),
-    );
-    write::second(
-        b"no lifetime counts",
-        lifetimes::due_after(1000, 120, Smallest::NoneCounts),
-    );
-    write::second(
-        b"half of 1,801 s after the last 32-bit second",
-        lifetimes::due_after(4294967295, 120, Smallest::Seconds(1801)),
-    );
-}
-
-// An advertisement at 1,000 makes a due time of 4,000 earlier.
+// An advertisement makes a due time earlier.
 pub fn earlier() {
-    let list = RouterList::new([0x0a00_0001; 16], 1).rescheduled(0x0a00_0001, 4000);
-    write::next(b"due at 4,000, asking at 1,200", list.next(1200));
+    let list = RouterList::new([ROUTER; 16], 1).rescheduled(ROUTER, 4000);
+    write::next(b"due at 4,000, asking at 1,150", list.next(1150));
     let read = lifetimes::options_read(300, b"");
     let smallest = read.smallest;
-    let heard = list.rescheduled(0x0a00_0001, lifetimes::due_after(1000, 120, smallest));
+    let heard = list.rescheduled(ROUTER, lifetimes::due_after(1000, 120, smallest));
     write::next(
         b"advertised at 1,000 for 300 s, asking at 1,149",
         heard.next(1149),

@@ -3,16 +3,27 @@ mod lifetimes_cases;
 mod routers_cases;
 mod write;
 
-fn main() {
+fn routers() {
     routers_cases::next_due();
+    routers_cases::setup();
     routers_cases::turns();
     routers_cases::last_second();
     routers_cases::replaced();
+    routers_cases::emptied();
     routers_cases::listed();
-    routers_cases::distinct();
-    lifetimes_cases::whole();
-    lifetimes_cases::lengths();
-    lifetimes_cases::smallest();
-    lifetimes_cases::due();
+    routers_cases::all_distinct();
+}
+
+fn lifetimes() {
+    lifetimes_cases::all_whole();
+    lifetimes_cases::kinds();
+    lifetimes_cases::routes();
+    lifetimes_cases::counted();
+    lifetimes_cases::due_times();
     lifetimes_cases::earlier();
+}
+
+fn main() {
+    routers();
+    lifetimes();
 }

@@ -19,31 +19,34 @@ fn addresses(a: u32, b: u32, c: u32) -> [u32; 16] {
     [a, b, c, 0, 0, 0, 0, 0, 0, 0, 0, 0, 0, 0, 0, 0]
 }
 
+// The first so many of them, as at setup.
+fn fresh(count: usize) -> RouterList {
+    RouterList::new(addresses(ONE, TWO, THREE), count)
+}
+
 // Due at 50, 40 and 40.
 fn three() -> RouterList {
-    RouterList::new(addresses(ONE, TWO, THREE), 3)
+    fresh(3)
         .rescheduled(ONE, 50)
         .rescheduled(TWO, 40)
         .rescheduled(THREE, 40)
 }
 
+fn next(case: &[u8], list: RouterList, now: u32) {
+    write::next(case, list.next(now));
+}
+
 pub fn next_due() {
     let list = three();
-    write::next(b"two due at 40, the lower place first", list.next(60));
-    write::next(b"a due time equal to now", list.next(40));
-    write::next(b"all due times in the future", list.next(39));
-    write::next(
-        b"at setup",
-        RouterList::new(addresses(ONE, TWO, THREE), 3).next(0),
-    );
-    write::next(
-        b"a count above 16 is read as 16",
-        RouterList::new(addresses(ONE, TWO, THREE), 99).next(0),
-    );
-    write::next(
-        b"no router",
-        RouterList::new(addresses(ONE, TWO, THREE), 0).next(60),
-    );
+    next(b"two due at 40, the lower place first", list, 60);
+    next(b"a due time equal to now", list, 40);
+    next(b"all due times in the future", list, 39);
+}
+
+pub fn setup() {
+    next(b"at setup", fresh(3), 0);
+    next(b"a count above 16 is read as 16", fresh(99), 0);
+    next(b"no router", fresh(0), 60);
 }
 
 // An asking: the next router is due again after the interval.
@@ -65,43 +68,44 @@ pub fn turns() {
 }
 
 pub fn last_second() {
-    let list = RouterList::new(addresses(ONE, TWO, THREE), 1);
-    write::next(
+    let list = fresh(1);
+    next(
         b"due at the last 32-bit second",
-        list.rescheduled(ONE, 4294967295).next(LAST_SECOND),
+        list.rescheduled(ONE, 4294967295),
+        LAST_SECOND,
     );
-    write::next(
+    next(
         b"due past the last 32-bit second",
-        list.rescheduled(ONE, 4294967296).next(LAST_SECOND),
+        list.rescheduled(ONE, 4294967296),
+        LAST_SECOND,
     );
     let again = asked(b"asked at the last 32-bit second", list, LAST_SECOND);
-    write::next(b"asked once more then", again.next(LAST_SECOND));
+    next(b"asked once more then", again, LAST_SECOND);
 }
 
 pub fn replaced() {
-    let list = three();
-    write::next(
-        b"replaced, a router in both lists keeps its due time",
-        list.replaced(addresses(FOUR, THREE, 0), 2, 45).next(45),
+    let kept = three().replaced(addresses(FOUR, THREE, 0), 2, 45);
+    next(
+        b"replaced at 45, a router in both lists keeps its due time",
+        kept,
+        45,
     );
-    write::next(
-        b"replaced, the new router is due now",
-        list.replaced(addresses(FOUR, ONE, 0), 2, 45).next(45),
+    let new = three().replaced(addresses(FOUR, ONE, 0), 2, 45);
+    next(b"replaced at 45, the new router is due now", new, 45);
+    next(b"replaced at 45, the new router is not due before", new, 44);
+}
+
+pub fn emptied() {
+    let empty = three().replaced(addresses(ONE, TWO, THREE), 0, 45);
+    next(b"replaced by an empty list", empty, 60);
+    let back = empty.replaced(addresses(ONE, TWO, THREE), 3, 55);
+    next(
+        b"replaced by an empty list and back at 55, all are new",
+        back,
+        54,
     );
-    write::next(
-        b"replaced, the new router is not due before",
-        list.replaced(addresses(FOUR, ONE, 0), 2, 45).next(44),
-    );
-    write::next(
-        b"replaced by an empty list",
-        list.replaced(addresses(ONE, TWO, THREE), 0, 45).next(60),
-    );
-    let back = list.replaced(addresses(ONE, TWO, THREE), 0, 45)
-        .replaced(addresses(ONE, TWO, THREE), 3, 55);
-    write::next(
-        b"replaced by an empty list and back, all are new",
-        back.next(54),
-    );
+    write::answer(b"10.0.0.3 is listed in the empty list", empty.lists(THREE));
+    write::answer(b"10.0.0.3 is listed once it is back", back.lists(THREE));
 }
 
 pub fn listed() {
@@ -110,38 +114,31 @@ pub fn listed() {
     write::answer(b"10.0.0.4 is listed", list.lists(FOUR));
     write::answer(
         b"an address behind the count is listed",
-        RouterList::new(addresses(ONE, TWO, THREE), 2).lists(THREE),
-    );
-    write::answer(
-        b"10.0.0.3 is listed after the empty list",
-        list.replaced(addresses(ONE, TWO, THREE), 0, 45)
-            .lists(THREE),
+        fresh(2).lists(THREE),
     );
 }
 
-pub fn distinct() {
-    write::answer(
-        b"three routers are distinct",
-        routers::distinct(addresses(ONE, TWO, THREE), 3),
-    );
-    write::answer(
+fn distinct(case: &[u8], a: u32, b: u32, c: u32, count: usize) {
+    write::answer(case, routers::distinct(addresses(a, b, c), count));
+}
+
+pub fn all_distinct() {
+    distinct(b"three routers are distinct", ONE, TWO, THREE, 3);
+    distinct(
         b"the first and the last the same are distinct",
-        routers::distinct(addresses(ONE, TWO, ONE), 3),
+        ONE,
+        TWO,
+        ONE,
+        3,
     );
-    write::answer(
-        b"adjacent ones the same are distinct",
-        routers::distinct(addresses(ONE, ONE, TWO), 3),
-    );
-    write::answer(
-        b"the same behind the count are distinct",
-        routers::distinct(addresses(ONE, TWO, ONE), 2),
-    );
-    write::answer(
-        b"no routers are distinct",
-        routers::distinct(addresses(ONE, ONE, ONE), 0),
-    );
-    write::answer(
-        b"all 16 with equal zeros are distinct",
-        routers::distinct(addresses(ONE, TWO, THREE), 99),
+    distinct(b"adjacent ones the same are distinct", ONE, ONE, TWO, 3);
+    distinct(b"the same behind the count are distinct", ONE, TWO, ONE, 2);
+    distinct(b"no routers are distinct", ONE, ONE, ONE, 0);
+    distinct(
+        b"all 16, the last 13 the same, are distinct",
+        ONE,
+        TWO,
+        THREE,
+        99,
     );
 }
