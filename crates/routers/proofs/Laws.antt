@@ -3,10 +3,9 @@
 use mathlib.Core.Path.{_≡_, refl, sym, ap, _∙_}
 use mathlib.Core.List.{List, [], _∷_, _++_, map, append-nil}
 use mathlib.Core.Bool.{Bool, not, _&&_, _||_, or-assoc, and-assoc}
-use Prim.Native.Nat.{ℕ, zero, suc, _+_, _<_, _≤_, min}
+use Prim.Native.Nat.{ℕ, zero, suc, _+_, _<_, _≤_}
 use native.Mathlib.Numerals.{add-one}
 use native.Mathlib.Nat.{le-of-suc-le-suc, not-suc-le-zero}
-use native.Mathlib.Decide.{decLe}
 use native.Mathlib.Omega.{arith}
 use lib.ListN.{length, getD, take, drop, set, length-take, length-map, drop-of-length-le}
 use lib.Seq.{drop-cons, getD-take, take-all}
@@ -70,11 +69,3 @@ module _ {A : Type 0} (f : A → Router) (xs : List A) (rs : List Router) (i : �
 -- what owning an array of structs says of its length is said of the list of its elements' fields
 pub unmapped : {X Y : Type 0} (f : X → Y) (xs : List X) (n : ℕ) → length (map f xs) ≡ n → length xs ≡ n
 unmapped f xs n h = sym (length-map xs f) ∙ h
-
--- of at most n elements, the first c are the first min c n
-pub take-cap : {A : Type 0} (c m n : ℕ) (xs : List A) → length xs ≤ n → m ≡ min c n → take c xs ≡ take m xs
-take-cap c m n xs h e = go (decLe c n)
-  where
-    go : Dec (c ≤ n) → take c xs ≡ take m xs
-    go (yes l) = let same : c ≡ m = omega arith in ap (λ (k : ℕ). take k xs) same
-    go (no l) = take-all c xs (omega arith) ∙ sym (take-all m xs (omega arith))

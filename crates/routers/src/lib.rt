@@ -1,7 +1,7 @@
 // The router list: which addresses are listed, which router is asked next, and when each is due again.
 // Every list is taken: what counts are the first `count` of its 16 places.
 ghost use mathlib.Core.Path.{_≡_};
-ghost use Prim.Native.Nat.{_≤_};
+ghost use Prim.Native.Nat.{_≤_, min};
 ghost use lib.ListN.{length, take, drop};
 ghost use Rattle.routers.specs.Routers.{places, live, listed, earlier, ifDue, nextOf, dueOr, dueIf, rescheduledOf, replacedOf, newOf, among, areDistinct};
 
@@ -63,6 +63,13 @@ fn earlier(first: Router, second: Router) -> Router
     }
 }
 
+// How many of `count` have a place.
+fn in_places(count: usize) -> usize
+    ensures { λ r. ⌜ r ≡ min count places ⌝ }
+{
+    if count < PLACES { count } else { PLACES }
+}
+
 impl RouterList {
     // At setup every router is due at time 0.
     pub fn new(addresses: [u32; PLACES], count: usize) -> Self
@@ -78,7 +85,7 @@ impl RouterList {
         ensures { λ r. ⌜ (r ≡ length (live self)) × (r ≤ places) ⌝ }
     {
         let count = self.count;
-        if count < PLACES { count } else { PLACES }
+        in_places(count)
     }
 
     // Whether a router of that address is in the list.
@@ -157,11 +164,11 @@ impl RouterList {
     }
 }
 
-// Whether the address stands at a place from `from` on, before `n`.
-fn stands(addresses: [u32; PLACES], from: usize, n: usize, address: u32) -> bool
-    requires { ⌜ n ≤ places ⌝ }
-    ensures { λ r. ⌜ r ≡ among address (drop from (take n addresses)) ⌝ }
+// Whether the address stands at a place from `from` on, among the first `count`.
+fn stands(addresses: [u32; PLACES], from: usize, count: usize, address: u32) -> bool
+    ensures { λ r. ⌜ r ≡ among address (drop from (take count addresses)) ⌝ }
 {
+    let n = in_places(count);
     let mut found = false;
     let mut i = from;
     while i < n {
@@ -175,11 +182,11 @@ fn stands(addresses: [u32; PLACES], from: usize, n: usize, address: u32) -> bool
 pub fn distinct(addresses: [u32; PLACES], count: usize) -> bool
     ensures { λ r. ⌜ r ≡ areDistinct (take count addresses) ⌝ }
 {
-    let n = if count < PLACES { count } else { PLACES };
+    let n = in_places(count);
     let mut all = true;
     let mut i = 0;
     while i < n {
-        all = all & !stands(addresses, i + 1, n, addresses[i]);
+        all = all & !stands(addresses, i + 1, count, addresses[i]);
         i += 1;
     }
     all

@@ -6,17 +6,17 @@ use Prim.Native.Nat.{_-_}
 use mathlib.Core.Path.{_≡_, refl, sym, _∙_}
 use mathlib.Core.Bool.{_||_, or-false}
 use lib.ListN.{length, take, drop, length-take}
-use Rattle.routers.specs.Routers.{among, any}
+use Rattle.routers.specs.Routers.{places, among, any}
 use Rattle.routers.proofs.Laws.{any-step, past}
 use Rattle.routers.proofs.stands.Statement.{statement}
 use Rattle.routers.proofs.stands.Tie as tie
 
 abbrev Inv-loop : tie.InvT-loop
-Inv-loop from n address addresses found₀ i₀ found i =
-    among address (drop from (take n addresses)) ≡ (found || among address (drop i (take n addresses)))
+Inv-loop from count address addresses n found₀ i₀ found i =
+    among address (drop from (take count addresses)) ≡ (found || among address (drop i (take count addresses)))
 
 abbrev μ-loop : tie.MeasureT-loop
-μ-loop from n address addresses found₀ i₀ found i = n - i
+μ-loop from count address addresses n found₀ i₀ found i = n - i
 
 loop-holds : tie.Need-loop-holds Inv-loop μ-loop
 loop-holds c = refl
@@ -24,17 +24,18 @@ loop-holds c = refl
 loop-again : tie.Need-loop-again Inv-loop μ-loop
 loop-again c =
     let b = c .before in
-    let a = b .before .args in
-    let whole : length (a .t1) ≡ 16 = search needs in
-    b .loop .inv ∙ any-step (a .n) (b .loop .i) (a .t1) 0 (omega (arith, length-take (a .n) (a .t1))) _ (b .loop .found)
+    let a = b .before .before .args in
+    let whole : length (a .t1) ≡ places = search needs in
+    b .loop .inv ∙ any-step (a .count) (b .loop .i) (a .t1) 0 (omega (arith, length-take (a .count) (a .t1))) _ (b .loop .found)
 
 returns : tie.Need-returns Inv-loop μ-loop
 unfolding any
 returns c =
     let b = c .before in
-    let a = b .before .args in
-    sym (b .loop .inv ∙ rw (past (a .n) (b .loop .i) (a .t1) (omega (arith, length-take (a .n) (a .t1))), or-false))
+    let a = b .before .before .args in
+    let whole : length (a .t1) ≡ places = search needs in
+    sym (b .loop .inv ∙ rw (past (a .count) (b .loop .i) (a .t1) (omega (arith, length-take (a .count) (a .t1))), or-false))
 
 pub stands-spec : {M : Type 1} → statement M
 stands-spec =
-    tie.close (tie.spec Inv-loop μ-loop loop-holds (omega arith) (omega arith) (omega arith) (omega arith) loop-again returns)
+    tie.close (tie.spec Inv-loop μ-loop (omega arith) loop-holds (omega arith) (omega arith) (omega arith) (omega arith) loop-again returns)
