@@ -1,0 +1,18 @@
+-- What document 01's tables say of an answer: the number given back, 0 where the call is not refused, and the values that go
+-- with it, in the order in which document 01 names them.
+use Prim.Native.Nat.{ℕ}
+use mathlib.Core.List.{List, []}
+use Rattle.refusals.specs.Refusals.{numberOf}
+use Rattle.refusals.specs.declared.Refusal.{Refusal}
+
+pub record Given : Type 0 where
+  pub number : ℕ
+  pub values : List ℕ
+
+-- a call that is not refused gives values alone
+abbrev pub answered : List ℕ → Given
+answered values = record { number = 0; values = values }
+
+-- a refusal gives its number alone
+abbrev pub refused : Refusal → Given
+refused r = record { number = numberOf r; values = [] }
