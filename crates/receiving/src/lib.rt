@@ -1,0 +1,130 @@
+// Receiving: whether a datagram is delivered, and which part of it.
+use header::fields;
+use header::inner;
+use header::inner::Inner;
+use header::outer;
+use header::outer::Outer;
+use refusals::Check;
+use refusals::Refusal;
+use routers::RouterList;
+use settings::Settings;
+ghost use mathlib.Core.Path.{_≡_};
+ghost use Rattle.routers.specs.Routers.{live};
+ghost use Rattle.receiving.specs.Receive.{embeds, isSourceRight, arrivalCheck, innerCheck, opened, arrived, receivedOf, partOf, receivedGiven};
+
+// The place of the inner packet in the datagram, or the number.
+pub enum Received {
+    Delivered { offset: usize, length: usize },
+    Refused(Refusal),
+}
+
+impl Received {
+    // Document 01's number, 0 where the datagram is delivered.
+    pub fn number(self) -> u8
+        ensures { λ r. ⌜ r ≡ receivedGiven self .number ⌝ }
+    {
+        match self {
+            Received::Delivered {
+                offset: _,
+                length: _,
+            } => 0,
+            Received::Refused(refusal) => refusal.number(),
+        }
+    }
+}
+
+// Whether the address is an ISATAP address that embeds v.
+fn embeds_it(settings: Settings, a: [u8; 16], v: u32) -> bool
+    ensures { λ r. ⌜ r ≡ embeds settings a v ⌝ }
+{
+    let found = settings.embedded(a);
+    match found {
+        address::Embedded::Ipv4(embedded) => embedded == v,
+        address::Embedded::Nothing => false,
+    }
+}
+
+// Numbers 6 and 7.
+fn check_arrival(settings: Settings, interface: u8, o: Outer) -> Check
+    ensures { λ r. ⌜ r ≡ arrivalCheck settings interface o ⌝ }
+{
+    if !settings.our_locator(o.destination, interface) {
+        return Check::Stop(Refusal::NotForUs);
+    }
+    if settings.forbidden_to(o.source) {
+        return Check::Stop(Refusal::OuterSourceForbidden);
+    }
+    Check::Pass
+}
+
+// Numbers 8, 9 and 10, where n bytes remain for the inner packet.
+fn check_inner(settings: Settings, listed: bool, source: u32, n: usize, i: Inner) -> Check
+    ensures { λ r. ⌜ r ≡ innerCheck settings listed source n i ⌝ }
+{
+    if inner::inner_malformed(n, i) {
+        return Check::Stop(Refusal::InnerMalformed);
+    }
+    let a = i.source;
+    let forbidden = settings.forbidden_to(address::last_quad(a));
+    if address::bad_source_with(forbidden, a) {
+        return Check::Stop(Refusal::InnerSourceBad);
+    }
+    if !(embeds_it(settings, a, source) | listed) {
+        return Check::Stop(Refusal::OuterSourceWrong);
+    }
+    Check::Pass
+}
+
+// What comes of a datagram whose outer header and arrival are right.
+fn open(settings: Settings, routers: RouterList, d: &[u8], o: Outer) -> Received
+    ensures { λ r. ⌜ r ≡ opened settings (live routers) (now (d .entry)) o ⌝ }
+{
+    let payload = outer::payload(d, o);
+    let i = inner::inner_header(payload);
+    let listed = routers.lists(o.source);
+    let check = check_inner(settings, listed, o.source, payload.len(), i);
+    match check {
+        Check::Pass => Received::Delivered {
+            offset: o.header,
+            length: i.length,
+        },
+        Check::Stop(refusal) => Received::Refused(refusal),
+    }
+}
+
+// What comes of a datagram whose outer header is right.
+fn arrive(settings: Settings, routers: RouterList, d: &[u8], interface: u8, o: Outer) -> Received
+    ensures { λ r. ⌜ r ≡ arrived settings (live routers) (now (d .entry)) interface o ⌝ }
+{
+    let check = check_arrival(settings, interface, o);
+    match check {
+        Check::Pass => open(settings, routers, d, o),
+        Check::Stop(refusal) => Received::Refused(refusal),
+    }
+}
+
+// What comes of a datagram that arrives on an interface.
+pub fn receive(settings: Settings, routers: RouterList, d: &[u8], interface: u8) -> Received
+    ensures { λ r. ⌜ r ≡ receivedOf settings (live routers) (now (d .entry)) interface ⌝ }
+{
+    let o = outer::outer_header(d);
+    let check = outer::check_outer(d.len(), d, o);
+    match check {
+        Check::Pass => arrive(settings, routers, d, interface, o),
+        Check::Stop(refusal) => Received::Refused(refusal),
+    }
+}
+
+// The inner packet in the datagram, empty after a refusal.
+pub fn part(d: &[u8], received: Received) -> &[u8]
+    ensures { λ r. ⌜ now r ≡ partOf received (now (d .entry)) ⌝ }
+{
+    match received {
+        Received::Delivered { offset, length } => {
+            let behind = fields::tail(d, offset);
+            let end = fields::least(length, behind.len());
+            &behind[..end]
+        }
+        Received::Refused(_) => &d[..0],
+    }
+}
