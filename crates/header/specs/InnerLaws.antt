@@ -1,20 +1,42 @@
--- What a packet that is not malformed has. Assumes nothing.
+-- What an inner packet that is not malformed has. Assumes nothing.
 use Prim.Native.Nat.{ℕ, _≤_}
 use mathlib.Core.Path.{_≡_}
-use mathlib.Core.Bool.{false, not, _||_}
-use borrow.Author.Tests.{ltb-false}
+use mathlib.Core.Bool.{false, not}
+use borrow.Author.Tests.{ltb-false, eqb-true, not-false, le-ltb, eq-eqb}
 use lib.Dec.{eqb, ltb}
-use Rattle.lists.specs.Tests.{or-left, or-right}
+use Rattle.lists.specs.Tests.{or-three}
 use Rattle.header.specs.Inner.{isInnerMalformed, isPacketMalformed}
 use Rattle.header.specs.declared.inner.Inner.{Inner}
 
--- a received packet is not cut off
-pub inner-fits : (n : ℕ) (i : Inner) → isInnerMalformed n i ≡ false → i .length ≤ n
-unfolding isInnerMalformed
-inner-fits n i h = ltb-false _ _ (or-right (ltb n 40 || not (eqb (i .version) 6)) (ltb n (i .length)) h)
+-- a whole IPv6 packet, where n bytes remain for it
+pub record WholeInner (n : ℕ) (i : Inner) : Type 0 where
+  pub some : 40 ≤ n
+  pub version : i .version ≡ 6
+  pub whole : i .length ≤ n
 
--- a packet to send has a header
-pub packet-whole : (n : ℕ) (i : Inner) → isPacketMalformed n i ≡ false → 40 ≤ n
-unfolding isPacketMalformed
-packet-whole n i h =
-    ltb-false _ _ (or-left (ltb n 40) (not (eqb (i .version) 6)) (or-left (ltb n 40 || not (eqb (i .version) 6)) (not (eqb n (i .length))) h))
+-- an IPv6 packet of n bytes and no byte behind it
+pub record WholePacket (n : ℕ) (i : Inner) : Type 0 where
+  pub some : 40 ≤ n
+  pub version : i .version ≡ 6
+  pub exact : n ≡ i .length
+
+module _ (n : ℕ) (i : Inner) where
+  pub inner-whole : isInnerMalformed n i ≡ false → WholeInner n i
+  unfolding isInnerMalformed
+  inner-whole h =
+      let f = or-three (ltb n 40) (not (eqb (i .version) 6)) (ltb n (i .length)) h in
+      record { some = ltb-false _ _ (f .0); version = eqb-true _ _ (not-false _ (f .1)); whole = ltb-false _ _ (f .2) }
+
+  pub whole-inner : WholeInner n i → isInnerMalformed n i ≡ false
+  unfolding isInnerMalformed
+  whole-inner w = simp (le-ltb n 40 (w .some), eq-eqb (i .version) 6 (w .version), le-ltb n (i .length) (w .whole))
+
+  pub packet-whole : isPacketMalformed n i ≡ false → WholePacket n i
+  unfolding isPacketMalformed
+  packet-whole h =
+      let f = or-three (ltb n 40) (not (eqb (i .version) 6)) (not (eqb n (i .length))) h in
+      record { some = ltb-false _ _ (f .0); version = eqb-true _ _ (not-false _ (f .1)); exact = eqb-true _ _ (not-false _ (f .2)) }
+
+  pub whole-packet : WholePacket n i → isPacketMalformed n i ≡ false
+  unfolding isPacketMalformed
+  whole-packet w = simp (le-ltb n 40 (w .some), eq-eqb (i .version) 6 (w .version), eq-eqb n (i .length) (w .exact))

@@ -1,5 +1,6 @@
 pub mod Fields
 pub mod Outer
+pub mod OuterLaws
 pub mod Inner
 pub mod InnerLaws
 pub mod Wrap

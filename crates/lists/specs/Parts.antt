@@ -1,11 +1,11 @@
 -- Parts of a list whose ends lie anywhere: a count past the end is read as the length. Assumes nothing.
-use Prim.Native.Nat.{ℕ, zero, suc, _-_, min}
-use mathlib.Core.Path.{_≡_, sym, _∙_}
+use Prim.Native.Nat.{ℕ, zero, suc, _+_, _-_, _≤_, min}
+use mathlib.Core.Path.{_≡_, sym, ap, _∙_}
 use mathlib.Core.List.{List, [], _∷_, map}
 use native.Mathlib.Nat.{min-zero, zero-min, suc-min-suc}
 use native.Mathlib.Omega.{arith}
 use lib.ListN.{length, take, drop, length-drop, length-map}
-use lib.Seq.{take-all}
+use lib.Seq.{take-all, take-add, drop-at, length-take-le}
 
 module _ {A : Type 0} where
   pub take-least : (n : ℕ) (xs : List A) → take (min n (length xs)) xs ≡ take n xs
@@ -21,6 +21,12 @@ module _ {A : Type 0} where
   -- the part of a slice from k to its end, where k is n or the end
   pub part-from : (n k : ℕ) (xs : List A) → k ≡ min n (length xs) → take (length xs - k) (drop k xs) ≡ drop n xs
   part-from n k xs h = take-all (length xs - k) (drop k xs) (omega (arith, length-drop k xs)) ∙ rw h (drop-least n xs)
+
+  -- the part from k to n, in either order
+  pub drop-take : (k n : ℕ) (xs : List A) → k ≤ n → k ≤ length xs → drop k (take n xs) ≡ take (n - k) (drop k xs)
+  drop-take k n xs h l =
+      let e : n ≡ k + (n - k) = omega arith in
+      ap (λ (m : ℕ). drop k (take m xs)) e ∙ rw take-add (drop-at (take k xs) _ k (length-take-le k xs l))
 
 -- a list is as long as the list of what a function makes of its elements
 pub unmapped : {X Y : Type 0} (f : X → Y) (xs : List X) (n : ℕ) → length (map f xs) ≡ n → length xs ≡ n

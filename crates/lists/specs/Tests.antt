@@ -1,4 +1,4 @@
--- What two tests that are joined and fail say of each. Assumes nothing.
+-- What tests that are joined by `||` and all fail say of each. Assumes nothing.
 use mathlib.Core.Path.{_≡_}
 use mathlib.Core.Bool.{Bool, true, false, _||_}
 
@@ -9,3 +9,16 @@ or-left false b h = cc
 pub or-right : (a b : Bool) → (a || b) ≡ false → b ≡ false
 or-right true b h = cc
 or-right false b h = h
+
+module _ (a b c : Bool) (h : (a || b || c) ≡ false) where
+  pub or-three : (a ≡ false) × (b ≡ false) × (c ≡ false)
+  or-three =
+      let ab = or-left (a || b) c h in
+      (or-left a b ab, or-right a b ab, or-right (a || b) c h)
+
+pub or-six : (a b c d e f : Bool) → (a || b || c || d || e || f) ≡ false
+    → ((a ≡ false) × (b ≡ false) × (c ≡ false)) × ((d ≡ false) × (e ≡ false) × (f ≡ false))
+or-six a b c d e f h =
+    let abcde = or-left (a || b || c || d || e) f h in
+    let abcd = or-left (a || b || c || d) e abcde in
+    (or-three a b c (or-left (a || b || c) d abcd), (or-right (a || b || c) d abcd, or-right (a || b || c || d) e abcde, or-right (a || b || c || d || e) f h))

@@ -5,10 +5,11 @@ use mathlib.Core.List.{List, [], _∷_, _++_, append-assoc}
 use native.Mathlib.Omega.{arith}
 use native.Mathlib.Nat.{zero-add}
 use lib.ListN.{length, take, drop, length-append, length-drop, take-append-drop}
-use lib.Seq.{take-add, take-at, drop-at, drop-drop, length-take-le, take-append-add, drop-append-add}
+use lib.Seq.{take-at, drop-at, drop-drop, length-take-le, take-append-add, drop-append-add}
 use Rattle.checksum.specs.Sum.{onesSumFrom, onesComplement}
 use Rattle.checksum.specs.Bytes.{Bytes, bytes-take, bytes-drop}
 use Rattle.checksum.specs.Laws.{wordSum, sum-moved}
+use Rattle.lists.specs.Parts.{drop-take}
 use Rattle.lent.specs.Written.{written, over}
 use Rattle.lent.specs.Laws.{length-over, written-again}
 use Rattle.header.specs.Wrap.{be16, be32}
@@ -24,11 +25,6 @@ tail-sum k h = omega arith
 
 -- one pass over an ICMPv6 packet of n bytes, from the source address on, gives the sum with its pseudo header
 module _ (n : ℕ) (d : List ℕ) (least : 40 ≤ n) (most : n ≤ 65575) (fits : n ≤ length d) (bytes : Bytes d) where
-  behind-8 : take (n - 8) (drop 8 d) ≡ drop 8 (take n d)
-  behind-8 =
-      let e : n ≡ 8 + (n - 8) = omega arith in
-      sym (ap (λ (k : ℕ). drop 8 (take k d)) e ∙ rw take-add (drop-at (take 8 d) _ 8 (length-take-le 8 d (omega arith))))
-
   pub one-pass : onesSumFrom (n - 40 + 58) (take (n - 8) (drop 8 d)) ≡ icmpSum (take 32 (drop 8 (take n d))) (drop 40 (take n d))
   unfolding icmpSum
   one-pass =
@@ -41,7 +37,7 @@ module _ (n : ℕ) (d : List ℕ) (least : 40 ≤ n) (most : n ≤ 65575) (fits 
       let split : drop 8 p ≡ a ++ m = sym (ap (λ (l : List ℕ). a ++ l) (sym (drop-drop 32 8 p)) ∙ take-append-drop 32 (drop 8 p)) in
       let t : 0 + wordSum (pseudoTail (n - 40)) ≡ n - 40 + 58 = zero-add _ ∙ tail-sum (n - 40) (omega arith) in
       let parts : Bytes p = bytes-take n d bytes in
-      ap (λ (l : List ℕ). onesSumFrom (n - 40 + 58) l) (behind-8 ∙ split)
+      ap (λ (l : List ℕ). onesSumFrom (n - 40 + 58) l) (sym (drop-take 8 n d (omega arith) (omega arith)) ∙ split)
       ∙ sym
       (ap (λ (k : ℕ). onesSumFrom 0 (a ++ (pseudoTail k ++ m))) lm
       ∙ sum-moved 0 a (pseudoTail (n - 40)) m (omega arith) refl (omega arith) (bytes-take 32 (drop 8 p) (bytes-drop 8 p parts)) (omega arith) (bytes-drop 40 p parts)

@@ -1,7 +1,7 @@
 -- Receiving (document 01, "Receiving"): the order 2 to 10.
 use Prim.Native.Nat.{ℕ}
 use mathlib.Core.Bool.{Bool, false, not, _||_}
-use mathlib.Core.List.{List, [], _∷_, _++_}
+use mathlib.Core.List.{List, [], _∷_}
 use lib.ListN.{length, take, drop}
 use lib.Dec.{eqb}
 use Rattle.address.specs.Address.{lastQuad, isBadSourceWith}
@@ -25,12 +25,14 @@ use Rattle.receiving.specs.declared.Received.{Received}
 use Rattle.receiving.specs.declared.Received.the-variants.{Delivered, Refused}
 
 -- 6: destination and arrival interface match no locator; 7: outer source forbidden
-unfoldable pub arrivalCheck : Settings → ℕ → Outer → Check
-arrivalCheck s interface o =
-    firstOf
-    ((not (isOurLocator s (o .destination) interface), NotForUs)
+abbrev pub arrivalRows : Settings → ℕ → Outer → List (Bool × Refusal)
+arrivalRows s interface o =
+    (not (isOurLocator s (o .destination) interface), NotForUs)
     ∷ ((forbiddenTo s (o .source), OuterSourceForbidden)
-    ∷ []))
+    ∷ [])
+
+unfoldable pub arrivalCheck : Settings → ℕ → Outer → Check
+arrivalCheck s interface o = firstOf (arrivalRows s interface o)
 
 abbrev pub isEmbedded : Embedded → ℕ → Bool
 isEmbedded (Ipv4 a) v = eqb a v
@@ -45,13 +47,15 @@ abbrev pub isSourceRight : Settings → Bool → ℕ → List ℕ → Bool
 isSourceRight s isListed source a = embeds s a source || isListed
 
 -- 8: inner packet malformed, where n bytes remain; 9: inner source bad; 10: outer source wrong for inner source
-unfoldable pub innerCheck : Settings → Bool → ℕ → ℕ → Inner → Check
-innerCheck s isListed source n i =
-    firstOf
-    ((isInnerMalformed n i, InnerMalformed)
+abbrev pub innerRows : Settings → Bool → ℕ → ℕ → Inner → List (Bool × Refusal)
+innerRows s isListed source n i =
+    (isInnerMalformed n i, InnerMalformed)
     ∷ ((isBadSourceWith (forbiddenTo s (lastQuad (i .source))) (i .source), InnerSourceBad)
     ∷ ((not (isSourceRight s isListed source (i .source)), OuterSourceWrong)
-    ∷ [])))
+    ∷ []))
+
+unfoldable pub innerCheck : Settings → Bool → ℕ → ℕ → Inner → Check
+innerCheck s isListed source n i = firstOf (innerRows s isListed source n i)
 
 -- the refusal, if a stage has one; else what comes of the later stages
 abbrev pub stopOr : Check → Received → Received

@@ -10,7 +10,7 @@ use routers::RouterList;
 use settings::Settings;
 ghost use mathlib.Core.Path.{_≡_};
 ghost use Rattle.routers.specs.Routers.{live};
-ghost use Rattle.receiving.specs.Receive.{embeds, isSourceRight, arrivalCheck, innerCheck, opened, arrived, receivedOf, partOf, receivedGiven};
+ghost use Rattle.receiving.specs.Receive.{embeds, arrivalCheck, innerCheck, opened, arrived, receivedOf, partOf, receivedGiven};
 
 // The place of the inner packet in the datagram, or the number.
 pub enum Received {

@@ -3,7 +3,7 @@ use native.Mathlib.Omega.{arith}
 use mathlib.Core.Path.{sym, _∙_}
 use lib.ListN.{length-take}
 use Rattle.header.specs.Inner.{innerPacketOf}
-use Rattle.header.specs.InnerLaws.{inner-fits}
+use Rattle.header.specs.InnerLaws.{inner-whole}
 use Rattle.header.proofs.inner.inner_packet.Statement.{statement}
 use Rattle.header.proofs.inner.inner_packet.Tie as tie
 
@@ -12,7 +12,7 @@ unfolding innerPacketOf
 returns c = simp (← c .before .before .before .inner-header .ensures, ← c .before .before .inner-malformed .ensures, c .before .if1 .taken)
 
 slice-aggregate-result-2 : tie.Need-slice-aggregate-result-2
-slice-aggregate-result-2 c = let fits = inner-fits _ _ (sym (c .before .before .inner-malformed .ensures) ∙ c .before .if1 .left) in simp length-take (omega arith)
+slice-aggregate-result-2 c = let fits = inner-whole _ _ (sym (c .before .before .inner-malformed .ensures) ∙ c .before .if1 .left) in simp length-take (omega arith)
 
 returns-2 : tie.Need-returns-2
 unfolding innerPacketOf
