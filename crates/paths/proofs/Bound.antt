@@ -63,49 +63,53 @@ module _ (limit : ℕ → ℕ) (grows : Grows limit) where
     sent false big n M same over b heeds = b ms heeds
 
   module _ (link : ℕ) where
+    abbrev size : List Report → ℕ → ℕ → ℕ
+    size es now w = sizeToward plain link es now w
+
     -- what is accepted is below the link's size
-    small-report : (es : List Report) → Small link es → (now w c : ℕ) (b : Bool) → isBelow c (sizeToward plain link es now w) ≡ b
+    small-report : (es : List Report) → Small link es → (now w c : ℕ) (b : Bool) → isBelow c (size es now w) ≡ b
         → Small link (remembered plain es now (cond b (accepted w c) notBelow))
-    small-report es small now w c true h = (omega (arith, ltb-true c (sizeToward plain link es now w) h, size-small link es small w now), small)
+    small-report es small now w c true h = (omega (arith, ltb-true c (size es now w) h, size-small link es small w now), small)
     small-report es small now w c false h = small
 
+    -- a sending leaves the record as it was
     unsent : (es : List Report) (now m : ℕ) (b : Bool) → remembered plain es now (cond b (tooBig m) other) ≡ es
     unsent es now m true = refl
     unsent es now m false = refl
 
     small-after : (es : List Report) → Small link es → (now : ℕ) (x : Call) → Small link (remembered plain es now (answer plain limit link es now x))
     small-after es small now (clock t) = small
-    small-after es small now (report w c) = small-report es small now w c (isBelow c (sizeToward plain link es now w)) refl
-    small-after es small now (send mine w n fits) =
-        let M : ℕ = limit (sizeToward plain link es now w) in
-        rw (unsent es now M (ltb M n && fits)) small
+    small-after es small now (report w c) = small-report es small now w c (isBelow c (size es now w)) refl
+    small-after es small now (send mine w n fits) = let M : ℕ = limit (size es now w) in rw (unsent es now M (ltb M n && fits)) small
 
     module _ (v : ℕ) where
-      pub bounded : (xs : List Call) (es : List Report) → Small link es → (now : ℕ) (ms : List ℕ)
-          → Bounded ms (sizeToward plain link es now v) (eventsOf v (history plain limit link es now xs))
+      -- what the sender meets from then on
+      abbrev met : List Report → ℕ → List Call → List Event
+      met es now xs = eventsOf v (history plain limit link es now xs)
+
+      bounded : (xs : List Call) (es : List Report) → Small link es → (now : ℕ) (ms : List ℕ) → Bounded ms (size es now v) (met es now xs)
       bounded [] es small now ms = λ heeds. (omega arith, λ f. omega arith)
       bounded (clock t ∷ xs) es small now ms =
-          raised (eventsOf v (history plain limit link es (max now t) xs)) ms (sizeToward plain link es now v) (sizeToward plain link es (max now t) v)
-          (size-later link es small v now (max now t) (omega arith)) (bounded xs es small (max now t) ms)
+          raised (met es (max now t) xs) ms (size es now v) (size es (max now t) v) (size-later link es small v now (max now t) (omega arith))
+          (bounded xs es small (max now t) ms)
       bounded (report w c ∷ xs) es small now ms =
           let e : Report = record { neighbour = w; size = c; time = now } in
           ⊎-elim
-          (λ h. rw h (reported (eventsOf v (history plain limit link (e ∷ es) now xs)) ms (sizeToward plain link es now v) (eqb w v)
-          (sizeToward plain link (e ∷ es) now v) (size-others link es small v now e) (bounded xs (e ∷ es) (rw h at (small-after es small now (report w c))) now ms)))
+          (λ h. rw h (reported (met (e ∷ es) now xs) ms (size es now v) (eqb w v) (size (e ∷ es) now v) (size-others link es small v now e)
+          (bounded xs (e ∷ es) (rw h at (small-after es small now (report w c))) now ms)))
           (λ h. rw h (bounded xs es small now ms))
-          (tested (isBelow c (sizeToward plain link es now w)))
+          (tested (isBelow c (size es now w)))
       bounded (send mine w n fits ∷ xs) es small now ms =
-          let M : ℕ = limit (sizeToward plain link es now w) in
+          let M : ℕ = limit (size es now w) in
           rw (unsent es now M (ltb M n && fits))
-          (sent (eventsOf v (history plain limit link es now xs)) ms (sizeToward plain link es now v) (mine && eqb w v) (ltb M n && fits) n M
-          (λ own. ap (λ (u : ℕ). limit (sizeToward plain link es now u)) (eqb-true w v (and-right mine (eqb w v) own)))
+          (sent (met es now xs) ms (size es now v) (mine && eqb w v) (ltb M n && fits) n M
+          (λ own. ap (λ (u : ℕ). limit (size es now u)) (eqb-true w v (and-right mine (eqb w v) own)))
           (λ big. ltb-true M n (and-left (ltb M n) fits big))
           (bounded xs es small now))
 
-      pub from-first : (xs : List Call) (es : List Report) → Small link es → (now : ℕ) → Bound (eventsOf v (history plain limit link es now xs))
+      pub from-first : (xs : List Call) (es : List Report) → Small link es → (now : ℕ) → Bound (met es now xs)
       from-first [] es small now = λ heeds. omega arith
       from-first (x ∷ xs) es small now =
           let a : Answer = answer plain limit link es now x in
-          started (eventOf v x a) (eventsOf v (history plain limit link (remembered plain es now a) (latest now x) xs))
-          (λ heeds. bounded (x ∷ xs) es small now [] heeds .0)
+          started (eventOf v x a) (met (remembered plain es now a) (latest now x) xs) (λ heeds. bounded (x ∷ xs) es small now [] heeds .0)
           (from-first xs (remembered plain es now a) (small-after es small now x) (latest now x))
