@@ -1,9 +1,9 @@
--- The laws behind the proofs: Scan of the code's loops, Reports of lists of reports, Rows of the table's arrays, Same of the table
+-- The laws behind the proofs: Scan of the code's loops, Reports of lists of reports, Arrays of the table's arrays, Same of the table
 -- against the record, Answers of calls on both, Rise of the record's sizes, Bound of a sender's Too Big answers, Heard of the
 -- events that matter to it, Largest of the plateaus; Holds has what is claimed of the whole.
 pub mod Scan
 pub mod Reports
-pub mod Rows
+pub mod Arrays
 pub mod Same
 pub mod Answers
 pub mod Rise

@@ -1,12 +1,15 @@
 // The path sizes that a tunnel end keeps: at most 64 neighbours, the newest accepted report first.
 pub mod packets;
 pub mod reported;
+mod rows;
 
+use rows::place;
+use rows::push_number;
+use rows::push_size;
 ghost use mathlib.Core.Path.{_≡_};
-ghost use Prim.Native.Nat.{_<_, _≤_, min, max};
-ghost use lib.ListN.{length, take};
-ghost use Rattle.paths.specs.Kept.{mostNeighbours, whileYoung, inForce};
-ghost use Rattle.paths.specs.Table.{noReports, keptIn, tableAfter, placeOf, pushed};
+ghost use Prim.Native.Nat.{min, max};
+ghost use Rattle.paths.specs.Kept.{whileYoung, inForce};
+ghost use Rattle.paths.specs.Table.{noReports, keptIn, tableAfter};
 
 // How many neighbours are kept.
 const NEIGHBOURS: usize = 64;
@@ -97,51 +100,6 @@ fn while_young(size: u16, time: u32, now: u32) -> Kept
         Kept::Size(size)
     } else {
         Kept::Nothing
-    }
-}
-
-// The place of a neighbour among the first `count`, or `count`.
-fn place(neighbours: &[u32], count: usize, neighbour: u32) -> usize
-    requires { ⌜ count ≤ length (now neighbours) ⌝ }
-    ensures { λ r. ⌜ r ≡ placeOf neighbour (take count (now (neighbours .entry))) ⌝ }
-{
-    let mut i: usize = 0;
-    while i < count {
-        if neighbours[i] == neighbour {
-            return i;
-        }
-        i = i + 1;
-    }
-    i
-}
-
-// A row with one more in front, and the one at `last` gone.
-fn push_number(row: &mut [u32; NEIGHBOURS], first: u32, last: usize)
-    requires { ⌜ (last < mostNeighbours) × (length (now row) ≡ mostNeighbours) ⌝ }
-    ensures { λ _. ⌜ now (row .exit) ≡ pushed first last (now (row .entry)) ⌝ }
-{
-    let mut carried = first;
-    let mut i: usize = 0;
-    while i <= last {
-        let next = row[i];
-        row[i] = carried;
-        carried = next;
-        i = i + 1;
-    }
-}
-
-// The same for the row of sizes.
-fn push_size(row: &mut [u16; NEIGHBOURS], first: u16, last: usize)
-    requires { ⌜ (last < mostNeighbours) × (length (now row) ≡ mostNeighbours) ⌝ }
-    ensures { λ _. ⌜ now (row .exit) ≡ pushed first last (now (row .entry)) ⌝ }
-{
-    let mut carried = first;
-    let mut i: usize = 0;
-    while i <= last {
-        let next = row[i];
-        row[i] = carried;
-        carried = next;
-        i = i + 1;
     }
 }
 

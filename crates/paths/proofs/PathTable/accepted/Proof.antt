@@ -3,7 +3,7 @@ use native.Mathlib.Omega.{arith}
 use borrow.Author.Needs.{needs}
 use lib.ListN.{length}
 use Rattle.paths.specs.Kept.{mostNeighbours}
-use Rattle.paths.proofs.Rows.{Scanned, made}
+use Rattle.paths.proofs.Arrays.{Scanned, made}
 use Rattle.paths.proofs.PathTable.accepted.Statement.{statement}
 use Rattle.paths.proofs.PathTable.accepted.Tie as tie
 

@@ -4,7 +4,7 @@ use borrow.Author.Needs.{needs}
 use borrow.Author.Tests.{lt-ltb, le-ltb}
 use lib.ListN.{length}
 use Rattle.paths.specs.Kept.{mostNeighbours}
-use Rattle.paths.proofs.Rows.{Scanned, kept-at}
+use Rattle.paths.proofs.Arrays.{Scanned, kept-at}
 use Rattle.paths.proofs.PathTable.kept.Statement.{statement}
 use Rattle.paths.proofs.PathTable.kept.Tie as tie
 

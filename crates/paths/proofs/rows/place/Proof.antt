@@ -5,8 +5,8 @@ use borrow.Author.Needs.{needs}
 use lib.ListN.{take, drop, length-take}
 use Rattle.paths.specs.Table.{placeOf}
 use Rattle.paths.proofs.Scan.{place-hit, place-miss, place-end}
-use Rattle.paths.proofs.place.Statement.{statement}
-use Rattle.paths.proofs.place.Tie as tie
+use Rattle.paths.proofs.rows.place.Statement.{statement}
+use Rattle.paths.proofs.rows.place.Tie as tie
 
 abbrev Inv-loop : tie.InvT-loop
 Inv-loop neighbours count neighbour i₀ i =

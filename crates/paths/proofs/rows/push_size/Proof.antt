@@ -3,8 +3,8 @@ use Prim.Native.Nat.{suc, _-_}
 use native.Mathlib.Omega.{arith}
 use borrow.Author.Needs.{needs}
 use Rattle.paths.proofs.Scan.{Shifting, shift-turn, shift-end}
-use Rattle.paths.proofs.push_number.Statement.{statement}
-use Rattle.paths.proofs.push_number.Tie as tie
+use Rattle.paths.proofs.rows.push_size.Statement.{statement}
+use Rattle.paths.proofs.rows.push_size.Tie as tie
 
 abbrev Inv-loop : tie.InvT-loop
 Inv-loop row₀ first last carried₀ i₀ row carried i = Shifting first last row₀ row carried i
@@ -27,7 +27,7 @@ returns c =
     let a = b .before .args in
     shift-end (a .first) (a .last) (a .row .now) (b .loop .row) (b .loop .carried) (b .loop .i) (b .loop .inv) (omega arith)
 
-pub push-number-spec : {M : Type 1} → statement M
-push-number-spec =
+pub push-size-spec : {M : Type 1} → statement M
+push-size-spec =
     tie.close
     (tie.spec Inv-loop μ-loop loop-holds (search needs) (omega arith) (search needs) (omega arith) (omega arith) (omega arith) loop-again returns)
