@@ -38,15 +38,17 @@ infinite = 0xffff_ffff
 abbrev pub counts : ℕ → Bool
 counts l = ltb 0 l && ltb l infinite
 
+-- the lifetimes that count
 unfoldable pub counted : List ℕ → List ℕ
 counted [] = []
 counted (l ∷ ls) = cond (counts l) (l ∷ counted ls) (counted ls)
 
--- "Routers": the smallest lifetime, of those that count
+-- the least of a lifetime and others
 unfoldable pub least : ℕ → List ℕ → ℕ
 least l [] = l
 least l (k ∷ ks) = least (min l k) ks
 
+-- "Routers": the smallest lifetime, if there is one
 abbrev pub smallestOf : List ℕ → Smallest
 smallestOf [] = NoneCounts
 smallestOf (l ∷ ls) = Seconds (least l ls)

@@ -14,6 +14,7 @@ unitBytes = 8
 abbrev pub IsOption : List ℕ → Type 0
 IsOption o = (0 < length o) × (length o ≡ getD o 1 0 * unitBytes)
 
+-- a list of options
 unfoldable pub AreOptions : List (List ℕ) → Type 0
 AreOptions [] = Unit {0}
 AreOptions (o ∷ os) = IsOption o × AreOptions os
@@ -31,6 +32,7 @@ optionsFrom zero (b ∷ bs) =
     let size = sizeAt (b ∷ bs) in
     cond (eqb size 0) [] (take size (b ∷ bs) ∷ optionsFrom (pred size) bs)
 
+-- the options of a message
 abbrev pub optionsOf : List ℕ → List (List ℕ)
 optionsOf bs = optionsFrom 0 bs
 

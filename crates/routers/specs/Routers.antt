@@ -57,6 +57,7 @@ dueIf a d r = record { address = r .address; due = cond (eqb (r .address) a) d (
 abbrev pub rescheduled : ℕ → ℕ → List Router → List Router
 rescheduled a d rs = map (dueIf a d) rs
 
+-- the same at every place of a list, in force or behind the count
 abbrev pub rescheduledOf : ℕ → ℕ → RouterList → RouterList
 rescheduledOf a d l = record { routers = rescheduled a d (l .routers); count = l .count }
 
@@ -64,6 +65,7 @@ rescheduledOf a d l = record { routers = rescheduled a d (l .routers); count = l
 abbrev pub kept : ℕ → List Router → ℕ → Router
 kept now old a = record { address = a; due = dueOr now a old }
 
+-- "Settings": the router list replaced, with a time; a count above 16 is read as 16, here as everywhere
 abbrev pub replacedOf : List ℕ → ℕ → ℕ → RouterList → RouterList
 replacedOf addresses n now l = record { routers = map (kept now (live l)) addresses; count = n }
 
