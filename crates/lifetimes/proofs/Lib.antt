@@ -3,3 +3,4 @@ pub mod Sizes
 pub mod Steps
 pub mod Whole
 pub mod PutOff
+pub mod Least

@@ -46,10 +46,10 @@ Unheard v a (other u ∷ cs) = Unheard v a cs
 -- there are routers
 abbrev pub Fair : Type 0
 Fair =
-    (v t : ℕ) (r : Router) (rs : List Router) (cs : List Call)
-    → 1 ≤ v
+    (interval latest : ℕ) (r : Router) (rs : List Router) (cs : List Call)
+    → 1 ≤ interval
     → List·Memᴰ r rs
-    → r .due ≤ t
-    → Unheard v (r .address) cs
-    → length rs ≤ length (served v t rs cs)
-    → List·Memᴰ (r .address) (take (length rs) (served v t rs cs))
+    → r .due ≤ latest
+    → Unheard interval (r .address) cs
+    → length rs ≤ length (served interval latest rs cs)
+    → List·Memᴰ (r .address) (take (length rs) (served interval latest rs cs))
