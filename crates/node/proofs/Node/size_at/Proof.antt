@@ -1,0 +1,14 @@
+-- `node::Node::size_at` meets its contract: the kept size, over the link. Assumes nothing.
+use native.Mathlib.Omega.{arith}
+use Rattle.node.specs.Node.{sizeAt}
+use Rattle.node.proofs.Node.size_at.Statement.{statement}
+use Rattle.node.proofs.Node.size_at.Tie as tie
+
+returns : tie.Need-returns
+unfolding sizeAt
+returns c = rw (c .in-force .ensures, c .before .kept .ensures)
+
+pub size-at-spec : {M : Type 1} → statement M
+size-at-spec =
+    tie.close
+    (tie.spec (omega arith) (omega arith) returns)

@@ -1,0 +1,56 @@
+-- The node: how it is made, its latest time and its sizes.
+use Prim.Native.Nat.{ℕ, max}
+use mathlib.Core.Bool.{cond}
+use mathlib.Core.List.{List}
+use lib.ListN.{replicate}
+use Rattle.paths.specs.Kept.{inForce}
+use Rattle.paths.specs.Table.{noReports, keptIn}
+use Rattle.refusals.specs.declared.Refusal.the-variants as refusal
+use Rattle.routers.specs.Routers.{newOf}
+use Rattle.settings.specs.Locators.{noLocator}
+use Rattle.settings.specs.Settings.{isAccepted}
+use Rattle.settings.specs.declared.Settings.{Settings}
+use Rattle.node.specs.declared.Node.{Node}
+use Rattle.node.specs.declared.Setup.{Setup}
+use Rattle.node.specs.declared.SetupAnswer.the-variants.{Made, Refused}
+
+-- document 01, "Settings": at setup all routers are due at time 0; "The node keeps the latest time seen, 0 at setup"
+unfoldable pub nodeOf : Settings → Node
+nodeOf s = record {
+  service = record { settings = s; routers = newOf (s .routers) (s .«router_count»); identification = s .identification };
+  paths = noReports;
+  latest = 0;
+}
+
+-- settings without a locator, a prefix or a router
+abbrev pub noSettings : Settings
+noSettings = record {
+  locators = replicate 8 noLocator;
+  «locator_count» = 0;
+  prefixes = replicate 64 0;
+  «prefix_count» = 0;
+  routers = replicate 16 0;
+  «router_count» = 0;
+  «link_size» = 0;
+  ttl = 0;
+  interval = 0;
+  identification = 0;
+  reporting = replicate 16 0;
+}
+
+-- 1: the settings break the rules; refused settings make no state, and a node that has nothing of them stands in its place
+unfoldable pub setupOf : Settings → Setup
+setupOf s =
+    cond (isAccepted s) (record { answer = Made; node = nodeOf s }) (record { answer = Refused refusal.Settings; node = nodeOf noSettings })
+
+-- "an earlier one is read as the latest"
+unfoldable pub raisedTo : Node → ℕ → Node
+raisedTo node time = record { service = node .service; paths = node .paths; latest = max (node .latest) time }
+
+-- the size in force toward a neighbour at a time
+unfoldable pub sizeAt : Node → ℕ → ℕ → ℕ
+sizeAt node v now = inForce (node .service .settings .«link_size») (keptIn (node .paths) v now)
+
+-- the size in force toward a neighbour, at the latest time seen
+unfoldable pub sizeOf : Node → ℕ → ℕ
+sizeOf node v = sizeAt node v (node .latest)

@@ -1,0 +1,131 @@
+// One tunnel end: what it keeps, and the calls on it. A call takes the node and hands back the next one.
+pub mod receive;
+pub mod report;
+
+use paths::PathTable;
+use refusals::Refusal;
+use routers::RouterList;
+use settings::Settings;
+use settings::locators::Locator;
+ghost use mathlib.Core.Path.{_≡_};
+ghost use Prim.Native.Nat.{max};
+ghost use Rattle.node.specs.Node.{noSettings, nodeOf, setupOf, raisedTo, sizeAt, sizeOf};
+
+// What one service of a node owns.
+pub struct Service {
+    pub settings: Settings,
+    pub routers: RouterList,
+    // The identification of the next packet that is wrapped.
+    pub identification: u16,
+}
+
+pub struct Node {
+    pub service: Service,
+    pub paths: PathTable,
+    // The latest time seen.
+    pub latest: u32,
+}
+
+pub enum SetupAnswer {
+    Made,
+    Refused(Refusal),
+}
+
+pub struct Setup {
+    pub answer: SetupAnswer,
+    pub node: Node,
+}
+
+fn no_settings() -> Settings
+    ensures { λ r. ⌜ r ≡ noSettings ⌝ }
+{
+    let locators = [Locator {
+        address: 0,
+        interface: 0,
+    }; 8];
+    Settings {
+        locators,
+        locator_count: 0,
+        prefixes: [0; 64],
+        prefix_count: 0,
+        routers: [0; 16],
+        router_count: 0,
+        link_size: 0,
+        ttl: 0,
+        interval: 0,
+        identification: 0,
+        reporting: [0; 16],
+    }
+}
+
+// The later of two times.
+fn later(a: u32, b: u32) -> u32
+    ensures { λ r. ⌜ r ≡ max a b ⌝ }
+{
+    if a < b { b } else { a }
+}
+
+impl Node {
+    fn of(settings: Settings) -> Node
+        ensures { λ r. ⌜ r ≡ nodeOf settings ⌝ }
+    {
+        let addresses = settings.routers;
+        let routers = RouterList::new(addresses, settings.router_count);
+        let service = Service {
+            settings,
+            routers,
+            identification: settings.identification,
+        };
+        let paths = PathTable::new();
+        Node {
+            service,
+            paths,
+            latest: 0,
+        }
+    }
+
+    // A node of these settings. Refused settings make no state: a node with no locator stands in its place, which has
+    // nothing of them.
+    pub fn new(settings: Settings) -> Setup
+        ensures { λ r. ⌜ r ≡ setupOf settings ⌝ }
+    {
+        if settings.accepted() {
+            let node = Node::of(settings);
+            Setup {
+                answer: SetupAnswer::Made,
+                node,
+            }
+        } else {
+            let node = Node::of(no_settings());
+            Setup {
+                answer: SetupAnswer::Refused(Refusal::Settings),
+                node,
+            }
+        }
+    }
+
+    // The node with its latest time raised: what a call leaves that changes nothing else.
+    fn raised(mut self, time: u32) -> Node
+        ensures { λ r. ⌜ r ≡ raisedTo self time ⌝ }
+    {
+        self.latest = later(self.latest, time);
+        self
+    }
+
+    // The size in force toward a neighbour at a time.
+    fn size_at(self, neighbour: u32, now: u32) -> u16
+        ensures { λ r. ⌜ r ≡ sizeAt self neighbour now ⌝ }
+    {
+        let service = self.service;
+        let settings = service.settings;
+        let table = self.paths;
+        paths::in_force(settings.link_size, table.kept(neighbour, now))
+    }
+
+    // The size in force toward a neighbour at the latest time seen.
+    pub fn path_size(self, neighbour: u32) -> u16
+        ensures { λ r. ⌜ r ≡ sizeOf self neighbour ⌝ }
+    {
+        self.size_at(neighbour, self.latest)
+    }
+}
