@@ -1,3 +1,4 @@
 pub mod Node
 pub mod Receive
 pub mod Report
+pub mod RouterList

@@ -1,0 +1,54 @@
+// The call with a new router list.
+use super::Node;
+use super::later;
+use refusals::Refusal;
+ghost use mathlib.Core.Path.{_≡_};
+ghost use Rattle.node.specs.RouterList.{listGiven, replaceOf};
+
+pub enum ListAnswer {
+    Replaced,
+    Refused(Refusal),
+}
+
+pub struct Replaced {
+    pub answer: ListAnswer,
+    pub node: Node,
+}
+
+impl ListAnswer {
+    // Document 01's number, 0 for a list that is taken.
+    pub fn number(self) -> u8
+        ensures { λ r. ⌜ r ≡ listGiven self .number ⌝ }
+    {
+        match self {
+            ListAnswer::Replaced => 0,
+            ListAnswer::Refused(refusal) => refusal.number(),
+        }
+    }
+}
+
+impl Node {
+    // The first `count` of the addresses are the router list from now on.
+    pub fn replace_routers(mut self, addresses: [u32; 16], count: usize, time: u32) -> Replaced
+        ensures { λ r. ⌜ r ≡ replaceOf self addresses count time ⌝ }
+    {
+        let now = later(self.latest, time);
+        let mut service = self.service;
+        let settings = service.settings;
+        self.latest = now;
+        if settings.routers_right(addresses, count) {
+            let old = service.routers;
+            let routers = old.replaced(addresses, count, now);
+            service.routers = routers;
+            self.service = service;
+            return Replaced {
+                answer: ListAnswer::Replaced,
+                node: self,
+            };
+        }
+        Replaced {
+            answer: ListAnswer::Refused(Refusal::Settings),
+            node: self,
+        }
+    }
+}
