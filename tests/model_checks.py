@@ -1,0 +1,2 @@
+def coverage(*files): pass
+def self_test(): pass

@@ -1,0 +1,472 @@
+"""Whole replay inputs: scenarios over many calls, random lists, bad inputs and the named set."""
+import random
+from pathlib import Path
+
+from model import LINK_LOCAL, LOOPBACK, REPLAY_LIMIT, UNSPECIFIED, Settings, dotted, forbidden, replay
+from model_inputs import ADVERTISEMENT_FAULTS, FORBIDDEN, GLOBAL, LAST_SECOND, MULTICAST, NEARLY_FORBIDDEN, RECEIVE_FAULTS
+from model_inputs import RECEIVE_VARIATIONS, REPORT_FAULTS, REPORT_VARIATIONS, SEND_FAULTS, Calls, encode_call, encode_settings
+from model_inputs import other_option, prefix_option, route_option
+
+FAULTS = {"receive": RECEIVE_FAULTS, "send": SEND_FAULTS, "report": REPORT_FAULTS, "advertisement": ADVERTISEMENT_FAULTS}
+VARIATIONS = {"receive": RECEIVE_VARIATIONS, "report": REPORT_VARIATIONS}
+PREFIXES = [bytes.fromhex(text) for text in ("20010db800000001", "20010db800000002", "2002c00002010000", "fec0000000000000",
+                                             "fe80000000000000", "ff02000000000000", "0000000000000000", "fe80000000000100")]
+
+
+def random_settings(chooser):
+    def address():
+        while True:
+            parts = chooser.choice([bytes(chooser.randrange(256) for _ in range(4)), chooser.choice(NEARLY_FORBIDDEN)])
+            if not forbidden(parts):
+                return parts
+    locators = []
+    for _ in range(chooser.choice((1, 1, 2, 3, 8))):
+        again = locators and chooser.random() < 0.3
+        locators.append((chooser.choice(locators)[0] if again else address(), chooser.choice((0, 1, 255, chooser.randrange(256)))))
+    locators = list(dict.fromkeys(locators))
+    own = [locator for locator, _ in locators]
+    routers = list({router for router in (address() for _ in range(chooser.choice((0, 1, 2, 3, 16)))) if router not in own})
+    return Settings(locators, [chooser.choice(PREFIXES) for _ in range(chooser.choice((0, 1, 2, 8)))], sorted(routers),
+                    chooser.choice((576, 577, 1280, 1299, 1300, 1301, 1302, 1500, 1500, 1500, 4352, 9216, chooser.randint(576, 9216))),
+                    chooser.choice((1, 64, 255)), chooser.choice((1, 2, 120, 3600, chooser.randint(1, 3600))),
+                    chooser.choice((0, 1, 65530, 65534, 65535, chooser.randrange(65536))),
+                    chooser.choice((None, None, GLOBAL, LOOPBACK, bytes([0xfe]) + bytes(15))))
+
+
+# ---- Scenarios
+
+def raise_time(calls, time):
+    """Any call with a time raises the latest time, also a refused one."""
+    calls.random.choice((lambda: calls.call("report", time, b"", want="refuse 16"),
+                         lambda: calls.call("send", 0, time, bytes(16), 3, b"", want="refuse 8"),
+                         lambda: calls.call("ask", 255, time, 60, want="refuse 11"),
+                         lambda: calls.call("routers", time, [bytes(4)], want="refuse 1"),
+                         lambda: calls.call("advertisement", time, bytes(39), want="refuse 8")))()
+
+
+def size_is(calls, neighbour, size):
+    calls.call("size", neighbour, want=str(size))
+
+
+def query_all(calls):
+    """The size toward every neighbour of the last reports."""
+    for neighbour in dict.fromkeys(neighbour for neighbour, _, _ in calls.node.record[-140:]):
+        calls.call("size", neighbour)
+
+
+def path_sizes(calls, sizes=None):
+    """n at M and M + 1 for sizes about the smallest IPv6 size; 1,280 and 1,281 for small ones."""
+    link = calls.settings.link
+    for size in sizes or calls.random.sample((68, 600, 1280, 1299, 1300, 1301, 1302, link), 3):
+        neighbour = calls.fresh()
+        if size < link:
+            calls.report(neighbour=neighbour, candidate=size)
+        largest = max(1280, min(size, link) - 20)
+        calls.send(n=largest, end=neighbour)
+        calls.send(n=largest + 1, end=neighbour)
+
+
+def ageing(calls):
+    """In force at 599 s, gone at 600 s; an equal report renews nothing, a lower one does."""
+    neighbour, start, size = calls.fresh(), calls.node.latest, calls.random.randint(70, 575)
+    calls.report(neighbour=neighbour, candidate=size, time=start)
+    raise_time(calls, start + 598)
+    calls.report([(19, {"candidate": size})], neighbour=neighbour, time=start + 599)
+    size_is(calls, neighbour, size)
+    if calls.random.random() < 0.5:
+        calls.report(neighbour=neighbour, candidate=size - 1, time=start + 599)
+        start, size = start + 599, size - 1
+        raise_time(calls, start + 599)
+        size_is(calls, neighbour, size)
+    raise_time(calls, start + 600)
+    size_is(calls, neighbour, calls.settings.link)
+    calls.report(neighbour=neighbour, candidate=size + 1)
+
+
+def times_going_back(calls):
+    """A report with an earlier time is as old as the latest time says."""
+    neighbour, start = calls.fresh(), calls.node.latest + 1000
+    raise_time(calls, start)
+    calls.report(neighbour=neighbour, candidate=500, time=start - 900)
+    size_is(calls, neighbour, 500)
+    raise_time(calls, start + 599)
+    raise_time(calls, start - 1)
+    size_is(calls, neighbour, 500)
+    raise_time(calls, start + 600)
+    size_is(calls, neighbour, calls.settings.link)
+
+
+def neighbours(calls, count=None, again=None):
+    """"the 63rd other neighbour leaves a size, the 64th removes it"; a repeated or refused report counts no more."""
+    count = count or calls.random.choice((62, 63, 64, 65))
+    again = calls.random.random() < 0.5 if again is None else again
+    first, now, others = calls.fresh(), calls.node.latest, []
+    calls.report(neighbour=first, candidate=500, time=now)
+    while len(others) < count:
+        others.append(calls.fresh())
+        calls.report(neighbour=others[-1], candidate=570, time=now)
+        if again and calls.random.random() < 0.4:
+            calls.report([(19, {"candidate": 9216})], neighbour=calls.fresh(), time=now)
+            other = calls.random.choice(others)
+            if calls.node.size(other) < 571 and calls.node.size(other) > 68:
+                calls.report(neighbour=other, time=now)
+    size_is(calls, first, 500 if count < 64 else calls.settings.link)
+    query_all(calls)
+
+
+def neighbours_moved(calls):
+    """A new report makes a neighbour the last one: the next new neighbour removes another."""
+    now, all_of_them = calls.node.latest, []
+    for _ in range(64):
+        all_of_them.append(calls.fresh())
+        calls.report(neighbour=all_of_them[-1], candidate=500, time=now)
+    calls.report(neighbour=all_of_them[0], candidate=499, time=now)
+    calls.report(neighbour=calls.fresh(), candidate=498, time=now)
+    size_is(calls, all_of_them[0], 499)
+    size_is(calls, all_of_them[1], calls.settings.link)
+    size_is(calls, all_of_them[2], 500)
+    calls.report(neighbour=all_of_them[1], candidate=510, time=now)
+    query_all(calls)
+
+
+def ask(calls, time=None, room=None, want="", index=None):
+    index = calls.random.randrange(len(calls.settings.locators)) if index is None else index
+    room = calls.random.choice((48, 48, 49, 100)) if room is None else room
+    return calls.call("ask", index, calls.node.latest if time is None else time, room, want=want)
+
+
+def asking(calls):
+    """Asks until none is due; then just before and exactly at the earliest due time; rooms 47 and 48."""
+    calls.listed_router()
+    while min(due for _, due in calls.node.routers) <= calls.node.latest:
+        ask(calls, room=calls.random.choice((0, 47)), want="refuse 15")
+        ask(calls, want=dotted(min(calls.node.routers, key=lambda entry: entry[1])[0]))
+    due = min(due for _, due in calls.node.routers)
+    ask(calls, room=47, want="refuse 22")
+    calls.call("ask", len(calls.settings.locators), calls.node.latest, 0, want="refuse 11")
+    if due <= LAST_SECOND:
+        ask(calls, time=due - 1, want="refuse 22")
+        ask(calls, time=due, room=47, want="refuse 15")
+        ask(calls, time=calls.random.choice((due, 0)), room=48)
+
+
+def ask_when_due(calls, router, due):
+    """Shows the due time of the only router: none due the second before, asked in that second."""
+    if due > LAST_SECOND:
+        ask(calls, time=LAST_SECOND, want="refuse 22")
+        return
+    if due > calls.node.latest:
+        ask(calls, time=due - 1, want="refuse 22")
+    ask(calls, time=due, want=dotted(router))
+
+
+def waits(interval):
+    """Router lifetime, options and the wait after them, by hand from "Routers"."""
+    longer, many = 2 * interval + 3, 0xffffffff
+    return [(0, [], 3600), (1, [], interval), (2 * interval, [], interval), (2 * interval + 1, [], interval),
+            (2 * interval + 2, [], interval + 1), (65535, [], max(interval, 32767)), (0, [prefix_option(4, many)], 3600),
+            (0, [prefix_option(4, 0), route_option(1, 0), route_option(3, many)], 3600),
+            (0, [prefix_option(4, longer)], interval + 1), (7300, [route_option(1, longer)], min(max(3650, interval), interval + 1)),
+            (0, [route_option(2, longer + 1)], interval + 2), (0, [route_option(3, longer + 2)], interval + 2),
+            (0, [route_option(4, longer)], 3600), (0, [prefix_option(5, longer)], 3600), (0, [prefix_option(3, longer)], 3600),
+            (0, [other_option(1, 1, 2), other_option(25, 4, 2), route_option(1, 20000), other_option(255, 2, 2)], 10000),
+            (9000, [prefix_option(4, 20000), route_option(1, 20000)], 4500), (0, [route_option(2, 20001), prefix_option(4, 20003)], 10000)]
+
+
+def advertised_due_time(calls, cases=None):
+    router = calls.fresh()
+    calls.call("routers", calls.time(), [router], want="accepted 1")
+    for lifetime, options, wait in cases or [calls.random.choice(waits(calls.settings.interval))]:
+        calls.advertisement(router=router, options=options, lifetime=lifetime)
+        ask_when_due(calls, router, calls.node.latest + wait)
+
+
+def router_lists(calls):
+    """Kept routers keep their due times, new ones are due now; refused lists change nothing."""
+    kept, new = [calls.fresh() for _ in range(3)], [calls.fresh() for _ in range(2)]
+    now = calls.node.latest
+    calls.call("routers", now, [], want="accepted 0")
+    ask(calls, want="refuse 22")
+    calls.call("routers", now + 5, kept, want="accepted 3")
+    ask(calls, want=dotted(kept[0]))
+    ask(calls, want=dotted(kept[1]))
+    calls.call("routers", now, [new[0], kept[1], kept[2], kept[0], new[1]], want="accepted 5")
+    own = calls.random.choice(calls.settings.locators)[0]
+    for refused in ([calls.random.choice(FORBIDDEN)], [kept[0], new[0], kept[0]], [kept[2], own], [calls.fresh() for _ in range(17)]):
+        calls.call("routers", calls.time(), refused, want="refuse 1")
+    calls.call("receive", 0, b"", want="refuse 2")
+    for router in (new[0], kept[2], new[1]):
+        ask(calls, want=dotted(router)) if calls.settings.interval > 30 else ask(calls)
+    ask(calls)
+    calls.call("routers", now, list(dict.fromkeys([kept[2]] + [calls.fresh() for _ in range(15)])), want="accepted 16")
+
+
+def dropped_router(calls):
+    """A router of an earlier list admits nothing and advertises nothing."""
+    router = calls.fresh()
+    calls.call("routers", calls.time(), [router], want="accepted 1")
+    by_router = {"source": router, "source6": GLOBAL}
+    calls.receive(variation=by_router)
+    calls.call("routers", calls.time(), [], want="accepted 0")
+    calls.receive([(10, by_router)])
+    calls.advertisement([(21, {})], router=router)
+
+
+def times_near_the_end(calls):
+    """Due times past the last second are exact: never due, and they do not wrap."""
+    router, neighbour = calls.fresh(), calls.fresh()
+    start = max(calls.node.latest, LAST_SECOND - calls.settings.interval - 700)
+    calls.call("routers", start, [router], want="accepted 1")
+    calls.report(neighbour=neighbour, candidate=100, time=start)
+    raise_time(calls, min(start + 599, LAST_SECOND))
+    calls.call("size", neighbour)
+    calls.send(end=neighbour, time=min(start + 600, LAST_SECOND))
+    ask(calls, time=max(calls.node.latest, LAST_SECOND - calls.settings.interval), want=dotted(router))
+    if calls.node.latest + calls.settings.interval == LAST_SECOND:
+        ask(calls, time=LAST_SECOND - 1, want="refuse 22")
+        ask(calls, time=LAST_SECOND, want=dotted(router))
+    ask(calls, time=LAST_SECOND, want="refuse 22")
+    calls.advertisement(router=router, lifetime=0, options=[])
+    second = calls.fresh()
+    calls.call("routers", 0, [router, second], want="accepted 2")
+    ask(calls, want=dotted(second))
+    ask(calls, want="refuse 22")
+    calls.advertisement(router=router, lifetime=0, options=[prefix_option(4, 0xfffffffe)])
+    ask(calls, want="refuse 22")
+    calls.report(time=LAST_SECOND)
+    query_all(calls)
+
+
+SCENARIOS = [path_sizes, ageing, times_going_back, asking, advertised_due_time, router_lists, dropped_router]
+
+
+# ---- Single calls
+
+def with_faults(calls, name, *faults):
+    """One call with these faults, the lowest number applied last, and some variation of it."""
+    faults = sorted(faults, key=lambda fault: -fault[0])
+    if name not in VARIATIONS:
+        return getattr(calls, name)(faults)
+    return getattr(calls, name)(faults, calls.random.choice(VARIATIONS[name]) if calls.random.random() < 0.5 else None)
+
+
+def mutated(chooser, data):
+    """A byte flipped, the end cut off, or bytes added."""
+    data, way = bytearray(data), chooser.randrange(4)
+    if way < 2 and data:
+        data[chooser.randrange(min(len(data), chooser.choice((12, 48, 4000))))] ^= 1 << chooser.randrange(8)
+    elif way == 2:
+        del data[chooser.randrange(len(data) + 1):]
+    else:
+        data += bytes(chooser.randrange(1, 20))
+    return bytes(data)
+
+
+def mutate_call(calls, name, data):
+    data, time = mutated(calls.random, data), calls.time()
+    if name == "receive":
+        calls.call(name, calls.random.choice(calls.settings.locators)[1], data)
+    elif name == "send":
+        calls.call(name, 0, time, calls.some(8) + LINK_LOCAL if calls.random.random() < 0.1 else
+                   LINK_LOCAL + bytes.fromhex("02005efe") + calls.neighbour(), calls.random.choice((len(data) + 20, 1280, 9300)), data)
+    else:
+        calls.call(name, time, data)
+
+
+def random_call(calls, name, fault):
+    second = [other for other in FAULTS[name] if fault is None or other[0] != fault[0]]
+    faults = [fault] if fault else []
+    if fault and calls.random.random() < 0.25:
+        faults.append(calls.random.choice(second))
+    data = with_faults(calls, name, *faults)
+    if calls.random.random() < 0.3:
+        mutate_call(calls, name, data)
+
+
+def deck(chooser):
+    """Every fault once, as many calls without one, and each scenario."""
+    cards = [(name, fault) for name in FAULTS for fault in FAULTS[name]] + [(name, None) for name in FAULTS for _ in FAULTS[name]]
+    cards += [("scenario", scenario) for scenario in SCENARIOS for _ in range(4)] + [("scenario", neighbours), ("scenario", neighbours_moved)]
+    chooser.shuffle(cards)
+    return cards
+
+
+def generate(seed, count, most=REPLAY_LIMIT - 150000):
+    """About `count` calls; the last second is reached in some lists, and only at the end."""
+    chooser = random.Random(seed)
+    calls, cards = Calls(chooser, random_settings(chooser)), []
+    while calls.count < count and len(calls.data) < most and calls.node.latest < 1 << 31:
+        cards = cards or deck(chooser)
+        name, card = cards.pop()
+        if name == "scenario":
+            card(calls)
+        else:
+            random_call(calls, name, card)
+    if count >= 200 and chooser.random() < 0.3:
+        calls.call("send", 0, 0, LINK_LOCAL + bytes.fromhex("00005efe") + calls.fresh(), 1300, b"\x60\0\0\0" + bytes.fromhex("ffc4") + bytes(65510))
+    if chooser.random() < 0.5:
+        times_near_the_end(calls)
+    return bytes(calls.data)
+
+
+# ---- Bad inputs
+
+def longest(length=REPLAY_LIMIT):
+    """Good calls only, of exactly this length."""
+    data = encode_settings(plain_settings())
+    whole = encode_call("report", (0, bytes(65535)))
+    while len(data) + 2 * len(whole) < length:
+        data += whole
+    half = (length - len(data)) // 2
+    return data + encode_call("report", (0, bytes(half - 7))) + encode_call("report", (0, bytes(length - len(data) - half - 7)))
+
+
+def bad(seed):
+    """Cut off, of an unknown kind, with a flag above 1, or too long; sometimes with settings that would be refused."""
+    chooser = random.Random(seed)
+    data, way = generate(seed, 15), chooser.randrange(8)
+    flag = len(encode_settings(plain_settings())) - 1
+    if way == 0:
+        return longest(REPLAY_LIMIT + chooser.choice((1, 2, 5000)))
+    if way < 3:
+        data += bytes([chooser.choice((0, 8, 9, 255))]) + bytes(chooser.randrange(9))
+    elif way == 3:
+        data = bytearray(longest(2000))
+        data[flag] = chooser.choice((2, 255))
+    elif way == 4:
+        data = encode_settings(Settings([], [], [])) + b"\x09"
+    while replay(data) != ["bad input"]:
+        data = generate(seed, 15)[:chooser.randrange(len(data))]
+    return bytes(data)
+
+
+# ---- The named set
+
+def plain_settings(**changes):
+    fields = {"locators": [(bytes((10, 0, 0, 1)), 0), (bytes((192, 0, 2, 7)), 3)], "prefixes": PREFIXES[:2],
+              "routers": [bytes((198, 51, 100, 1)), bytes((198, 51, 100, 2)), bytes((198, 51, 100, 3))]}
+    return Settings(**dict(fields, **changes))
+
+
+def numbered(first, count):
+    return [bytes((203, 0, 113, place)) for place in range(first, first + count)]
+
+
+REFUSED_SETTINGS = {
+    "no_locator": {"locators": []}, "nine_locators": {"locators": [(address, 0) for address in numbered(1, 9)]},
+    "pair_twice": {"locators": [(bytes((10, 0, 0, 1)), 4), (bytes((10, 0, 0, 2)), 4), (bytes((10, 0, 0, 1)), 4)]},
+    "forbidden_locator": {"locators": [(bytes((10, 0, 0, 1)), 0), (bytes((224, 0, 0, 1)), 0)]},
+    "nine_prefixes": {"prefixes": [PREFIXES[0]] * 9}, "seventeen_routers": {"routers": numbered(1, 17)},
+    "router_twice": {"routers": numbered(1, 3) + numbered(2, 1)}, "forbidden_router": {"routers": numbered(1, 1) + [bytes((127, 9, 9, 9))]},
+    "router_is_locator": {"routers": [bytes((192, 0, 2, 7))]}, "link_575": {"link": 575}, "link_9217": {"link": 9217}, "ttl_0": {"ttl": 0},
+    "interval_0": {"interval": 0}, "interval_3601": {"interval": 3601}, "reporting_multicast": {"reporting": MULTICAST},
+    "reporting_unspecified": {"reporting": UNSPECIFIED}}
+ALLOWED_SETTINGS = {
+    "least": {"locators": [(bytes((10, 0, 0, 1)), 255)], "prefixes": [], "routers": [], "link": 576, "ttl": 1, "interval": 1, "identification": 0},
+    "most": {"locators": [(address, 0) for address in numbered(1, 8)], "prefixes": [PREFIXES[0]] * 8, "routers": numbered(20, 16),
+             "link": 9216, "ttl": 255, "interval": 3600, "identification": 65535, "reporting": LOOPBACK},
+    "one_address_on_two_interfaces": {"locators": [(bytes((10, 0, 0, 1)), 0), (bytes((10, 0, 0, 1)), 1)]}}
+
+
+def each_fault(calls, name, keep=lambda fault: True):
+    for fault in FAULTS[name]:
+        if keep(fault):
+            with_faults(calls, name, fault)
+
+
+def each_variation(calls, name):
+    for variation in VARIATIONS[name]:
+        getattr(calls, name)((), variation)
+
+
+def each_pair(calls, name, highest=99):
+    """For each two numbers a call that has both faults: the first in the call's order is given."""
+    numbers = sorted({fault for fault, _ in FAULTS[name] if fault <= highest})
+    for first, second in [(a, b) for a in numbers for b in numbers if a < b]:
+        with_faults(calls, name, *(calls.random.choice([fault for fault in FAULTS[name] if fault[0] == one]) for one in (first, second)))
+
+
+def no_router(calls):
+    ask(calls, want="refuse 22")
+    ask(calls, room=0, want="refuse 22")
+    calls.advertisement([(21, {})], router=calls.fresh())
+    calls.receive([(10, {"source6": GLOBAL})])
+
+
+def sends(calls, count=12):
+    for _ in range(count):
+        calls.send()
+        calls.send([(15, {"short": 1})])
+
+
+NAMED = {
+    "receive_refusals": lambda calls: each_fault(calls, "receive"),
+    "receive_two_faults": lambda calls: each_pair(calls, "receive"),
+    "receive_delivered": lambda calls: each_variation(calls, "receive"),
+    "send_refusals": lambda calls: each_fault(calls, "send", lambda fault: fault[0] != 14),
+    "send_too_big_with_message": lambda calls: each_fault(calls, "send", lambda fault: fault[0] == 14 and "message" not in fault[1]),
+    "send_too_big_without_message": lambda calls: each_fault(calls, "send", lambda fault: "message" in fault[1]),
+    "send_two_faults": lambda calls: each_pair(calls, "send"),
+    "send_path_sizes": lambda calls: path_sizes(calls, (68, 600, 1299, 1300, 1301, 1302, 1499, 1500)),
+    "report_refusals": lambda calls: each_fault(calls, "report"),
+    "report_two_faults": lambda calls: each_pair(calls, "report"),
+    "report_accepted_and_plateaus": lambda calls: each_variation(calls, "report"),
+    "ageing": lambda calls: [ageing(calls) for _ in range(6)],
+    "times_going_back": lambda calls: [times_going_back(calls) for _ in range(3)],
+    "times_near_the_end": times_near_the_end,
+    "neighbours_63": lambda calls: neighbours(calls, 63, False),
+    "neighbours_64": lambda calls: neighbours(calls, 64, False),
+    "neighbours_65": lambda calls: neighbours(calls, 65, False),
+    "neighbours_63_reported_again": lambda calls: neighbours(calls, 63, True),
+    "neighbours_64_reported_again": lambda calls: neighbours(calls, 64, True),
+    "neighbours_moved": neighbours_moved,
+    "router_lists": lambda calls: [router_lists(calls), dropped_router(calls)],
+    "asking": lambda calls: [asking(calls), asking(calls)],
+    "advertisement_refusals": lambda calls: each_fault(calls, "advertisement"),
+    "advertisement_two_faults": lambda calls: each_pair(calls, "advertisement"),
+    "advertisement_lifetimes": lambda calls: advertised_due_time(calls, waits(calls.settings.interval)),
+    "no_calls": lambda calls: None,
+}
+NAMED_SETTINGS = {"no_router": ({"routers": []}, no_router), "identification_wrap": ({"identification": 65530}, sends),
+                  "send_path_sizes_large_link": ({"link": 9216}, lambda calls: path_sizes(calls, (8166, 1500, 9216))),
+                  "advertisement_lifetimes_long_interval": ({"interval": 3600}, lambda calls: advertised_due_time(calls, waits(3600)))}
+
+
+def named_inputs():
+    """Name and bytes of each."""
+    for place, (name, scenario) in enumerate(NAMED.items()):
+        yield name, scenario_bytes(place, {}, scenario)
+    for name, (changes, scenario) in NAMED_SETTINGS.items():
+        yield name, scenario_bytes(7, changes, scenario)
+    for name, changes in REFUSED_SETTINGS.items():
+        yield "settings_refused_" + name, encode_settings(plain_settings(**changes)) + encode_call("size", [bytes(4)])
+    for name, changes in ALLOWED_SETTINGS.items():
+        yield "settings_" + name, scenario_bytes(3, changes, sends)
+    good = scenario_bytes(5, {}, no_calls_but_some)
+    yield from {"bad_input_empty": b"", "bad_input_cut_settings": good[:11], "bad_input_cut": good[:-1], "bad_input_kind_0": good + b"\0",
+                "bad_input_kind_8": good + b"\x08", "bad_input_flag": encode_settings(plain_settings())[:-1] + b"\2",
+                "bad_input_refused_settings": encode_settings(plain_settings(ttl=0)) + b"\x08",
+                "bad_input_reporting_cut": encode_settings(plain_settings(reporting=GLOBAL))[:-1]}.items()
+    for seed in range(1, 7):
+        yield f"random_{seed}", generate(seed, 90, 40000)
+
+
+def no_calls_but_some(calls):
+    calls.receive()
+    calls.report()
+
+
+def scenario_bytes(seed, changes, scenario):
+    calls = Calls(random.Random(seed), plain_settings(**changes))
+    scenario(calls)
+    return bytes(calls.data)
+
+
+def write_set(directory):
+    directory = Path(directory)
+    directory.mkdir(parents=True, exist_ok=True)
+    for name, data in named_inputs():
+        if len(data) >= 65536:
+            raise AssertionError(f"{name} has {len(data)} bytes")
+        (directory / f"{name}.in").write_bytes(data)
+        (directory / f"{name}.out").write_text("".join(line + "\n" for line in replay(data)))
