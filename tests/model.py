@@ -13,6 +13,8 @@ Comments in quotation marks are sentences of document 01.
 """
 import sys
 
+sys.dont_write_bytecode = True
+
 LINK_LOCAL = bytes.fromhex("fe80000000000000")
 UNSPECIFIED = bytes(16)
 LOOPBACK = bytes(15) + b"\1"

@@ -1,2 +1,174 @@
-def coverage(*files): pass
-def self_test(): pass
+"""Checks of the model: the values that document 01 states, and how often each answer occurs in expected lines."""
+from collections import Counter
+from pathlib import Path
+
+from model import LINK_LOCAL, Node, Refused, Settings, answer, checksum_field, checksum_right, digest, icmpv6_packet, lent
+from model import link_local, program, pseudo_header, replay, u16, wrapped
+
+OWN, PEER, ROUTER = bytes((10, 0, 0, 1)), bytes((10, 0, 0, 2)), bytes((10, 0, 0, 9))
+
+# What each call can be brought to answer; 23 cannot come: L is at most 9,216, so 14 comes for every n above 9,196
+ANSWERS = {"receive": ["deliver"] + [f"refuse {number}" for number in range(2, 11)],
+           "send": ["wrapped", "too-big with message", "too-big without"] + [f"refuse {number}" for number in (8, 11, 12, 13, 15)],
+           "report": ["accepted"] + [f"refuse {number}" for number in (16, 17, 18, 19)],
+           "routers": ["accepted", "refuse 1"], "ask": ["answered"] + [f"refuse {number}" for number in (11, 22, 15)],
+           "advertisement": ["answered"] + [f"refuse {number}" for number in (8, 20, 21)],
+           "size": ["answered"], "settings": ["refuse 1"], "bad": ["input"]}
+
+
+def kind_of_answer(line):
+    name, word, *rest = line.split()
+    if word == "refuse":
+        return name, f"refuse {rest[0]}"
+    if word == "too-big":
+        return name, "too-big without" if rest[1] == "0" else "too-big with message"
+    return name, word if word in ANSWERS[name] else "answered"
+
+
+def coverage(*files):
+    """Prints the table; the status is 1 if an answer that can come does not."""
+    counts = Counter(kind_of_answer(line) for file in files for line in Path(file).read_text().splitlines())
+    expected = [(name, kind) for name in ANSWERS for kind in ANSWERS[name]]
+    for name, kind in expected + sorted(set(counts) - set(expected)):
+        print(f"{name:14} {kind:22} {counts[name, kind]:8}" + ("" if (name, kind) in expected else "   not expected"))
+    missing = [kind for kind in expected if not counts[kind]]
+    print(f"{len(expected)} answers, {len(missing)} missing")
+    return 1 if missing or set(counts) - set(expected) else 0
+
+
+# ---- The values that document 01 states
+
+def node(link=1500, routers=(ROUTER,)):
+    return Node(Settings([(OWN, 0)], [], list(routers), link))
+
+
+def packet(n, source=link_local(PEER), next_header=59):
+    return b"\x60\0\0\0" + u16(n - 40) + bytes([next_header, 64]) + source + bytes(15) + b"\1" + bytes(n - 40)
+
+
+def report(candidate, quoted_total=1500, neighbour=PEER):
+    quoted = b"\x45\0" + u16(quoted_total) + b"\0\1\x40\0\x40\x29\0\0" + OWN + neighbour
+    message = b"\3\4\0\0\0\0" + u16(candidate) + quoted + bytes(8)
+    return message[:2] + checksum_field(message) + message[4:]
+
+
+def said(one, name, *arguments):
+    """The answer without the call's name."""
+    return answer(one, name, arguments).split(" ", 1)[1]
+
+
+def sent(path, n, link=1500):
+    """The answer to n bytes at this path size, and the don't-fragment flag written."""
+    one, output = node(link), lent(10000)
+    if path < link:
+        one.report(0, report(path))
+    text = one.send(0, 0, link_local(PEER), output, packet(n))
+    return text, output[6] >> 6 & 1 if text.startswith("wrapped") else None
+
+
+def size_checks():
+    """★ Sizes: M, and the flag."""
+    yield "P 1,300: n 1,280 wrapped, flag clear", sent(1300, 1280), ("wrapped 1300", 0)
+    yield "P 1,300: 1,281 gives M 1,280", sent(1300, 1281), ("too-big 1280 1280", None)
+    yield "P 1,301: 1,281 wrapped, flag set", sent(1301, 1281), ("wrapped 1301", 1)
+    yield "P 1,301: 1,282 gives 1,281", sent(1301, 1282), ("too-big 1281 1280", None)
+    yield "P 1,500: 1,480 passes", sent(1500, 1480), ("wrapped 1500", 1)
+    yield "P 1,500: 1,481 gives 1,480", sent(1500, 1481), ("too-big 1480 1280", None)
+    yield "P 600: 1,280 passes, flag clear", sent(600, 1280), ("wrapped 1300", 0)
+
+
+def report_checks():
+    """★ Reports: plateaus, limits, age."""
+    for total, given in ((1500, "accepted 10.0.0.2 1492"), (1492, "accepted 10.0.0.2 1006"), (69, "accepted 10.0.0.2 68"), (68, "refuse 18")):
+        yield f"candidate 0, quoted {total}: {given}", said(node(), "report", 0, report(0, total)), given
+    for candidate, given in ((68, "accepted 10.0.0.2 68"), (67, "refuse 18"), (1500, "refuse 19")):
+        yield f"size {candidate}: {given}", said(node(), "report", 0, report(candidate)), given
+    one = node()
+    one.report(1000, report(700))
+    for time, size in ((1599, 700), (1600, 1500)):
+        one.raise_time(time)
+        yield f"accepted at 1,000: size at {time} is {size}", one.size(PEER), size
+
+
+def neighbour_checks():
+    """Run only: the 63rd other neighbour leaves a size, the 64th removes it."""
+    one = node()
+    one.report(0, report(700))
+    for count in range(1, 65):
+        one.report(0, report(800, neighbour=bytes((10, 1, 0, count))))
+        if count >= 63:
+            yield f"after {count} other neighbours", one.size(PEER), 700 if count == 63 else 1500
+
+
+HEADER = bytes.fromhex("4500003C00010000402966960A0000020A000001")
+
+
+def example(identifier=b"\0\0\x5e\xfe", last=2):
+    return HEADER + packet(40, LINK_LOCAL + identifier + bytes((10, 0, 0, last)))
+
+
+def receive_checks():
+    """★ The header's checksum and the identifier's first byte."""
+    yield "the header above gets checksum 6696", checksum_field(HEADER[:10] + HEADER[12:]).hex(), "6696"
+    yield "the header above is what wrapping writes", wrapped(b"", 1, False, 64, PEER, OWN)[4:10].hex(), HEADER[4:10].hex()
+    for first, given in ((0, "deliver 20 40"), (2, "deliver 20 40"), (1, "refuse 10"), (3, "refuse 10")):
+        yield f"first identifier byte {first:02}: {given}", said(node(), "receive", 0, example(bytes([first]) + b"\0\x5e\xfe")), given
+
+
+def program_checks():
+    start = u16(1) + OWN + b"\0" + u16(0) + u16(0)
+    two = start + u16(2) + b"".join(b"\0" + u16(60) + example(last=last) for last in (2, 3))
+    yield "the program's example", program(two), ["datagrams 2", "1 deliver 40", "2 refuse 10"]
+    yield "no datagram", program(start + u16(0)), ["datagrams 0"]
+    full = start + u16(2) + b"\0" + u16(65515) + bytes(65515) + b"\0" + u16(2) + bytes(2)
+    yield "65,536 bytes are taken", (len(full), program(full)), (65536, ["datagrams 2", "1 refuse 2", "2 refuse 2"])
+    for text, data in (("empty", b""), ("trailing byte", two + b"\0"), ("cut", two[:-1]), ("too long", full + b"\0"), ("no locator", bytes(8))):
+        yield f"program, {text}: bad input", program(data), ["bad input"]
+
+
+def message_checks():
+    """Messages that we write are right by their own checksums and read as RFC 4443 and RFC 4861 say."""
+    one, output = node(), lent(1300)
+    one.send(0, 0, link_local(PEER), output, packet(1481))
+    yield "Too Big: addresses, type, size", bytes(output[:48]), (
+        bytes.fromhex("6000000004d83a40") + link_local(OWN) + link_local(PEER) + b"\2\0" + bytes(output[42:44]) + bytes.fromhex("000005c8"))
+    yield "Too Big: checksum", checksum_right(pseudo_header(link_local(OWN), link_local(PEER), 1240) + output[40:1280]), True
+    yield "Too Big: quote, and bytes behind it", bytes(output[48:]), packet(1481)[:1232] + b"\xa5" * 20
+    output = lent(50)
+    yield "asking names the router", one.ask(0, 0, output), "10.0.0.9"
+    yield "solicitation", bytes(output), (bytes.fromhex("6000000000083aff") + link_local(OWN) + link_local(ROUTER) +
+                                          b"\x85\0" + bytes(output[42:44]) + bytes(4) + b"\xa5\xa5")
+    yield "solicitation: checksum", checksum_right(pseudo_header(link_local(OWN), link_local(ROUTER), 8) + output[40:48]), True
+
+
+def time_checks():
+    """Due times are exact and may lie past the last second."""
+    one = node()
+    one.ask(0, 0xffffffff, lent(48))
+    yield "due past the last second", said(one, "ask", 0, 0xffffffff, 0), "refuse 22 811c9dc5"
+    yield "exact due time", one.routers, [(ROUTER, 0xffffffff + 120)]
+    message = b"\x86\0\0\0\x40\0" + u16(1800) + bytes(8)
+    one.advertisement(0, icmpv6_packet(link_local(ROUTER), link_local(OWN), 255, message))
+    yield "half of the router's lifetime", one.routers, [(ROUTER, 0xffffffff + 900)]
+
+
+def replay_checks():
+    start = u16(1) + OWN + b"\0" + u16(0) + u16(0) + u16(1500) + b"\x40" + u16(120) + u16(1)
+    yield "FNV-1a of `foobar`", digest(b"foobar"), "bf9cf968"
+    yield "RFC 1071's example", checksum_field(bytes.fromhex("0001f203f4f5f6f7")).hex(), "220d"
+    yield "settings without calls", replay(start + b"\0"), []
+    yield "reporting flag 2", replay(start + b"\2"), ["bad input"]
+    yield "empty input", replay(b""), ["bad input"]
+    yield "multicast reporting address", replay(start + b"\1" + b"\xff" * 16), ["settings refuse 1"]
+    yield "size", replay(start + b"\0\x07" + PEER), ["size 1500"]
+
+
+def self_test():
+    """One line for each value; the status is 1 if one is not as stated."""
+    wrong = 0
+    for checks in (size_checks, report_checks, neighbour_checks, receive_checks, program_checks, message_checks, time_checks, replay_checks):
+        for text, given, stated in checks():
+            wrong += given != stated
+            print(f"{'ok  ' if given == stated else 'FAIL'} {text}" + ("" if given == stated else f": {given!r}, not {stated!r}"))
+    print(f"{wrong} wrong")
+    return 1 if wrong else 0
