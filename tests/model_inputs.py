@@ -46,7 +46,7 @@ def spoiled(check, amount):
 
 def build_packet(f):
     """An IPv6 packet: version, next header, hop limit, addresses, payload, and an error in the payload length."""
-    head = bytes([f["version6"] << 4, 0, 0, 0]) + u16(len(f["payload"]) + f["payload_error"])
+    head = bytes([f["version6"] << 4 | f["flow"][0] & 15]) + f["flow"][1:] + u16(len(f["payload"]) + f["payload_error"])
     return head + bytes([f["next_header"], f["hop_limit"]]) + f["source6"] + f["destination6"] + f["payload"]
 
 
@@ -62,14 +62,15 @@ def build_datagram(f):
 
 
 def build_report(f):
-    quoted = bytes([f["version"] << 4 | f["words"], 0]) + u16(f["total"]) + b"\0\1\x40\0\x40" + bytes([f["protocol"]]) + b"\0\0"
+    free = f["free"]                                          # service, identification, flags, TTL, checksum
+    quoted = bytes([f["version"] << 4 | f["words"], free[0]]) + u16(f["total"]) + free[1:6] + bytes([f["protocol"]]) + free[6:8]
     quoted += f["source"] + f["neighbour"] + f["options"][:max(0, 4 * f["words"] - 20)] + f["tail"]
     message = (bytes([f["type"], f["code"], 0, 0]) + f["unused"] + u16(f["candidate"]) + quoted)[:f["cut"]]
     return (message[:2] + spoiled(checksum_field(message), f["spoil"]) + message[4:])[:len(message)]
 
 
 def build_advertisement(f):
-    message = bytes([f["type"], f["code"], 0, 0, 64, 0]) + u16(f["lifetime"]) + bytes(8) + b"".join(f["options"])
+    message = bytes([f["type"], f["code"], 0, 0]) + f["free"][:2] + u16(f["lifetime"]) + f["free"][2:] + b"".join(f["options"])
     message = message[:f["message_cut"]]
     check = checksum_field(pseudo_header(f["source6"], f["destination6"], len(message)) + message)
     f["payload"] = (message[:2] + spoiled(check, f["spoil"]) + message[4:])[:len(message)]
@@ -149,7 +150,7 @@ REPORT_FAULTS += [(17, {"neighbour": lambda calls, f: calls.random.choice(calls.
 REPORT_FAULTS += [(18, {"candidate": candidate}) for candidate in (1, 67)] + [(18, {"candidate": 0, "total": total}) for total in (0, 67, 68)]
 REPORT_FAULTS += [(19, {"candidate": lambda calls, f, more=more: calls.node.size(f["neighbour"]) + more}) for more in (0, 1)]
 REPORT_FAULTS += [(19, {"candidate": 65535}), (19, {"candidate": 0, "total": 65535}), (19, {"candidate": 0, "total": 17914, "neighbour": lambda calls, f: calls.small()})]
-REPORT_VARIATIONS = [{}, {"candidate": 68}, {"words": 6}, {"words": 15, "tail": b""}, {"tail": b""}, {"tail": bytes(3)}, {"unused": b"\1\2"},
+REPORT_VARIATIONS = [{}, {"candidate": 68}, {"words": 6}, {"words": 15, "tail": b""}, {"tail": b""}, {"tail": b"\1\2\3"}, {"unused": b"\1\2"},
                      {"source": lambda calls, f: calls.random.choice(calls.settings.locators)[0]},
                      {"candidate": lambda calls, f: calls.node.size(f["neighbour"]) - 1}]
 REPORT_VARIATIONS += [{"candidate": 0, "total": total} for total in PLATEAU_BELOW]
@@ -165,7 +166,7 @@ ADVERTISEMENT_FAULTS += [(21, changes) for changes in NOT_ISATAP] + [(21, {"sour
 
 
 def route_option(length, lifetime):
-    return bytes([24, length, 0, 0]) + u32(lifetime) + bytes(8 * length - 8)
+    return bytes([24, length, 64, 8]) + u32(lifetime) + b"\1" * (8 * length - 8)
 
 
 def prefix_option(length, lifetime):
@@ -174,7 +175,7 @@ def prefix_option(length, lifetime):
 
 
 def other_option(kind, length, lifetime):
-    return bytes([kind, length, 0, 0]) + u32(lifetime) + bytes(8 * length - 8)
+    return bytes([kind, length, 64, 8]) + u32(lifetime) + b"\1" * (8 * length - 8)
 
 
 class Calls:
@@ -244,7 +245,7 @@ class Calls:
     # One call of each kind with given faults
 
     def packet_fields(self, source6, destination6, payload):
-        return {"version6": 6, "next_header": 17, "hop_limit": 64, "source6": source6, "destination6": destination6,
+        return {"version6": 6, "flow": self.some(4), "next_header": 17, "hop_limit": self.random.randrange(256), "source6": source6, "destination6": destination6,
                 "payload": payload, "payload_error": 0, "tail": b"", "cut": None}
 
     def receive(self, faults=(), variation=None):
@@ -272,15 +273,15 @@ class Calls:
     def send(self, faults=(), n=None, end=None, time=None):
         address = end or self.neighbour()
         time = self.time() if time is None else time
-        f = self.packet_fields(self.some(15) + b"\1", self.some(16), b"")
+        f = self.packet_fields(b"\x20" + self.some(15), self.some(16), b"")
         f.update(address=address, index=self.random.randrange(len(self.settings.locators)), first=None, more=0, short=0, message=True,
-                 source6=GLOBAL, next_hop=isatap(self.prefix(), self.random.choice(("00005efe", "02005efe")), address))
+                 next_header=17 if faults or n else self.random.choice((0, 17, 58, 59)), next_hop=isatap(self.prefix(), self.random.choice(("00005efe", "02005efe")), address))
         for _, changes in faults:
             self.change(f, changes)
         self.node.raise_time(time)
         largest = max(1280, self.node.size(address) - 20)
         numbers = [fault for fault, _ in faults]
-        n = largest + f["more"] if f["more"] else n or self.random.choice((40, 41, self.random.randint(42, 200)))
+        n = largest + f["more"] if f["more"] else n or self.random.choice((40, 41, self.random.randint(42, 200), self.random.randint(42, 200), self.random.randint(42, 1280)))
         f["payload"] = self.some(n - 40)
         if f["first"] is not None:
             f["payload"] = bytes([f["first"]]) + f["payload"][1:]
@@ -301,7 +302,7 @@ class Calls:
 
     def report_fields(self, neighbour, candidate):
         return {"version": 4, "words": 5, "total": self.random.randint(20, 9000), "protocol": 41, "source": self.random.choice(self.settings.locators)[0],
-                "neighbour": neighbour, "options": self.some(40), "tail": self.some(8), "type": 3, "code": 4, "unused": b"\0\0",
+                "neighbour": neighbour, "free": self.some(8), "options": self.some(40), "tail": self.some(8), "type": 3, "code": 4, "unused": b"\0\0",
                 "candidate": candidate, "cut": None, "spoil": 0}
 
     def report(self, faults=(), variation=None, neighbour=None, candidate=None, time=None):
@@ -338,7 +339,7 @@ class Calls:
     def advertisement(self, faults=(), router=None, options=None, lifetime=None):
         router = router or self.listed_router()
         f = self.packet_fields(isatap(LINK_LOCAL, self.random.choice(("00005efe", "02005efe")), router), self.some(16), b"")
-        f.update(address=router, next_header=58, hop_limit=255, type=134, code=0, spoil=0, message_cut=None,
+        f.update(address=router, next_header=58, hop_limit=255, type=134, code=0, spoil=0, message_cut=None, free=self.some(10),
                  lifetime=min(65535, self.lifetimes()) if lifetime is None else lifetime, tail=self.some(self.random.choice((0, 0, 1, 9))),
                  options=[self.option() for _ in range(self.random.randrange(4))] if options is None else options)
         for _, changes in faults:

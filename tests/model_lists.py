@@ -169,7 +169,7 @@ def waits(interval):
             (0, [prefix_option(4, longer)], interval + 1), (7300, [route_option(1, longer)], min(max(3650, interval), interval + 1)),
             (0, [route_option(2, longer + 1)], interval + 2), (0, [route_option(3, longer + 2)], interval + 2),
             (0, [route_option(4, longer)], 3600), (0, [prefix_option(5, longer)], 3600), (0, [prefix_option(3, longer)], 3600),
-            (0, [other_option(1, 1, 2), other_option(25, 4, 2), route_option(1, 20000), other_option(255, 2, 2)], 10000),
+            (0, [other_option(1, 1, 2), other_option(25, 3, 2), other_option(4, 4, 2), route_option(1, 20000), other_option(23, 2, 2)], 10000),
             (9000, [prefix_option(4, 20000), route_option(1, 20000)], 4500), (0, [route_option(2, 20001), prefix_option(4, 20003)], 10000)]
 
 
@@ -181,6 +181,15 @@ def advertised_due_time(calls, cases=None):
         ask_when_due(calls, router, calls.node.latest + wait)
 
 
+def advertised_earlier(calls):
+    """An accepted advertisement may also make a due time earlier."""
+    router = calls.fresh()
+    calls.call("routers", calls.time(), [router], want="accepted 1")
+    calls.advertisement(router=router, lifetime=65535, options=[])
+    calls.advertisement(router=router, lifetime=1, options=[])
+    ask_when_due(calls, router, calls.node.latest + calls.settings.interval)
+
+
 def router_lists(calls):
     """Kept routers keep their due times, new ones are due now; refused lists change nothing."""
     kept, new = [calls.fresh() for _ in range(3)], [calls.fresh() for _ in range(2)]
@@ -190,13 +199,13 @@ def router_lists(calls):
     calls.call("routers", now + 5, kept, want="accepted 3")
     ask(calls, want=dotted(kept[0]))
     ask(calls, want=dotted(kept[1]))
-    calls.call("routers", now, [new[0], kept[1], kept[2], kept[0], new[1]], want="accepted 5")
+    calls.call("routers", now + 9, [new[0], kept[1], kept[2], kept[0], new[1]], want="accepted 5")
     own = calls.random.choice(calls.settings.locators)[0]
     for refused in ([calls.random.choice(FORBIDDEN)], [kept[0], new[0], kept[0]], [kept[2], own], [calls.fresh() for _ in range(17)]):
         calls.call("routers", calls.time(), refused, want="refuse 1")
     calls.call("receive", 0, b"", want="refuse 2")
-    for router in (new[0], kept[2], new[1]):
-        ask(calls, want=dotted(router)) if calls.settings.interval > 30 else ask(calls)
+    for router in (kept[2], new[0], new[1]):
+        ask(calls, want=dotted(router) if calls.settings.interval > 30 else "")
     ask(calls)
     calls.call("routers", now, list(dict.fromkeys([kept[2]] + [calls.fresh() for _ in range(15)])), want="accepted 16")
 
@@ -237,7 +246,7 @@ def times_near_the_end(calls):
     query_all(calls)
 
 
-SCENARIOS = [path_sizes, ageing, times_going_back, asking, advertised_due_time, router_lists, dropped_router]
+SCENARIOS = [path_sizes, ageing, times_going_back, asking, advertised_due_time, advertised_earlier, router_lists, dropped_router]
 
 
 # ---- Single calls
@@ -302,8 +311,9 @@ def generate(seed, count, most=REPLAY_LIMIT - 150000):
             card(calls)
         else:
             random_call(calls, name, card)
+    too_long_to_wrap = bytes.fromhex("60000000ffc43b40") + GLOBAL + bytes(65516 - 24)
     if count >= 200 and chooser.random() < 0.3:
-        calls.call("send", 0, 0, LINK_LOCAL + bytes.fromhex("00005efe") + calls.fresh(), 1300, b"\x60\0\0\0" + bytes.fromhex("ffc4") + bytes(65510))
+        calls.call("send", 0, 0, LINK_LOCAL + bytes.fromhex("00005efe") + calls.fresh(), 1300, too_long_to_wrap, want="too-big")
     if chooser.random() < 0.5:
         times_near_the_end(calls)
     return bytes(calls.data)
@@ -425,6 +435,7 @@ NAMED = {
     "advertisement_refusals": lambda calls: each_fault(calls, "advertisement"),
     "advertisement_two_faults": lambda calls: each_pair(calls, "advertisement"),
     "advertisement_lifetimes": lambda calls: advertised_due_time(calls, waits(calls.settings.interval)),
+    "advertisement_earlier": advertised_earlier,
     "no_calls": lambda calls: None,
 }
 NAMED_SETTINGS = {"no_router": ({"routers": []}, no_router), "identification_wrap": ({"identification": 65530}, sends),
@@ -445,6 +456,7 @@ def named_inputs():
     good = scenario_bytes(5, {}, no_calls_but_some)
     yield from {"bad_input_empty": b"", "bad_input_cut_settings": good[:11], "bad_input_cut": good[:-1], "bad_input_kind_0": good + b"\0",
                 "bad_input_kind_8": good + b"\x08", "bad_input_flag": encode_settings(plain_settings())[:-1] + b"\2",
+                "bad_input_flag_before_address": encode_settings(plain_settings())[:-1] + b"\2" + GLOBAL,
                 "bad_input_refused_settings": encode_settings(plain_settings(ttl=0)) + b"\x08",
                 "bad_input_reporting_cut": encode_settings(plain_settings(reporting=GLOBAL))[:-1]}.items()
     for seed in range(1, 7):
