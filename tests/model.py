@@ -5,6 +5,8 @@
     model.py program < INPUT           the lines that the program of document 01 must print
     model.py generate SEED COUNT       a replay input of about COUNT calls
     model.py bad SEED                  a replay input that is bad
+    model.py longest                   a good replay input of the greatest length
+    model.py generate-program SEED     an input of the program of document 01
     model.py generate-set DIR          the named inputs and their expected lines
     model.py coverage FILES..          how often each answer occurs in expected lines
     model.py self-test                 the checked values of document 01
@@ -451,12 +453,14 @@ def print_lines(lines):
 def main(command, *arguments):
     import model_checks
     import model_lists
+    import model_set
     read, write = sys.stdin.buffer.read, sys.stdout.buffer.write
     commands = {"run": lambda: print_lines(replay(read())), "program": lambda: print_lines(program(read())),
                 "generate": lambda seed, count: write(model_lists.generate(int(seed), int(count))) and None,
                 "bad": lambda seed: write(model_lists.bad(int(seed))) and None,
+                "generate-program": lambda seed: write(model_lists.program_input(int(seed))) and None,
                 "longest": lambda: write(model_lists.longest()) and None,
-                "generate-set": model_lists.write_set, "coverage": model_checks.coverage, "self-test": model_checks.self_test}
+                "generate-set": model_set.write_set, "coverage": model_checks.coverage, "self-test": model_checks.self_test}
     return commands[command](*arguments)
 
 

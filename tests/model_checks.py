@@ -79,7 +79,8 @@ def size_checks():
 
 def report_checks():
     """★ Reports: plateaus, limits, age."""
-    for total, given in ((1500, "accepted 10.0.0.2 1492"), (1492, "accepted 10.0.0.2 1006"), (69, "accepted 10.0.0.2 68"), (68, "refuse 18")):
+    for total, size in ((1500, 1492), (1492, 1006), (69, 68), (68, None)):
+        given = f"accepted 10.0.0.2 {size}" if size else "refuse 18"
         yield f"candidate 0, quoted {total}: {given}", said(node(), "report", 0, report(0, total)), given
     for candidate, given in ((68, "accepted 10.0.0.2 68"), (67, "refuse 18"), (1500, "refuse 19")):
         yield f"size {candidate}: {given}", said(node(), "report", 0, report(candidate)), given
@@ -122,7 +123,8 @@ def program_checks():
     yield "no datagram", program(start + u16(0)), ["datagrams 0"]
     full = start + u16(2) + b"\0" + u16(65515) + bytes(65515) + b"\0" + u16(2) + bytes(2)
     yield "65,536 bytes are taken", (len(full), program(full)), (65536, ["datagrams 2", "1 refuse 2", "2 refuse 2"])
-    for text, data in (("empty", b""), ("trailing byte", two + b"\0"), ("cut", two[:-1]), ("too long", full + b"\0"), ("no locator", bytes(8))):
+    for text, data in (("empty", b""), ("trailing byte", two + b"\0"), ("cut", two[:-1]), ("too long", full + b"\0"),
+                       ("no locator", bytes(8))):
         yield f"program, {text}: bad input", program(data), ["bad input"]
 
 
@@ -131,7 +133,8 @@ def message_checks():
     one, output = node(), lent(1300)
     one.send(0, 0, link_local(PEER), output, packet(1481))
     yield "Too Big: addresses, type, size", bytes(output[:48]), (
-        bytes.fromhex("6000000004d83a40") + link_local(OWN) + link_local(PEER) + b"\2\0" + bytes(output[42:44]) + bytes.fromhex("000005c8"))
+        bytes.fromhex("6000000004d83a40") + link_local(OWN) + link_local(PEER) + b"\2\0" + bytes(output[42:44])
+        + bytes.fromhex("000005c8"))
     yield "Too Big: checksum", checksum_right(pseudo_header(link_local(OWN), link_local(PEER), 1240) + output[40:1280]), True
     yield "Too Big: quote, and bytes behind it", bytes(output[48:]), packet(1481)[:1232] + b"\xa5" * 20
     output = lent(50)
@@ -161,12 +164,19 @@ def replay_checks():
     yield "empty input", replay(b""), ["bad input"]
     yield "multicast reporting address", replay(start + b"\1" + b"\xff" * 16), ["settings refuse 1"]
     yield "size", replay(start + b"\0\x07" + PEER), ["size 1500"]
+    calls = (b"\1\0" + u16(60) + example() + b"\2\0" + bytes(4) + link_local(PEER) + u16(60) + u16(40) + packet(40)
+             + b"\3\0\0\0\1" + u16(36) + report(700) + b"\4\0\0\0\2" + u16(1) + ROUTER + b"\5\0\0\0\0\3" + u16(0)
+             + b"\6\0\0\0\4" + u16(0) + b"\7" + PEER)
+    yield "one call of each kind, by hand", replay(start + b"\0" + calls), [
+        "receive deliver 20 40", "send wrapped 60 " + digest(wrapped(packet(40), 1, True, 64, OWN, PEER)),
+        "report accepted 10.0.0.2 700", "routers accepted 1", "ask refuse 15 811c9dc5", "advertisement refuse 8", "size 700"]
 
 
 def self_test():
     """One line for each value; the status is 1 if one is not as stated."""
     wrong = 0
-    for checks in (size_checks, report_checks, neighbour_checks, receive_checks, program_checks, message_checks, time_checks, replay_checks):
+    for checks in (size_checks, report_checks, neighbour_checks, receive_checks, program_checks, message_checks, time_checks,
+                   replay_checks):
         for text, given, stated in checks():
             wrong += given != stated
             print(f"{'ok  ' if given == stated else 'FAIL'} {text}" + ("" if given == stated else f": {given!r}, not {stated!r}"))

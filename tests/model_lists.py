@@ -1,14 +1,10 @@
-"""Whole replay inputs: scenarios over many calls, random lists, bad inputs and the named set."""
+"""Whole replay inputs: scenarios over many calls, random lists, bad inputs, inputs of the program of document 01."""
 import random
-from pathlib import Path
 
-from model import LINK_LOCAL, LOOPBACK, REPLAY_LIMIT, UNSPECIFIED, Settings, dotted, forbidden, replay
-from model_inputs import ADVERTISEMENT_FAULTS, FORBIDDEN, GLOBAL, LAST_SECOND, MULTICAST, NEARLY_FORBIDDEN, RECEIVE_FAULTS
-from model_inputs import RECEIVE_VARIATIONS, REPORT_FAULTS, REPORT_VARIATIONS, SEND_FAULTS, Calls, encode_call, encode_settings
-from model_inputs import other_option, prefix_option, route_option
+from model import LINK_LOCAL, LOOPBACK, REPLAY_LIMIT, Settings, dotted, forbidden, replay, u16
+from model_faults import FAULTS, FORBIDDEN, GLOBAL, NEARLY_FORBIDDEN, VARIATIONS, other_option, prefix_option, route_option
+from model_inputs import LAST_SECOND, Calls, encode_call, encode_lists, encode_settings
 
-FAULTS = {"receive": RECEIVE_FAULTS, "send": SEND_FAULTS, "report": REPORT_FAULTS, "advertisement": ADVERTISEMENT_FAULTS}
-VARIATIONS = {"receive": RECEIVE_VARIATIONS, "report": REPORT_VARIATIONS}
 PREFIXES = [bytes.fromhex(text) for text in ("20010db800000001", "20010db800000002", "2002c00002010000", "fec0000000000000",
                                              "fe80000000000000", "ff02000000000000", "0000000000000000", "fe80000000000100")]
 
@@ -33,15 +29,23 @@ def random_settings(chooser):
                     chooser.choice((None, None, GLOBAL, LOOPBACK, bytes([0xfe]) + bytes(15))))
 
 
+def plain_settings(**changes):
+    fields = {"locators": [(bytes((10, 0, 0, 1)), 0), (bytes((192, 0, 2, 7)), 3)], "prefixes": PREFIXES[:2],
+              "routers": [bytes((198, 51, 100, 1)), bytes((198, 51, 100, 2)), bytes((198, 51, 100, 3))]}
+    return Settings(**dict(fields, **changes))
+
+
 # ---- Scenarios
 
-def raise_time(calls, time):
+REFUSED_AT_ONCE = [("report", (b"",), "refuse 16"), ("send", (bytes(16), 3, b""), "refuse 8"), ("ask", (60,), "refuse 11"),
+                   ("routers", ([bytes(4)],), "refuse 1"), ("advertisement", (bytes(39),), "refuse 8")]
+
+
+def raise_time(calls, time, way=None):
     """Any call with a time raises the latest time, also a refused one."""
-    calls.random.choice((lambda: calls.call("report", time, b"", want="refuse 16"),
-                         lambda: calls.call("send", 0, time, bytes(16), 3, b"", want="refuse 8"),
-                         lambda: calls.call("ask", 255, time, 60, want="refuse 11"),
-                         lambda: calls.call("routers", time, [bytes(4)], want="refuse 1"),
-                         lambda: calls.call("advertisement", time, bytes(39), want="refuse 8")))()
+    name, rest, want = way or calls.random.choice(REFUSED_AT_ONCE)
+    number = (255,) if name in ("send", "ask") else ()
+    calls.call(name, *number, time, *rest, want=want)
 
 
 def size_is(calls, neighbour, size):
@@ -52,6 +56,8 @@ def query_all(calls):
     """The size toward every neighbour of the last reports."""
     for neighbour in dict.fromkeys(neighbour for neighbour, _, _ in calls.node.record[-140:]):
         calls.call("size", neighbour)
+    size_is(calls, calls.settings.locators[0][0], calls.settings.link)
+    size_is(calls, bytes(4), calls.settings.link)
 
 
 def path_sizes(calls, sizes=None):
@@ -81,6 +87,16 @@ def ageing(calls):
     raise_time(calls, start + 600)
     size_is(calls, neighbour, calls.settings.link)
     calls.report(neighbour=neighbour, candidate=size + 1)
+
+
+def times_raised_by_refused_calls(calls):
+    for way in REFUSED_AT_ONCE:
+        neighbour, start = calls.fresh(), calls.node.latest
+        calls.report(neighbour=neighbour, candidate=500, time=start)
+        raise_time(calls, start + 599, way)
+        size_is(calls, neighbour, 500)
+        raise_time(calls, start + 600, way)
+        size_is(calls, neighbour, calls.settings.link)
 
 
 def times_going_back(calls):
@@ -169,7 +185,8 @@ def waits(interval):
             (0, [prefix_option(4, longer)], interval + 1), (7300, [route_option(1, longer)], min(max(3650, interval), interval + 1)),
             (0, [route_option(2, longer + 1)], interval + 2), (0, [route_option(3, longer + 2)], interval + 2),
             (0, [route_option(4, longer)], 3600), (0, [prefix_option(5, longer)], 3600), (0, [prefix_option(3, longer)], 3600),
-            (0, [other_option(1, 1, 2), other_option(25, 3, 2), other_option(4, 4, 2), route_option(1, 20000), other_option(23, 2, 2)], 10000),
+            (0, [other_option(1, 1, 2), other_option(25, 3, 2), other_option(4, 4, 2), route_option(1, 20000)], 10000),
+            (0, [route_option(1, 20000), other_option(23, 2, 2)], 10000),
             (9000, [prefix_option(4, 20000), route_option(1, 20000)], 4500), (0, [route_option(2, 20001), prefix_option(4, 20003)], 10000)]
 
 
@@ -201,12 +218,17 @@ def router_lists(calls):
     ask(calls, want=dotted(kept[1]))
     calls.call("routers", now + 9, [new[0], kept[1], kept[2], kept[0], new[1]], want="accepted 5")
     own = calls.random.choice(calls.settings.locators)[0]
-    for refused in ([calls.random.choice(FORBIDDEN)], [kept[0], new[0], kept[0]], [kept[2], own], [calls.fresh() for _ in range(17)]):
+    seventeen = [calls.fresh() for _ in range(17)]
+    for refused in ([calls.random.choice(FORBIDDEN)], [kept[0], new[0], kept[0]], [kept[2], own], seventeen):
         calls.call("routers", calls.time(), refused, want="refuse 1")
     calls.call("receive", 0, b"", want="refuse 2")
     for router in (kept[2], new[0], new[1]):
         ask(calls, want=dotted(router) if calls.settings.interval > 30 else "")
     ask(calls)
+    first, second = calls.fresh(), calls.fresh()
+    calls.call("routers", now + 20, [first], want="accepted 1")
+    calls.call("routers", now + 3, [first, second], want="accepted 2")
+    ask(calls, want=dotted(first))
     calls.call("routers", now, list(dict.fromkeys([kept[2]] + [calls.fresh() for _ in range(15)])), want="accepted 16")
 
 
@@ -294,8 +316,9 @@ def random_call(calls, name, fault):
 
 def deck(chooser):
     """Every fault once, as many calls without one, and each scenario."""
-    cards = [(name, fault) for name in FAULTS for fault in FAULTS[name]] + [(name, None) for name in FAULTS for _ in FAULTS[name]]
-    cards += [("scenario", scenario) for scenario in SCENARIOS for _ in range(4)] + [("scenario", neighbours), ("scenario", neighbours_moved)]
+    cards = [(name, fault) for name in FAULTS for fault in FAULTS[name]]
+    cards += [(name, None) for name in FAULTS for _ in FAULTS[name]]
+    cards += [("scenario", scenario) for scenario in 4 * SCENARIOS + [neighbours, neighbours_moved]]
     chooser.shuffle(cards)
     return cards
 
@@ -304,7 +327,7 @@ def generate(seed, count, most=REPLAY_LIMIT - 150000):
     """About `count` calls; the last second is reached in some lists, and only at the end."""
     chooser = random.Random(seed)
     calls, cards = Calls(chooser, random_settings(chooser)), []
-    while calls.count < count and len(calls.data) < most and calls.node.latest < 1 << 31:
+    while len(calls.made) < count and len(calls.data) < most and calls.node.latest < 1 << 31:
         cards = cards or deck(chooser)
         name, card = cards.pop()
         if name == "scenario":
@@ -334,151 +357,35 @@ def longest(length=REPLAY_LIMIT):
 def bad(seed):
     """Cut off, of an unknown kind, with a flag above 1, or too long; sometimes with settings that would be refused."""
     chooser = random.Random(seed)
-    data, way = generate(seed, 15), chooser.randrange(8)
-    flag = len(encode_settings(plain_settings())) - 1
+    good, way = generate(seed, 15), chooser.randrange(8)
+    settings = encode_settings(plain_settings())
     if way == 0:
         return longest(REPLAY_LIMIT + chooser.choice((1, 2, 5000)))
     if way < 3:
-        data += bytes([chooser.choice((0, 8, 9, 255))]) + bytes(chooser.randrange(9))
-    elif way == 3:
-        data = bytearray(longest(2000))
-        data[flag] = chooser.choice((2, 255))
-    elif way == 4:
-        data = encode_settings(Settings([], [], [])) + b"\x09"
-    while replay(data) != ["bad input"]:
-        data = generate(seed, 15)[:chooser.randrange(len(data))]
-    return bytes(data)
+        return good + bytes([chooser.choice((0, 8, 9, 255))]) + bytes(chooser.randrange(9))
+    if way == 3:
+        return settings[:-1] + bytes([chooser.choice((2, 255))]) + chooser.choice((b"", GLOBAL)) + encode_call("size", [bytes(4)])
+    if way == 4:
+        return encode_settings(Settings([], [], [])) + b"\x09"
+    data = good
+    while replay(data) != ["bad input"]:                      # a cut between two calls is not bad
+        data = good[:chooser.randrange(len(good))]
+    return data
 
 
-# ---- The named set
+# ---- Inputs of the program of document 01
 
-def plain_settings(**changes):
-    fields = {"locators": [(bytes((10, 0, 0, 1)), 0), (bytes((192, 0, 2, 7)), 3)], "prefixes": PREFIXES[:2],
-              "routers": [bytes((198, 51, 100, 1)), bytes((198, 51, 100, 2)), bytes((198, 51, 100, 3))]}
-    return Settings(**dict(fields, **changes))
-
-
-def numbered(first, count):
-    return [bytes((203, 0, 113, place)) for place in range(first, first + count)]
-
-
-REFUSED_SETTINGS = {
-    "no_locator": {"locators": []}, "nine_locators": {"locators": [(address, 0) for address in numbered(1, 9)]},
-    "pair_twice": {"locators": [(bytes((10, 0, 0, 1)), 4), (bytes((10, 0, 0, 2)), 4), (bytes((10, 0, 0, 1)), 4)]},
-    "forbidden_locator": {"locators": [(bytes((10, 0, 0, 1)), 0), (bytes((224, 0, 0, 1)), 0)]},
-    "nine_prefixes": {"prefixes": [PREFIXES[0]] * 9}, "seventeen_routers": {"routers": numbered(1, 17)},
-    "router_twice": {"routers": numbered(1, 3) + numbered(2, 1)}, "forbidden_router": {"routers": numbered(1, 1) + [bytes((127, 9, 9, 9))]},
-    "router_is_locator": {"routers": [bytes((192, 0, 2, 7))]}, "link_575": {"link": 575}, "link_9217": {"link": 9217}, "ttl_0": {"ttl": 0},
-    "interval_0": {"interval": 0}, "interval_3601": {"interval": 3601}, "reporting_multicast": {"reporting": MULTICAST},
-    "reporting_unspecified": {"reporting": UNSPECIFIED}}
-ALLOWED_SETTINGS = {
-    "least": {"locators": [(bytes((10, 0, 0, 1)), 255)], "prefixes": [], "routers": [], "link": 576, "ttl": 1, "interval": 1, "identification": 0},
-    "most": {"locators": [(address, 0) for address in numbered(1, 8)], "prefixes": [PREFIXES[0]] * 8, "routers": numbered(20, 16),
-             "link": 9216, "ttl": 255, "interval": 3600, "identification": 65535, "reporting": LOOPBACK},
-    "one_address_on_two_interfaces": {"locators": [(bytes((10, 0, 0, 1)), 0), (bytes((10, 0, 0, 1)), 1)]}}
-
-
-def each_fault(calls, name, keep=lambda fault: True):
-    for fault in FAULTS[name]:
-        if keep(fault):
-            with_faults(calls, name, fault)
-
-
-def each_variation(calls, name):
-    for variation in VARIATIONS[name]:
-        getattr(calls, name)((), variation)
-
-
-def each_pair(calls, name, highest=99):
-    """For each two numbers a call that has both faults: the first in the call's order is given."""
-    numbers = sorted({fault for fault, _ in FAULTS[name] if fault <= highest})
-    for first, second in [(a, b) for a in numbers for b in numbers if a < b]:
-        with_faults(calls, name, *(calls.random.choice([fault for fault in FAULTS[name] if fault[0] == one]) for one in (first, second)))
-
-
-def no_router(calls):
-    ask(calls, want="refuse 22")
-    ask(calls, room=0, want="refuse 22")
-    calls.advertisement([(21, {})], router=calls.fresh())
-    calls.receive([(10, {"source6": GLOBAL})])
-
-
-def sends(calls, count=12):
-    for _ in range(count):
-        calls.send()
-        calls.send([(15, {"short": 1})])
-
-
-NAMED = {
-    "receive_refusals": lambda calls: each_fault(calls, "receive"),
-    "receive_two_faults": lambda calls: each_pair(calls, "receive"),
-    "receive_delivered": lambda calls: each_variation(calls, "receive"),
-    "send_refusals": lambda calls: each_fault(calls, "send", lambda fault: fault[0] != 14),
-    "send_too_big_with_message": lambda calls: each_fault(calls, "send", lambda fault: fault[0] == 14 and "message" not in fault[1]),
-    "send_too_big_without_message": lambda calls: each_fault(calls, "send", lambda fault: "message" in fault[1]),
-    "send_two_faults": lambda calls: each_pair(calls, "send"),
-    "send_path_sizes": lambda calls: path_sizes(calls, (68, 600, 1299, 1300, 1301, 1302, 1499, 1500)),
-    "report_refusals": lambda calls: each_fault(calls, "report"),
-    "report_two_faults": lambda calls: each_pair(calls, "report"),
-    "report_accepted_and_plateaus": lambda calls: each_variation(calls, "report"),
-    "ageing": lambda calls: [ageing(calls) for _ in range(6)],
-    "times_going_back": lambda calls: [times_going_back(calls) for _ in range(3)],
-    "times_near_the_end": times_near_the_end,
-    "neighbours_63": lambda calls: neighbours(calls, 63, False),
-    "neighbours_64": lambda calls: neighbours(calls, 64, False),
-    "neighbours_65": lambda calls: neighbours(calls, 65, False),
-    "neighbours_63_reported_again": lambda calls: neighbours(calls, 63, True),
-    "neighbours_64_reported_again": lambda calls: neighbours(calls, 64, True),
-    "neighbours_moved": neighbours_moved,
-    "router_lists": lambda calls: [router_lists(calls), dropped_router(calls)],
-    "asking": lambda calls: [asking(calls), asking(calls)],
-    "advertisement_refusals": lambda calls: each_fault(calls, "advertisement"),
-    "advertisement_two_faults": lambda calls: each_pair(calls, "advertisement"),
-    "advertisement_lifetimes": lambda calls: advertised_due_time(calls, waits(calls.settings.interval)),
-    "advertisement_earlier": advertised_earlier,
-    "no_calls": lambda calls: None,
-}
-NAMED_SETTINGS = {"no_router": ({"routers": []}, no_router), "identification_wrap": ({"identification": 65530}, sends),
-                  "send_path_sizes_large_link": ({"link": 9216}, lambda calls: path_sizes(calls, (8166, 1500, 9216))),
-                  "advertisement_lifetimes_long_interval": ({"interval": 3600}, lambda calls: advertised_due_time(calls, waits(3600)))}
-
-
-def named_inputs():
-    """Name and bytes of each."""
-    for place, (name, scenario) in enumerate(NAMED.items()):
-        yield name, scenario_bytes(place, {}, scenario)
-    for name, (changes, scenario) in NAMED_SETTINGS.items():
-        yield name, scenario_bytes(7, changes, scenario)
-    for name, changes in REFUSED_SETTINGS.items():
-        yield "settings_refused_" + name, encode_settings(plain_settings(**changes)) + encode_call("size", [bytes(4)])
-    for name, changes in ALLOWED_SETTINGS.items():
-        yield "settings_" + name, scenario_bytes(3, changes, sends)
-    good = scenario_bytes(5, {}, no_calls_but_some)
-    yield from {"bad_input_empty": b"", "bad_input_cut_settings": good[:11], "bad_input_cut": good[:-1], "bad_input_kind_0": good + b"\0",
-                "bad_input_kind_8": good + b"\x08", "bad_input_flag": encode_settings(plain_settings())[:-1] + b"\2",
-                "bad_input_flag_before_address": encode_settings(plain_settings())[:-1] + b"\2" + GLOBAL,
-                "bad_input_refused_settings": encode_settings(plain_settings(ttl=0)) + b"\x08",
-                "bad_input_reporting_cut": encode_settings(plain_settings(reporting=GLOBAL))[:-1]}.items()
-    for seed in range(1, 7):
-        yield f"random_{seed}", generate(seed, 90, 40000)
-
-
-def no_calls_but_some(calls):
-    calls.receive()
-    calls.report()
-
-
-def scenario_bytes(seed, changes, scenario):
-    calls = Calls(random.Random(seed), plain_settings(**changes))
-    scenario(calls)
-    return bytes(calls.data)
-
-
-def write_set(directory):
-    directory = Path(directory)
-    directory.mkdir(parents=True, exist_ok=True)
-    for name, data in named_inputs():
-        if len(data) >= 65536:
-            raise AssertionError(f"{name} has {len(data)} bytes")
-        (directory / f"{name}.in").write_bytes(data)
-        (directory / f"{name}.out").write_text("".join(line + "\n" for line in replay(data)))
+def program_input(seed):
+    """Lists of the settings and datagrams; one in eight is cut, has a byte too many or refused settings."""
+    chooser = random.Random(seed)
+    some = random_settings(chooser)
+    calls = Calls(chooser, Settings(some.locators, some.prefixes, some.routers))
+    for fault in chooser.sample(FAULTS["receive"], 20) + 20 * [None]:
+        random_call(calls, "receive", fault)
+    datagrams = [arguments for name, arguments in calls.made if name == "receive"]
+    data = u16(len(datagrams)) + b"".join(bytes([interface]) + u16(len(datagram)) + datagram for interface, datagram in datagrams)
+    way = chooser.randrange(24)
+    if way == 0:
+        calls.settings.locators.append((FORBIDDEN[1], 0))
+    data = encode_lists(calls.settings) + data
+    return data[:chooser.randrange(len(data))] if way == 1 else data + b"\0" if way == 2 else data
