@@ -465,5 +465,5 @@ def main(command, *arguments):
 
 
 if __name__ == "__main__":
-    sys.modules["model"] = sys.modules["__main__"]
+    sys.modules["model"] = sys.modules["__main__"]           # the other files import this one by its name
     sys.exit(main(*sys.argv[1:]))

@@ -2,7 +2,7 @@
 from collections import Counter
 from pathlib import Path
 
-from model import LINK_LOCAL, Node, Refused, Settings, answer, checksum_field, checksum_right, digest, icmpv6_packet, lent
+from model import LINK_LOCAL, Node, Settings, answer, checksum_field, checksum_right, digest, icmpv6_packet, lent
 from model import link_local, program, pseudo_header, replay, u16, wrapped
 
 OWN, PEER, ROUTER = bytes((10, 0, 0, 1)), bytes((10, 0, 0, 2)), bytes((10, 0, 0, 9))

@@ -1,8 +1,9 @@
 """Whole replay inputs: scenarios over many calls, random lists, bad inputs, inputs of the program of document 01."""
 import random
 
-from model import LINK_LOCAL, LOOPBACK, REPLAY_LIMIT, Settings, dotted, forbidden, replay, u16
-from model_faults import FAULTS, FORBIDDEN, GLOBAL, NEARLY_FORBIDDEN, VARIATIONS, other_option, prefix_option, route_option
+from model import LINK_LOCAL, LOOPBACK, REPLAY_LIMIT, Settings, dotted, forbidden, link_local, replay, u16
+from model_faults import FAULTS, FORBIDDEN, GLOBAL, NEARLY_FORBIDDEN, PLATEAU_BELOW, VARIATIONS
+from model_faults import other_option, prefix_option, route_option
 from model_inputs import LAST_SECOND, Calls, encode_call, encode_lists, encode_settings
 
 PREFIXES = [bytes.fromhex(text) for text in ("20010db800000001", "20010db800000002", "2002c00002010000", "fec0000000000000",
@@ -87,6 +88,12 @@ def ageing(calls):
     raise_time(calls, start + 600)
     size_is(calls, neighbour, calls.settings.link)
     calls.report(neighbour=neighbour, candidate=size + 1)
+
+
+def plateaus(calls):
+    """Candidate 0 toward a neighbour without a report, for quoted lengths at and just above each plateau."""
+    for total in PLATEAU_BELOW:
+        calls.report(variation={"candidate": 0, "total": total}, neighbour=calls.fresh())
 
 
 def times_raised_by_refused_calls(calls):
@@ -268,7 +275,8 @@ def times_near_the_end(calls):
     query_all(calls)
 
 
-SCENARIOS = [path_sizes, ageing, times_going_back, asking, advertised_due_time, advertised_earlier, router_lists, dropped_router]
+SCENARIOS = [path_sizes, plateaus, ageing, times_going_back, asking, advertised_due_time, advertised_earlier, router_lists,
+             dropped_router]
 
 
 # ---- Single calls
@@ -334,9 +342,6 @@ def generate(seed, count, most=REPLAY_LIMIT - 150000):
             card(calls)
         else:
             random_call(calls, name, card)
-    too_long_to_wrap = bytes.fromhex("60000000ffc43b40") + GLOBAL + bytes(65516 - 24)
-    if count >= 200 and chooser.random() < 0.3:
-        calls.call("send", 0, 0, LINK_LOCAL + bytes.fromhex("00005efe") + calls.fresh(), 1300, too_long_to_wrap, want="too-big")
     if chooser.random() < 0.5:
         times_near_the_end(calls)
     return bytes(calls.data)
@@ -345,8 +350,11 @@ def generate(seed, count, most=REPLAY_LIMIT - 150000):
 # ---- Bad inputs
 
 def longest(length=REPLAY_LIMIT):
-    """Good calls only, of exactly this length."""
-    data = encode_settings(plain_settings())
+    """Good calls only, of exactly this length; first packets too long to be wrapped by any path size: 14 and never 23."""
+    data = encode_settings(plain_settings(link=9216))
+    for n in (65515, 65516, 65535):
+        packet = b"\x60\0\0\0" + u16(n - 40) + b"\x3b\x40" + GLOBAL + bytes(n - 24)
+        data += encode_call("send", (0, 0, link_local(bytes((10, 0, 0, 2))), 1300, packet))
     whole = encode_call("report", (0, bytes(65535)))
     while len(data) + 2 * len(whole) < length:
         data += whole

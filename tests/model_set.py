@@ -5,9 +5,9 @@ from pathlib import Path
 from model import LOOPBACK, UNSPECIFIED, replay
 from model_faults import FAULTS, GLOBAL, MULTICAST, VARIATIONS
 from model_inputs import Calls, encode_call, encode_settings
-from model_lists import PREFIXES, advertised_due_time, advertised_earlier, ageing, ask, asking, dropped_router, generate, neighbours
-from model_lists import neighbours_moved, path_sizes, plain_settings, router_lists, times_going_back, times_near_the_end
-from model_lists import times_raised_by_refused_calls, waits, with_faults
+from model_lists import PREFIXES, advertised_due_time, advertised_earlier, ageing, ask, asking, dropped_router, generate
+from model_lists import neighbours, neighbours_moved, path_sizes, plain_settings, plateaus, router_lists, times_going_back
+from model_lists import times_near_the_end, times_raised_by_refused_calls, waits, with_faults
 
 
 def numbered(first, count):
@@ -90,7 +90,8 @@ NAMED = {
     "send_path_sizes": lambda calls: path_sizes(calls, (68, 600, 1299, 1300, 1301, 1302, 1499, 1500)),
     "report_refusals": lambda calls: each_fault(calls, "report"),
     "report_two_faults": lambda calls: each_pair(calls, "report", 20),
-    "report_accepted_and_plateaus": lambda calls: each_variation(calls, "report"),
+    "report_accepted": lambda calls: each_variation(calls, "report"),
+    "report_plateaus": plateaus,
     "ageing": lambda calls: [ageing(calls) for _ in range(6)],
     "times_raised_by_refused_calls": times_raised_by_refused_calls,
     "times_going_back": lambda calls: [times_going_back(calls) for _ in range(3)],
@@ -111,7 +112,7 @@ NAMED = {
 }
 NAMED_SETTINGS = {"no_router": ({"routers": []}, no_router), "identification_wrap": ({"identification": 65530}, sends),
                   "send_path_sizes_large_link": ({"link": 9216}, lambda calls: path_sizes(calls, (8166, 1500, 9216))),
-                  "report_plateaus_large_link": ({"link": 9216}, lambda calls: each_variation(calls, "report")),
+                  "report_plateaus_large_link": ({"link": 9216}, plateaus),
                   "advertisement_lifetimes_long_interval": ({"interval": 3600}, lambda calls: advertised_due_time(calls, waits(3600)))}
 
 
