@@ -1,7 +1,8 @@
 """Whole replay inputs: scenarios over many calls, random lists, bad inputs, inputs of the program of document 01."""
 import random
 
-from model import LINK_LOCAL, LOOPBACK, REPLAY_LIMIT, Settings, dotted, forbidden, link_local, replay, u16
+from model import LINK_LOCAL, LOOPBACK, REPLAY_LIMIT, Settings, dotted, forbidden, icmpv6_packet, link_local, replay
+from model import too_big_message, u16, wrapped
 from model_faults import FAULTS, FORBIDDEN, GLOBAL, NEARLY_FORBIDDEN, PLATEAU_BELOW, VARIATIONS
 from model_faults import other_option, prefix_option, route_option
 from model_inputs import LAST_SECOND, Calls, encode_call, encode_lists, encode_settings
@@ -275,8 +276,24 @@ def times_near_the_end(calls):
     query_all(calls)
 
 
-SCENARIOS = [path_sizes, plateaus, ageing, times_going_back, asking, advertised_due_time, advertised_earlier, router_lists,
-             dropped_router]
+def zero_checksums(calls):
+    """Checksums that come out as 0 in each thing we write: a word that occurs once is set to the checksum without it."""
+    node, settings, own = calls.node, calls.settings, calls.settings.locators[0][0]
+    start, packet = calls.fresh()[:2], bytes.fromhex("6000000000003b40") + GLOBAL + GLOBAL
+    header = wrapped(packet, node.identification, settings.link > 1300, settings.ttl, own, start + b"\0\0")
+    calls.call("send", 0, 0, link_local(start + header[10:12]), 60, packet)
+    largest = max(1280, settings.link - 20)
+    packet = b"\x60\0\0\0" + u16(largest - 39) + b"\x3b\x40" + GLOBAL + bytes(largest - 23)
+    message = too_big_message(settings.reporting, packet, largest)
+    packet = packet[:1230] + message[42:44] + packet[1232:]
+    calls.call("send", 0, 0, link_local(calls.fresh()), 1280, packet, want=f"too-big {largest} 1280")
+    solicitation = icmpv6_packet(link_local(own), link_local(start + b"\0\0"), 255, b"\x85" + bytes(7))
+    calls.call("routers", 0, [start + solicitation[42:44]])
+    ask(calls, index=0)
+
+
+SCENARIOS = [path_sizes, plateaus, zero_checksums, ageing, times_going_back, asking, advertised_due_time, advertised_earlier,
+             router_lists, dropped_router]
 
 
 # ---- Single calls

@@ -7,7 +7,7 @@ from model_faults import FAULTS, GLOBAL, MULTICAST, VARIATIONS
 from model_inputs import Calls, encode_call, encode_settings
 from model_lists import PREFIXES, advertised_due_time, advertised_earlier, ageing, ask, asking, dropped_router, generate
 from model_lists import neighbours, neighbours_moved, path_sizes, plain_settings, plateaus, router_lists, times_going_back
-from model_lists import times_near_the_end, times_raised_by_refused_calls, waits, with_faults
+from model_lists import times_near_the_end, times_raised_by_refused_calls, waits, with_faults, zero_checksums
 
 
 def numbered(first, count):
@@ -88,6 +88,7 @@ NAMED = {
     "send_two_faults": lambda calls: each_pair(calls, "send", 3),
     "send_rooms": rooms,
     "send_path_sizes": lambda calls: path_sizes(calls, (68, 600, 1299, 1300, 1301, 1302, 1499, 1500)),
+    "zero_checksums": zero_checksums,
     "report_refusals": lambda calls: each_fault(calls, "report"),
     "report_two_faults": lambda calls: each_pair(calls, "report", 20),
     "report_accepted": lambda calls: each_variation(calls, "report"),
