@@ -59,9 +59,6 @@ pub fn kinds() {
         30,
         b"\x05\x01..\x00\x00\x00\x09",
     );
-}
-
-pub fn routes() {
     smallest(
         b"route option of length 1 for 9 s, router 30",
         30,

@@ -3,27 +3,17 @@ mod lifetimes_cases;
 mod routers_cases;
 mod write;
 
-fn routers() {
+fn main() {
     routers_cases::next_due();
-    routers_cases::setup();
     routers_cases::turns();
     routers_cases::last_second();
-    routers_cases::replaced();
+    routers_cases::all_replaced();
     routers_cases::emptied();
-    routers_cases::listed();
+    routers_cases::all_listed();
     routers_cases::all_distinct();
-}
-
-fn lifetimes() {
     lifetimes_cases::all_whole();
     lifetimes_cases::kinds();
-    lifetimes_cases::routes();
     lifetimes_cases::counted();
     lifetimes_cases::due_times();
     lifetimes_cases::earlier();
-}
-
-fn main() {
-    routers();
-    lifetimes();
 }

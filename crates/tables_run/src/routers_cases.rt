@@ -32,21 +32,21 @@ fn three() -> RouterList {
         .rescheduled(THREE, 40)
 }
 
-fn next(case: &[u8], list: RouterList, now: u32) {
-    write::next(case, list.next(now));
+fn at_setup(case: &[u8], count: usize, now: u32) {
+    write::next(case, fresh(count).next(now));
+}
+
+fn of_three(case: &[u8], now: u32) {
+    write::next(case, three().next(now));
 }
 
 pub fn next_due() {
-    let list = three();
-    next(b"two due at 40, the lower place first", list, 60);
-    next(b"a due time equal to now", list, 40);
-    next(b"all due times in the future", list, 39);
-}
-
-pub fn setup() {
-    next(b"at setup", fresh(3), 0);
-    next(b"a count above 16 is read as 16", fresh(99), 0);
-    next(b"no router", fresh(0), 60);
+    of_three(b"two due at 40, the lower place first", 60);
+    of_three(b"a due time equal to now", 40);
+    of_three(b"all due times in the future", 39);
+    at_setup(b"at setup", 3, 0);
+    at_setup(b"a count above 16 is read as 16", 99, 0);
+    at_setup(b"no router", 0, 60);
 }
 
 // An asking: the next router is due again after the interval.
@@ -67,55 +67,56 @@ pub fn turns() {
     asked(b"fifth asking at 220", fourth, 220);
 }
 
-pub fn last_second() {
-    let list = fresh(1);
-    next(
-        b"due at the last 32-bit second",
-        list.rescheduled(ONE, 4294967295),
-        LAST_SECOND,
-    );
-    next(
-        b"due past the last 32-bit second",
-        list.rescheduled(ONE, 4294967296),
-        LAST_SECOND,
-    );
-    let again = asked(b"asked at the last 32-bit second", list, LAST_SECOND);
-    next(b"asked once more then", again, LAST_SECOND);
+fn due_at(case: &[u8], due: u64) {
+    write::next(case, fresh(1).rescheduled(ONE, due).next(LAST_SECOND));
 }
 
-pub fn replaced() {
-    let kept = three().replaced(addresses(FOUR, THREE, 0), 2, 45);
-    next(
-        b"replaced at 45, a router in both lists keeps its due time",
-        kept,
+pub fn last_second() {
+    due_at(b"due at the last 32-bit second", 4294967295);
+    due_at(b"due past the last 32-bit second", 4294967296);
+    let again = asked(b"asked at the last 32-bit second", fresh(1), LAST_SECOND);
+    asked(b"asked once more then", again, LAST_SECOND);
+}
+
+// The list of three replaced at 45.
+fn replaced(case: &[u8], a: u32, b: u32, count: usize, now: u32) {
+    write::next(
+        case,
+        three().replaced(addresses(a, b, 0), count, 45).next(now),
+    );
+}
+
+pub fn all_replaced() {
+    replaced(
+        b"a router in both lists keeps its due time",
+        FOUR,
+        THREE,
+        2,
         45,
     );
-    let new = three().replaced(addresses(FOUR, ONE, 0), 2, 45);
-    next(b"replaced at 45, the new router is due now", new, 45);
-    next(b"replaced at 45, the new router is not due before", new, 44);
+    replaced(b"a new router is due now", FOUR, ONE, 2, 45);
+    replaced(b"a new router is not due before", FOUR, ONE, 2, 44);
+    replaced(b"replaced by an empty list", ONE, TWO, 0, 60);
 }
 
 pub fn emptied() {
     let empty = three().replaced(addresses(ONE, TWO, THREE), 0, 45);
-    next(b"replaced by an empty list", empty, 60);
     let back = empty.replaced(addresses(ONE, TWO, THREE), 3, 55);
-    next(
+    write::next(
         b"replaced by an empty list and back at 55, all are new",
-        back,
-        54,
+        back.next(54),
     );
-    write::answer(b"10.0.0.3 is listed in the empty list", empty.lists(THREE));
-    write::answer(b"10.0.0.3 is listed once it is back", back.lists(THREE));
 }
 
-pub fn listed() {
-    let list = three();
-    write::answer(b"10.0.0.3 is listed", list.lists(THREE));
-    write::answer(b"10.0.0.4 is listed", list.lists(FOUR));
-    write::answer(
-        b"an address behind the count is listed",
-        fresh(2).lists(THREE),
-    );
+fn listed(case: &[u8], count: usize, address: u32) {
+    write::answer(case, fresh(count).lists(address));
+}
+
+pub fn all_listed() {
+    listed(b"10.0.0.3 is listed", 3, THREE);
+    listed(b"10.0.0.4 is listed", 3, FOUR);
+    listed(b"an address behind the count is listed", 2, THREE);
+    listed(b"10.0.0.1 is listed in an empty list", 0, ONE);
 }
 
 fn distinct(case: &[u8], a: u32, b: u32, c: u32, count: usize) {

@@ -5,66 +5,58 @@ use routers::Next;
 
 const OUT: i32 = 1;
 
-pub fn text(words: &[u8]) {
-    io::write_all(OUT, words);
-}
-
-pub fn number(n: u64) {
-    io::print_decimal(OUT, n);
-}
-
 // An IPv4 address, dotted.
-pub fn address(a: u32) {
-    number((a / 16777216) as u64);
-    text(b".");
-    number((a / 65536 % 256) as u64);
-    text(b".");
-    number((a / 256 % 256) as u64);
-    text(b".");
-    number((a % 256) as u64);
+fn address(a: u32) {
+    io::print_decimal(OUT, (a / 16777216) as u64);
+    io::write_all(OUT, b".");
+    io::print_decimal(OUT, (a / 65536 % 256) as u64);
+    io::write_all(OUT, b".");
+    io::print_decimal(OUT, (a / 256 % 256) as u64);
+    io::write_all(OUT, b".");
+    io::print_decimal(OUT, (a % 256) as u64);
 }
 
 pub fn next(case: &[u8], next: Next) {
-    text(case);
+    io::write_all(OUT, case);
     match next {
         Next::Due(a) => {
-            text(b": asks ");
+            io::write_all(OUT, b": asks ");
             address(a);
         }
         Next::NoneDue => {
-            text(b": none due");
+            io::write_all(OUT, b": none due");
         }
     }
-    text(b"\n");
+    io::write_all(OUT, b"\n");
 }
 
 pub fn answer(case: &[u8], yes: bool) {
-    text(case);
+    io::write_all(OUT, case);
     if yes {
-        text(b": yes\n");
+        io::write_all(OUT, b": yes\n");
     } else {
-        text(b": no\n");
+        io::write_all(OUT, b": no\n");
     }
 }
 
 pub fn second(case: &[u8], due: u64) {
-    text(case);
-    text(b": due at ");
-    number(due);
-    text(b"\n");
+    io::write_all(OUT, case);
+    io::write_all(OUT, b": due at ");
+    io::print_decimal(OUT, due);
+    io::write_all(OUT, b"\n");
 }
 
 pub fn smallest(case: &[u8], read: Options) {
-    text(case);
+    io::write_all(OUT, case);
     let found = read.smallest;
     match found {
         Smallest::Seconds(seconds) => {
-            text(b": smallest ");
-            number(seconds as u64);
+            io::write_all(OUT, b": smallest ");
+            io::print_decimal(OUT, seconds as u64);
         }
         Smallest::NoneCounts => {
-            text(b": none counts");
+            io::write_all(OUT, b": none counts");
         }
     }
-    text(b"\n");
+    io::write_all(OUT, b"\n");
 }
