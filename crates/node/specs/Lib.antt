@@ -2,3 +2,4 @@ pub mod Node
 pub mod Receive
 pub mod Report
 pub mod RouterList
+pub mod Send

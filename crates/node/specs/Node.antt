@@ -1,7 +1,6 @@
 -- The node: how it is made, its latest time and its sizes.
 use Prim.Native.Nat.{ℕ, max}
 use mathlib.Core.Bool.{cond}
-use mathlib.Core.List.{List}
 use lib.ListN.{replicate}
 use Rattle.paths.specs.Kept.{inForce}
 use Rattle.paths.specs.Table.{noReports, keptIn}

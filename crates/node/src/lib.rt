@@ -2,6 +2,7 @@
 pub mod receive;
 pub mod report;
 pub mod router_list;
+pub mod send;
 
 use paths::PathTable;
 use refusals::Refusal;

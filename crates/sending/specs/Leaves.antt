@@ -1,5 +1,5 @@
 -- What a sending that wraps nothing leaves: after a refusal everything, with 14 everything but its message. Assumes nothing.
-use Prim.Native.Nat.{ℕ, _+_, _≤_}
+use Prim.Native.Nat.{ℕ, _+_}
 use mathlib.Core.Path.{_≡_, refl, sym, _∙_}
 use mathlib.Core.Bool.{Bool, true, false, cond, _&&_}
 use mathlib.Core.List.{List, []}
@@ -77,7 +77,7 @@ module _ (s : Settings) (i P : ℕ) (packet hop : List ℕ) (k : ℕ) (out : Lis
       let wrap = wrapCheck n (length out) in
       let source = addressOf (sourceOf s k) in
       let t = too-big-by (largestPacket P) source (20 + n) n check big may short wrap size len e in
-      let whole : 40 ≤ n = packet-whole n (innerOf packet) (check-passes s packet hop k (t .0) .0) in
+      let whole = packet-whole n (innerOf packet) (check-passes s packet hop k (t .0) .0) .some in
       let w = tooBigOf (s .reporting) size packet in
       let fits : short ≡ false → tooBigOutput (s .reporting) size packet out ≡ written w out =
       λ f. rw (too-big-pass n (length out) whole (ltb-false _ _ f))

@@ -17,34 +17,20 @@ use Rattle.lent.specs.Written.{written}
 use Rattle.lists.specs.Tests.{or-left, or-right}
 use Rattle.messages.specs.Icmp.{tooBigLength}
 use Rattle.paths.specs.Packets.{largestPacket}
-use Rattle.refusals.specs.Refusals.{firstOf}
-use Rattle.refusals.specs.declared.Refusal.{Refusal}
 use Rattle.refusals.specs.declared.Refusal.the-variants.{WrappedTooLong, OutputShort}
-use Rattle.refusals.specs.declared.Check.the-variants.{Pass, Stop}
+use Rattle.refusals.specs.declared.Check.the-variants.{Pass}
 use Rattle.settings.specs.Settings.{embeddedTo, forbiddenTo, isOurs, isBadEnd}
 use Rattle.settings.specs.Locators.{rowsOf}
 use Rattle.settings.specs.declared.Settings.{Settings}
 use Rattle.settings.specs.declared.locators.Found.{Found}
 use Rattle.settings.specs.declared.locators.Found.the-variants as found
 use Rattle.sending.specs.Plan.{sourceOf, addressOf, isNoLocator, isNotIsatap, sendRows, sendCheck, planOf, sizedPlan, bigPlan, wrapPlan}
+use Rattle.refusals.specs.Laws.{AllFalse, all-false}
 use Rattle.sending.specs.Sending.{fieldsFor, sentOf, sentOutput}
 use Rattle.sending.specs.Wraps.{Wraps}
 use Rattle.sending.specs.Cases.{wrapped-by}
 use Rattle.sending.specs.declared.Plan.the-variants.{Wrap}
 use Rattle.sending.specs.declared.SendAnswer.the-variants.{Wrapped}
-
--- no row of the table refuses
-abbrev pub Passed : List (Bool × Refusal) → Type 0
-Passed [] = Unit {0}
-Passed (t ∷ ts) = (t .0 ≡ false) × Passed ts
-
-passed-row : (b : Bool) (r : Refusal) (ts : List (Bool × Refusal)) → cond b (Stop r) (firstOf ts) ≡ Pass → (b ≡ false) × (firstOf ts ≡ Pass)
-passed-row true r ts e = (cc, cc)
-passed-row false r ts e = (refl, e)
-
-pub first-passed : (ts : List (Bool × Refusal)) → firstOf ts ≡ Pass → Passed ts
-first-passed [] e = tt
-first-passed (t ∷ ts) e = let p = passed-row (t .0) (t .1) ts e in (p .0, first-passed ts (p .1))
 
 located : (f : Found) → isNoLocator f ≡ false → f ≡ found.Address (addressOf f)
 unfolding isNoLocator
@@ -57,9 +43,9 @@ embeds true a e = refl
 embeds false a e = cc
 
 -- what passes 8, 11, 12 and 13
-pub check-passes : (s : Settings) (packet hop : List ℕ) (k : ℕ) → sendCheck s packet hop k ≡ Pass → Passed (sendRows s packet hop k)
+pub check-passes : (s : Settings) (packet hop : List ℕ) (k : ℕ) → sendCheck s packet hop k ≡ Pass → AllFalse (sendRows s packet hop k)
 unfolding sendCheck
-check-passes s packet hop k e = first-passed (sendRows s packet hop k) e
+check-passes s packet hop k e = all-false (sendRows s packet hop k) e
 
 well-formed : (packet : List ℕ) → isPacketMalformed (length packet) (innerOf packet) ≡ false
     → (getD packet 0 0 / 16 ≡ 6) × (length packet ≡ 40 + wordAt packet 4)
@@ -77,7 +63,7 @@ isatap-embeds s hop e = embeds (isOnLink (rowsOf (s .prefixes)) (s .«prefix_cou
 wrap-fits : (n room : ℕ) → wrapCheck n room ≡ Pass → (20 + n ≤ 65535) × (20 + n ≤ room)
 unfolding wrapCheck
 wrap-fits n room e =
-    let t = first-passed ((ltb 65535 (20 + n), WrappedTooLong) ∷ ((ltb room (20 + n), OutputShort) ∷ [])) e in
+    let t = all-false ((ltb 65535 (20 + n), WrappedTooLong) ∷ ((ltb room (20 + n), OutputShort) ∷ [])) e in
     (ltb-false _ _ (t .0), ltb-false _ _ (t .1 .0))
 
 module _ (s : Settings) (i P : ℕ) (packet hop : List ℕ) (k : ℕ) where
