@@ -59,12 +59,16 @@ tooBigOutput reporting size packet out =
 unfoldable pub solicitationOf : List ℕ → List ℕ → List ℕ
 solicitationOf from to = icmpPacket 255 from to 133 0 (0 ∷ (0 ∷ (0 ∷ (0 ∷ []))))
 
+-- "a solicitation of 48 bytes"
+abbrev pub solicitationLength : ℕ
+solicitationLength = 48
+
 -- 15
 unfoldable pub solicitationCheck : ℕ → Check
-solicitationCheck room = firstOf ((ltb room 48, OutputShort) ∷ [])
+solicitationCheck room = firstOf ((ltb room solicitationLength, OutputShort) ∷ [])
 
 unfoldable pub solicitationAnswer : ℕ → Written
-solicitationAnswer room = writerAnswer (solicitationCheck room) 48
+solicitationAnswer room = writerAnswer (solicitationCheck room) solicitationLength
 
 unfoldable pub solicitationOutput : List ℕ → List ℕ → List ℕ → List ℕ
 solicitationOutput from to out = writerOutput (solicitationCheck (length out)) (solicitationOf from to) out

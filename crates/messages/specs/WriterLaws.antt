@@ -7,7 +7,7 @@ use borrow.Author.Tests.{lt-ltb, le-ltb}
 use lib.ListN.{length, length-append}
 use Rattle.refusals.specs.declared.Refusal.the-variants.{InnerMalformed, OutputShort}
 use Rattle.refusals.specs.declared.Check.the-variants.{Pass, Stop}
-use Rattle.messages.specs.Icmp.{ipv6Header, tooBigLength, tooBigCheck, solicitationCheck}
+use Rattle.messages.specs.Icmp.{ipv6Header, tooBigLength, tooBigCheck, solicitationLength, solicitationCheck}
 
 module _ (n room : ℕ) where
   pub too-big-headless : n < 40 → tooBigCheck n room ≡ Stop InnerMalformed
@@ -22,11 +22,11 @@ module _ (n room : ℕ) where
   unfolding tooBigCheck
   too-big-pass h k = simp (le-ltb _ _ h, le-ltb _ _ k)
 
-pub solicitation-short : (room : ℕ) → room < 48 → solicitationCheck room ≡ Stop OutputShort
+pub solicitation-short : (room : ℕ) → room < solicitationLength → solicitationCheck room ≡ Stop OutputShort
 unfolding solicitationCheck
 solicitation-short room h = simp (lt-ltb _ _ h)
 
-pub solicitation-pass : (room : ℕ) → 48 ≤ room → solicitationCheck room ≡ Pass
+pub solicitation-pass : (room : ℕ) → solicitationLength ≤ room → solicitationCheck room ≡ Pass
 unfolding solicitationCheck
 solicitation-pass room h = simp (le-ltb _ _ h)
 

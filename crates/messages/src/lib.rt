@@ -14,6 +14,9 @@ ghost use Rattle.messages.specs.Sealed.{sealed};
 // The most that a Packet Too Big quotes: the message is then 1,280 bytes long.
 const QUOTE: usize = 1232;
 
+// The length of a router solicitation.
+pub const SOLICITATION: usize = 48;
+
 // Writes the Packet Too Big that names the size, from the reporting address to the packet's source.
 pub fn too_big(reporting: [u8; 16], size: u16, packet: &[u8], out: &mut [u8]) -> Written
     ensures { λ r. ⌜ r ≡ tooBigAnswer (length (now (packet .entry))) (length (now (out .entry))) ⌝ }
@@ -37,12 +40,12 @@ pub fn solicitation(from: [u8; 16], to: [u8; 16], out: &mut [u8]) -> Written
     ensures { λ r. ⌜ r ≡ solicitationAnswer (length (now (out .entry))) ⌝ }
     ensures { λ _. ⌜ now (out .exit) ≡ solicitationOutput from to (now (out .entry)) ⌝ }
 {
-    if out.len() < 48 {
+    if out.len() < SOLICITATION {
         return Written::Refused(Refusal::OutputShort);
     }
     let front = [133u8, 0, 0, 0, 0, 0, 0, 0];
     write_message(255, from, to, front, &front[..0], out);
-    Written::Length(48)
+    Written::Length(SOLICITATION)
 }
 
 // Writes an ICMPv6 packet whose message is front, with 0 for the checksum, and then rest; the checksum is put in.
