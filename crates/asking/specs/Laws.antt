@@ -1,0 +1,101 @@
+-- When an asking is answered, and what an answered and a refused one leave. Assumes nothing.
+use Prim.Native.Nat.{ℕ, _+_, _≤_}
+use mathlib.Core.Path.{_≡_, refl, sym, ap, _∙_}
+use mathlib.Core.Bool.{Bool, true, false, cond}
+use mathlib.Core.List.{List}
+use native.Mathlib.Omega.{arith}
+use borrow.Author.Tests.{ltb-false, le-ltb}
+use lib.ListN.{length}
+use lib.Dec.{ltb}
+use Rattle.address.specs.Address.{linkLocalOf}
+use Rattle.lent.specs.Written.{written}
+use Rattle.refusals.specs.declared.Refusal.{Refusal}
+use Rattle.refusals.specs.declared.Refusal.the-variants.{OutputShort}
+use Rattle.messages.specs.Icmp.{solicitationLength, solicitationOf}
+use Rattle.routers.specs.Routers.{live, nextOf, rescheduledOf}
+use Rattle.routers.specs.declared.RouterList.{RouterList}
+use Rattle.routers.specs.declared.Next.{Next}
+use Rattle.routers.specs.declared.Next.the-variants.{Due, NoneDue}
+use Rattle.settings.specs.Locators.{locatorFound}
+use Rattle.settings.specs.declared.Settings.{Settings}
+use Rattle.settings.specs.declared.locators.Found.{Found}
+use Rattle.settings.specs.declared.locators.Found.the-variants.{Address, Nothing}
+use Rattle.asking.specs.Ask.{planFor, askPlan, carriedOut, plannedOutput, askedOf, askedOutput}
+use Rattle.asking.specs.declared.AskAnswer.the-variants.{Router, Refused}
+use Rattle.asking.specs.declared.Plan.{Plan}
+use Rattle.asking.specs.declared.Plan.the-variants.{Ask, Refuse}
+
+within : (short : Bool) (f a from router : ℕ) → cond short (Refuse OutputShort) (Ask f a) ≡ Ask from router
+    → (short ≡ false) × (f ≡ from) × (a ≡ router)
+within true f a from router h = (cc, cc, cc)
+within false f a from router h = (refl, cc, cc)
+
+-- a router is asked only from a locator that there is, if it is the next one, and if there is room
+pub planned : (found : Found) (next : Next) (room from router : ℕ) → planFor found next room ≡ Ask from router
+    → (found ≡ Address from) × (next ≡ Due router) × (solicitationLength ≤ room)
+unfolding planFor
+planned Nothing next room from router h = let z : _≡_ {A = ℕ} 0 1 = cc in (cc, cc, omega arith)
+planned (Address f) NoneDue room from router h = let z : _≡_ {A = ℕ} 0 1 = cc in (cc, cc, omega arith)
+planned (Address f) (Due a) room from router h =
+    let w = within (ltb room solicitationLength) f a from router h in
+    (cc, cc, ltb-false _ _ (w .0))
+
+-- a plan that asks a router has room for the solicitation
+pub room-planned : (s : Settings) (routers : RouterList) (now number room : ℕ) {p : Plan} {from router : ℕ} → p ≡ askPlan s routers now number room
+    → p ≡ Ask from router → solicitationLength ≤ room
+unfolding askPlan
+room-planned s routers now number room {p} {from} {router} e h =
+    planned (locatorFound (s .locators) (s .«locator_count») number) (nextOf now (live routers)) room from router (sym e ∙ h) .2
+
+record AskedFrom (p : Plan) (router : ℕ) : Type 0 where
+  pub from : ℕ
+  pub is : p ≡ Ask from router
+
+asked-from : (p : Plan) (due : ℕ) (routers : RouterList) (router : ℕ) → carriedOut p due routers .answer ≡ Router router → AskedFrom p router
+asked-from (Ask f a) due routers router h = record { from = f; is = cc }
+asked-from (Refuse r) due routers router h = record { from = 0; is = cc }
+
+refused-plan : (p : Plan) (due : ℕ) (routers : RouterList) (out : List ℕ) (r : Refusal) → carriedOut p due routers .answer ≡ Refused r
+    → (carriedOut p due routers .routers ≡ routers) × (plannedOutput p out ≡ out)
+refused-plan (Ask f a) due routers out r h = (cc, cc)
+refused-plan (Refuse x) due routers out r h = (refl, refl)
+
+module _ (s : Settings) (routers : RouterList) (now number : ℕ) (out : List ℕ) where
+  -- what holds of an asking that names the router
+  pub record Answered (router : ℕ) : Type 0 where
+    -- the address of the numbered locator
+    pub from : ℕ
+    pub locator : locatorFound (s .locators) (s .«locator_count») number ≡ Address from
+    pub next : nextOf now (live routers) ≡ Due router
+    pub room : solicitationLength ≤ length out
+    pub rescheduled : askedOf s routers now number (length out) .routers ≡ rescheduledOf router (now + s .interval) routers
+    pub output : askedOutput s routers now number out ≡ written (solicitationOf (linkLocalOf from) (linkLocalOf router)) out
+
+  -- after a refusal the router list and the output are as before
+  pub refused-unchanged : (r : Refusal) → askedOf s routers now number (length out) .answer ≡ Refused r
+      → (askedOf s routers now number (length out) .routers ≡ routers) × (askedOutput s routers now number out ≡ out)
+  unfolding askedOf askedOutput
+  refused-unchanged r h = refused-plan (askPlan s routers now number (length out)) (now + s .interval) routers out r h
+
+  -- an asking names a router only if it is the next one, the locator is there and a solicitation fits
+  pub answered-only-if : (router : ℕ) → askedOf s routers now number (length out) .answer ≡ Router router → Answered router
+  unfolding askedOf askedOutput askPlan
+  answered-only-if router h =
+      let found = locatorFound (s .locators) (s .«locator_count») number in
+      let p = askPlan s routers now number (length out) in
+      let f = asked-from p (now + s .interval) routers router h in
+      let w = planned found (nextOf now (live routers)) (length out) (f .from) router (f .is) in
+      record {
+        from = f .from;
+        locator = w .0;
+        next = w .1;
+        room = w .2;
+        rescheduled = ap (λ (q : Plan). carriedOut q (now + s .interval) routers .routers) (f .is);
+        output = ap (λ (q : Plan). plannedOutput q out) (f .is);
+      }
+
+  -- and then it does
+  pub answered-if : (from router : ℕ) → locatorFound (s .locators) (s .«locator_count») number ≡ Address from → nextOf now (live routers) ≡ Due router
+      → solicitationLength ≤ length out → askedOf s routers now number (length out) .answer ≡ Router router
+  unfolding askedOf askPlan planFor
+  answered-if from router f n room = rw (f, n, le-ltb (length out) solicitationLength room)

@@ -1,0 +1,98 @@
+// Asking a router: which one is asked, the solicitation that it gets, and when it is due again.
+use messages::SOLICITATION;
+use refusals::Refusal;
+use routers::Next;
+use routers::RouterList;
+use settings::Settings;
+use settings::locators;
+use settings::locators::Found;
+ghost use mathlib.Core.Path.{_≡_};
+ghost use lib.ListN.{length};
+ghost use Rattle.asking.specs.Ask.{planFor, askPlan, askedOf, askedOutput, askGiven};
+
+// The router that is asked, by its address, or the number.
+pub enum AskAnswer {
+    Router(u32),
+    Refused(Refusal),
+}
+
+// The answer, and the router list after the asking.
+pub struct Asked {
+    pub answer: AskAnswer,
+    pub routers: RouterList,
+}
+
+// What is to be done: a router asked from a locator's address, or nothing.
+enum Plan {
+    Ask { from: u32, router: u32 },
+    Refuse(Refusal),
+}
+
+impl AskAnswer {
+    // Document 01's number, 0 where a router is asked.
+    pub fn number(self) -> u8
+        ensures { λ r. ⌜ r ≡ askGiven self .number ⌝ }
+    {
+        match self {
+            AskAnswer::Router(_) => 0,
+            AskAnswer::Refused(refusal) => refusal.number(),
+        }
+    }
+}
+
+// Numbers 11, 22 and 15.
+fn plan_for(found: Found, next: Next, room: usize) -> Plan
+    ensures { λ r. ⌜ r ≡ planFor found next room ⌝ }
+{
+    match found {
+        Found::Nothing => Plan::Refuse(Refusal::NoLocator),
+        Found::Address(from) => match next {
+            Next::NoneDue => Plan::Refuse(Refusal::NoRouterDue),
+            Next::Due(router) => {
+                if room < SOLICITATION {
+                    Plan::Refuse(Refusal::OutputShort)
+                } else {
+                    Plan::Ask { from, router }
+                }
+            }
+        },
+    }
+}
+
+fn ask_plan(settings: Settings, routers: RouterList, time: u32, locator: usize, room: usize) -> Plan
+    ensures { λ r. ⌜ r ≡ askPlan settings routers time locator room ⌝ }
+{
+    let all = settings.locators;
+    let found = locators::locator_address(all, settings.locator_count, locator);
+    plan_for(found, routers.next(time), room)
+}
+
+// One asking at a time: who is asked, and the router list after it; out gets the solicitation.
+pub fn ask(
+    settings: Settings,
+    routers: RouterList,
+    time: u32,
+    locator: usize,
+    out: &mut [u8],
+) -> Asked
+    ensures { λ r. ⌜ r ≡ askedOf settings routers time locator (length (now (out .entry))) ⌝ }
+    ensures { λ _. ⌜ now (out .exit) ≡ askedOutput settings routers time locator (now (out .entry)) ⌝ }
+{
+    let plan = ask_plan(settings, routers, time, locator, out.len());
+    match plan {
+        Plan::Ask { from, router } => {
+            let source = address::link_local(from);
+            let destination = address::link_local(router);
+            messages::solicitation(source, destination, out);
+            let due = time as u64 + settings.interval as u64;
+            Asked {
+                answer: AskAnswer::Router(router),
+                routers: routers.rescheduled(router, due),
+            }
+        }
+        Plan::Refuse(refusal) => Asked {
+            answer: AskAnswer::Refused(refusal),
+            routers,
+        },
+    }
+}
