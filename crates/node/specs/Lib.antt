@@ -3,3 +3,4 @@ pub mod Receive
 pub mod Report
 pub mod RouterList
 pub mod Send
+pub mod Ask
