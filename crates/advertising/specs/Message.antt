@@ -1,0 +1,43 @@
+-- A neighbour discovery message that is valid (document 01, "Routers"; RFC 4861, 6.1): p is its IPv6 packet, no byte behind it, and
+-- i are the fields of the packet's header.
+use Prim.Native.Nat.{ℕ}
+use mathlib.Core.Bool.{Bool, _&&_}
+use mathlib.Core.List.{List}
+use lib.ListN.{length, take, drop, getD}
+use lib.Dec.{eqb, leb}
+use Rattle.checksum.specs.Sum.{allOnes}
+use Rattle.header.specs.declared.inner.Inner.{Inner}
+use Rattle.messages.specs.Icmp.{icmpSum}
+use Rattle.lifetimes.specs.Options.{areOptionsWhole}
+
+-- next header 58
+abbrev pub icmp : ℕ
+icmp = 58
+
+-- hop limit 255
+abbrev pub hopLimit : ℕ
+hopLimit = 255
+
+-- source and destination address
+abbrev pub addressesOf : List ℕ → List ℕ
+addressesOf p = take 32 (drop 8 p)
+
+-- the ICMPv6 message behind the IPv6 header
+abbrev pub messageOf : List ℕ → List ℕ
+messageOf p = drop 40 p
+
+-- checksum right (RFC 4443, 2.3): the sum of the message and its pseudo header is FFFF
+unfoldable pub isSumRight : List ℕ → Bool
+isSumRight p = eqb (icmpSum (addressesOf p) (messageOf p)) allOnes
+
+-- valid, of the type `kind`: next header 58, hop limit 255, checksum right, the type, code 0, ICMPv6 length at least `least`, options
+-- walked one after another from there to the exact end, none of length 0
+unfoldable pub isValidMessage : ℕ → ℕ → Inner → List ℕ → Bool
+isValidMessage kind least i p =
+    eqb (i .next) icmp
+    && eqb (i .hop) hopLimit
+    && isSumRight p
+    && eqb (getD (messageOf p) 0 0) kind
+    && eqb (getD (messageOf p) 1 0) 0
+    && leb least (length (messageOf p))
+    && areOptionsWhole (drop least (messageOf p))
