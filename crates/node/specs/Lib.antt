@@ -4,3 +4,4 @@ pub mod Report
 pub mod RouterList
 pub mod Send
 pub mod Ask
+pub mod Hear

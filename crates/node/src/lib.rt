@@ -1,5 +1,6 @@
 // One tunnel end: what it keeps, and the calls on it. A call takes the node and hands back the next one.
 pub mod ask;
+pub mod hear;
 pub mod receive;
 pub mod report;
 pub mod router_list;

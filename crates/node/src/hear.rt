@@ -1,0 +1,29 @@
+// The call with a router advertisement.
+use super::Node;
+use super::later;
+use advertising::HeardAnswer;
+ghost use mathlib.Core.Path.{_≡_};
+ghost use Rattle.node.specs.Hear.{hearOf};
+
+pub struct Heard {
+    pub answer: HeardAnswer,
+    pub node: Node,
+}
+
+impl Node {
+    pub fn hear(mut self, packet: &[u8], time: u32) -> Heard
+        ensures { λ r. ⌜ r ≡ hearOf self (now (packet .entry)) time ⌝ }
+    {
+        let now = later(self.latest, time);
+        let mut service = self.service;
+        let settings = service.settings;
+        let old = service.routers;
+        let heard = advertising::hear(settings, old, now, packet);
+        let routers = heard.routers;
+        service.routers = routers;
+        self.service = service;
+        self.latest = now;
+        let answer = heard.answer;
+        Heard { answer, node: self }
+    }
+}
