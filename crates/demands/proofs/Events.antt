@@ -1,0 +1,207 @@
+-- A node's calls as calls of `paths`: each is a clock and then what is seen of it, and no clock is anything to a sender. Assumes nothing.
+use Prim.Native.Nat.{ℕ, suc, max}
+use mathlib.Core.Path.{_≡_, refl, ap, sym, _∙_}
+use mathlib.Core.Bool.{Bool, true, false, cond, _&&_}
+use mathlib.Core.List.{List, [], _∷_}
+use native.Mathlib.Omega.{arith}
+use lib.Dec.{ltb, eqb}
+use lib.ListN.{length}
+use Rattle.address.specs.Address.{lastQuad}
+use Rattle.refusals.specs.declared.Check.{Check}
+use Rattle.refusals.specs.declared.Check.the-variants.{Pass, Stop}
+use Rattle.settings.specs.Settings.{areRoutersRight}
+use Rattle.settings.specs.declared.Settings.{Settings}
+use Rattle.paths.specs.Candidate.{isBelow}
+use Rattle.paths.specs.Kept.{inForce}
+use Rattle.paths.specs.Packets.{largestPacket}
+use Rattle.paths.specs.Table.{keptIn}
+use Rattle.paths.specs.Calls.{Call, clock, report, send, Answer, accepted, notBelow, other, table, answer, remembered, latest, history, sendAnswer}
+use Rattle.paths.specs.Sender.{Event, nothing, packetEvent, eventOf, eventsOf}
+use Rattle.paths.specs.declared.PathTable.{PathTable}
+use Rattle.sending.specs.Plan.{sendCheck}
+use Rattle.sending.specs.Seen.{tooBigSeen, takesMessage, seenAfter, sent-seen}
+use Rattle.sending.specs.declared.SendAnswer.{SendAnswer}
+use Rattle.sending.specs.declared.SendAnswer.the-variants as sent
+use Rattle.reports.specs.Report.{judgedOf, acceptedBelow, answerAt}
+use Rattle.reports.specs.declared.Judged.{Judged}
+use Rattle.reports.specs.declared.Judged.the-variants as judged
+use Rattle.reports.specs.declared.ReportAnswer.{ReportAnswer}
+use Rattle.reports.specs.declared.ReportAnswer.the-variants as reported
+use Rattle.node.specs.Node.{raisedTo, sizeAt}
+use Rattle.node.specs.Send.{sizeToward, sentBy, sendOf}
+use Rattle.node.specs.Report.{neighbourIn, pathsAfter, reportAnswerOf, reportOf}
+use Rattle.node.specs.RouterList.{replaceOf}
+use Rattle.node.specs.Ask.{askOf}
+use Rattle.node.specs.Hear.{hearOf}
+use Rattle.node.specs.declared.Node.{Node}
+use Rattle.demands.specs.Calls.{NodeCall, receiving, receivingPart, sending, reporting, relisting, asking, hearing, timeOf, nodeNext}
+use Rattle.demands.proofs.Follows.{chosen}
+use Rattle.demands.specs.Sender.{sentEvent, reportedEvent, nodeEvents}
+
+abbrev passes : Check → Bool
+passes Pass = true
+passes (Stop r) = false
+
+-- a report that 16, 17 or 18 refuses is none
+abbrev judgedCall : Judged → Call
+judgedCall (judged.Report v c) = report v c
+judgedCall (judged.Refused r) = clock 0
+
+-- what is seen of a call
+abbrev callSeen : Settings → Bool → NodeCall → Call
+callSeen s mine (receiving d interface) = clock 0
+callSeen s mine (receivingPart d interface) = clock 0
+callSeen s mine (sending packet hop k time out) =
+    send mine (lastQuad hop) (length packet) (passes (sendCheck s packet hop k) && takesMessage packet (length out))
+callSeen s mine (reporting m time) = judgedCall (judgedOf s m)
+callSeen s mine (relisting addresses count time) = clock 0
+callSeen s mine (asking k time out) = clock 0
+callSeen s mine (hearing packet time) = clock 0
+
+abbrev pub callsSeen : Settings → (ℕ → Bool) → List NodeCall → List Call
+callsSeen s choice [] = []
+callsSeen s choice (x ∷ xs) = clock (timeOf x) ∷ (callSeen s (choice 0) x ∷ callsSeen s (λ k. choice (suc k)) xs)
+
+-- ---- answers
+
+and-false : (b : Bool) → (b && false) ≡ false
+and-false true = refl
+and-false false = refl
+
+send-seen : (check : Check) (M n : ℕ) (takes : Bool) → sendAnswer M n (passes check && takes) ≡ seenAfter check (sendAnswer M n takes)
+send-seen Pass M n takes = refl
+send-seen (Stop r) M n takes = rw (and-false (ltb M n))
+
+abbrev reportSeen : ReportAnswer → Answer
+reportSeen (reported.Accepted v c) = accepted v c
+reportSeen (reported.Refused r) = notBelow
+
+-- what is seen of the answer to a judged report
+abbrev judgedSeen : Judged → ReportAnswer → Answer
+judgedSeen (judged.Report v c) a = reportSeen a
+judgedSeen (judged.Refused r) a = other
+
+below-seen : (b : Bool) (v c : ℕ) (r : ReportAnswer) → reportSeen r ≡ notBelow → cond b (accepted v c) notBelow ≡ reportSeen (cond b (reported.Accepted v c) r)
+below-seen true v c r e = refl
+below-seen false v c r e = sym e
+
+module _ (link now : ℕ) (t : PathTable) where
+  report-seen : (j : Judged) → answer table largestPacket link t now (judgedCall j) ≡ judgedSeen j (answerAt j (inForce link (keptIn t (neighbourIn j) now)))
+  unfolding acceptedBelow
+  report-seen (judged.Report v c) = below-seen (isBelow c (inForce link (keptIn t v now))) v c _ refl
+  report-seen (judged.Refused r) = refl
+
+  sent-remembered : (a : SendAnswer) → remembered table t now (tooBigSeen a) ≡ t
+  sent-remembered (sent.Wrapped n) = refl
+  sent-remembered (sent.TooBig size n) = refl
+  sent-remembered (sent.Refused r) = refl
+
+  report-remembered : (a : ReportAnswer) → remembered table t now (reportSeen a) ≡ pathsAfter a t now
+  report-remembered (reported.Accepted v c) = refl
+  report-remembered (reported.Refused r) = refl
+
+  judged-remembered : (j : Judged) (P : ℕ) → remembered table t now (judgedSeen j (answerAt j P)) ≡ pathsAfter (answerAt j P) t now
+  judged-remembered (judged.Report v c) P = report-remembered (answerAt (judged.Report v c) P)
+  judged-remembered (judged.Refused r) P = refl
+
+judged-latest : (j : Judged) (now : ℕ) → latest now (judgedCall j) ≡ now
+judged-latest (judged.Report v c) now = refl
+judged-latest (judged.Refused r) now = omega arith
+
+-- ---- events
+
+sent-event : (a : SendAnswer) (n : ℕ) → packetEvent n (tooBigSeen a) ≡ sentEvent n a
+sent-event (sent.Wrapped k) n = refl
+sent-event (sent.TooBig size k) n = refl
+sent-event (sent.Refused r) n = refl
+
+report-event : (a : ReportAnswer) (v w c : ℕ) → eventOf v (report w c) (reportSeen a) ≡ reportedEvent v a
+report-event (reported.Accepted u d) v w c = refl
+report-event (reported.Refused r) v w c = refl
+
+judged-event : (j : Judged) (v P : ℕ) → eventOf v (judgedCall j) (judgedSeen j (answerAt j P)) ≡ reportedEvent v (answerAt j P)
+judged-event (judged.Report w c) v P = report-event (answerAt (judged.Report w c) P) v w c
+judged-event (judged.Refused r) v P = refl
+
+-- nothing before each event: the clock
+abbrev pub spaced : List Event → List Event
+spaced [] = []
+spaced (e ∷ h) = nothing ∷ (e ∷ spaced h)
+
+-- one more call, whatever is known of its answer
+module _ (v link : ℕ) (t t₂ : PathTable) (now now₂ : ℕ) (x : Call) (a : Answer) (e : Event) (xs : List Call) (h : List Event) where
+  one-more : answer table largestPacket link t now x ≡ a → remembered table t now a ≡ t₂ → latest now x ≡ now₂ → eventOf v x a ≡ e
+      → eventsOf v (history table largestPacket link t₂ now₂ xs) ≡ h → eventsOf v (history table largestPacket link t now (x ∷ xs)) ≡ e ∷ h
+  one-more p q l w i = cc
+
+module _ (v : ℕ) where
+  -- the events of the calls xs on the node n, as `paths` has them
+  abbrev Same : (ℕ → Bool) → Node → List NodeCall → Type 0
+  Same choice n xs =
+      eventsOf v (history table largestPacket (n .service .settings .«link_size») (n .paths) (n .latest) (callsSeen (n .service .settings) choice xs))
+      ≡ spaced (nodeEvents choice v n xs)
+
+  -- a call that changes neither settings nor table is a clock alone
+  clocked : (choice : ℕ → Bool) (n m : Node) (time : ℕ) (xs : List NodeCall) → m .service .settings ≡ n .service .settings → m .paths ≡ n .paths
+      → m .latest ≡ max (n .latest) time → Same choice m xs
+      → eventsOf v (history table largestPacket (n .service .settings .«link_size») (n .paths) (n .latest) (clock time ∷ (clock 0 ∷ callsSeen (n .service .settings) choice xs)))
+      ≡ nothing ∷ (nothing ∷ spaced (nodeEvents choice v m xs))
+  clocked choice n m time xs es ep el same =
+      ap (λ (h : List Event). nothing ∷ h)
+      (one-more v (n .service .settings .«link_size») (n .paths) (n .paths) (max (n .latest) time) (m .latest) (clock 0) other nothing
+      (callsSeen (n .service .settings) choice xs) (spaced (nodeEvents choice v m xs)) refl refl (omega arith) refl (rw (← es, ← ep) same))
+
+  -- a list that is taken, or not: neither settings nor table are another
+  relisted : (n : Node) (addresses : List ℕ) (count time : ℕ)
+      → (replaceOf n addresses count time .node .service .settings ≡ n .service .settings)
+      × (replaceOf n addresses count time .node .paths ≡ n .paths)
+      × (replaceOf n addresses count time .node .latest ≡ max (n .latest) time)
+  unfolding replaceOf raisedTo
+  relisted n addresses count time =
+      chosen (areRoutersRight (n .service .settings) addresses count) _ _
+      (λ x. (x .service .settings ≡ n .service .settings) × (x .paths ≡ n .paths) × (x .latest ≡ max (n .latest) time)) (refl, refl, refl) (refl, refl, refl)
+
+  pub same-events : (choice : ℕ → Bool) (n : Node) (xs : List NodeCall) → Same choice n xs
+  unfolding sendOf sentBy reportOf reportAnswerOf askOf hearOf sizeAt
+  same-events choice n [] = refl
+  same-events choice n (receiving d interface ∷ xs) =
+      clocked (λ k. choice (suc k)) n n 0 xs refl refl (omega arith) (same-events (λ k. choice (suc k)) n xs)
+  same-events choice n (receivingPart d interface ∷ xs) =
+      clocked (λ k. choice (suc k)) n n 0 xs refl refl (omega arith) (same-events (λ k. choice (suc k)) n xs)
+  same-events choice n (sending packet hop k time out ∷ xs) =
+      let s : Settings = n .service .settings in
+      let x : NodeCall = sending packet hop k time out in
+      let now : ℕ = max (n .latest) time in
+      let a : SendAnswer = sendOf n packet hop k time (length out) .answer in
+      let rest : List Event = spaced (nodeEvents (λ i. choice (suc i)) v (nodeNext n x) xs) in
+      ap (λ (h : List Event). nothing ∷ h)
+      (one-more v (s .«link_size») (n .paths) (n .paths) now now (callSeen s (choice 0) x) (tooBigSeen a)
+      (cond (choice 0 && eqb (lastQuad hop) v) (sentEvent (length packet) a) nothing) (callsSeen s (λ i. choice (suc i)) xs) rest
+      (send-seen (sendCheck s packet hop k) (largestPacket (sizeToward n hop time)) (length packet) (takesMessage packet (length out))
+      ∙ sym (sent-seen s (n .service .identification) (sizeToward n hop time) packet hop k (length out)))
+      (sent-remembered (s .«link_size») now (n .paths) a) refl
+      (ap (λ (e : Event). cond (choice 0 && eqb (lastQuad hop) v) e nothing) (sent-event a (length packet)))
+      (same-events (λ i. choice (suc i)) (nodeNext n x) xs))
+  same-events choice n (reporting m time ∷ xs) =
+      let s : Settings = n .service .settings in
+      let x : NodeCall = reporting m time in
+      let now : ℕ = max (n .latest) time in
+      let j : Judged = judgedOf s m in
+      let P : ℕ = inForce (s .«link_size») (keptIn (n .paths) (neighbourIn j) now) in
+      let a : ReportAnswer = answerAt j P in
+      let rest : List Event = spaced (nodeEvents (λ i. choice (suc i)) v (nodeNext n x) xs) in
+      ap (λ (h : List Event). nothing ∷ h)
+      (one-more v (s .«link_size») (n .paths) (pathsAfter a (n .paths) now) now now (judgedCall j) (judgedSeen j a) (reportedEvent v a)
+      (callsSeen s (λ i. choice (suc i)) xs) rest
+      (report-seen (s .«link_size») now (n .paths) j) (judged-remembered (s .«link_size») now (n .paths) j P) (judged-latest j now) (judged-event j v P)
+      (same-events (λ i. choice (suc i)) (nodeNext n x) xs))
+  same-events choice n (relisting addresses count time ∷ xs) =
+      let f = relisted n addresses count time in
+      clocked (λ k. choice (suc k)) n (nodeNext n (relisting addresses count time)) time xs (f .0) (f .1) (f .2)
+      (same-events (λ k. choice (suc k)) (nodeNext n (relisting addresses count time)) xs)
+  same-events choice n (asking k time out ∷ xs) =
+      clocked (λ i. choice (suc i)) n (nodeNext n (asking k time out)) time xs refl refl refl
+      (same-events (λ i. choice (suc i)) (nodeNext n (asking k time out)) xs)
+  same-events choice n (hearing packet time ∷ xs) =
+      clocked (λ i. choice (suc i)) n (nodeNext n (hearing packet time)) time xs refl refl refl
+      (same-events (λ i. choice (suc i)) (nodeNext n (hearing packet time)) xs)

@@ -1,0 +1,4 @@
+pub mod Calls
+pub mod Plain
+pub mod Sender
+pub mod Three
