@@ -1,0 +1,67 @@
+-- Laws of sections: how many records and datagrams they have, and one datagram after another. Assumes nothing.
+use Prim.Native.Nat.{ℕ, zero, suc, _+_, _-_, _*_, _≤_, _<_}
+use mathlib.Core.Path.{_≡_, refl, ap}
+use mathlib.Core.Bool.{Bool, true, false, _&&_, and-assoc}
+use mathlib.Core.List.{List, _∷_, flatten}
+use native.Mathlib.Omega.{arith}
+use native.Mathlib.Nat.{zero-mul, suc-mul, add-comm}
+use borrow.Author.Tests.{leb-true}
+use lib.Dec.{leb}
+use lib.ListN.{length, take, drop, length-take, length-drop}
+use lib.Seq.{take-add}
+use Rattle.input.specs.Section.{countOf, records, recordsOf}
+use Rattle.input.specs.Recording.{interfaceOf, bytesOf, sizeOf, isThere, nextOf, firstOf, datagramsFrom, areThere, isRecording}
+
+-- n records are n
+count-records : (size n : ℕ) (bs : List ℕ) → length (records size n bs) ≡ n
+count-records size zero bs = refl
+count-records size (suc n) bs = ap suc (count-records size n (drop size bs))
+
+-- a section has as many records as it says
+pub length-records : (size : ℕ) (s : List ℕ) → length (recordsOf size s) ≡ countOf s
+unfolding recordsOf
+length-records size s = count-records size (countOf s) (drop 2 s)
+
+-- records one behind another are the bytes that they were cut from
+pub flatten-records : (size n : ℕ) (bs : List ℕ) → flatten (records size n bs) ≡ take (n * size) bs
+unfolding flatten
+flatten-records size zero bs = rw zero-mul
+flatten-records size (suc n) bs = rw (flatten-records size n (drop size bs), suc-mul, add-comm (n * size) size, take-add)
+
+-- a section has as many datagrams as it says
+pub length-datagrams : (n : ℕ) (d : List ℕ) → length (datagramsFrom n d) ≡ n
+length-datagrams zero d = refl
+length-datagrams (suc n) d = ap suc (length-datagrams n (nextOf d))
+
+-- where a loop has come to the datagram of number i: this one, and those behind it
+pub datagrams-turn : (n i : ℕ) (d : List ℕ) → i < n
+    → datagramsFrom (n - i) d ≡ record { interface = interfaceOf d; bytes = bytesOf d } ∷ datagramsFrom (n - (i + 1)) (nextOf d)
+datagrams-turn n i d h = let e : n - i ≡ suc (n - (i + 1)) = omega arith in rw e
+
+-- the same of their being there
+pub there-turn : (n i : ℕ) (good : Bool) (d : List ℕ) → i < n
+    → (good && isThere d && areThere (n - (i + 1)) (nextOf d)) ≡ (good && areThere (n - i) d)
+there-turn n i good d h = let e : n - i ≡ suc (n - (i + 1)) = omega arith in rw e (and-assoc good (isThere d) (areThere (n - (i + 1)) (nextOf d)))
+
+-- a datagram is no longer than the bytes that it stands in
+pub datagram-inside : (d : List ℕ) → length (bytesOf d) ≤ length d
+datagram-inside d = rw (length-take, length-drop) (omega arith)
+
+and-both : (a b : Bool) → (a && b) ≡ true → (a ≡ true) × (b ≡ true)
+and-both true true h = (refl, refl)
+and-both true false h = (refl, h)
+and-both false b h = (h, cc)
+
+few : (n : ℕ) (d : List ℕ) → areThere n d ≡ true → 3 * n ≤ length d
+few zero d h = omega arith
+few (suc n) d h =
+    let b = and-both (isThere d) (areThere n (nextOf d)) h in
+    let l = leb-true (sizeOf d) (length d) (b .0) in
+    omega (arith, few n (nextOf d) (b .1), length-drop (sizeOf d) d)
+
+-- a section that is there has at least three bytes a datagram
+pub few-datagrams : (r : List ℕ) → isRecording r ≡ true → 2 + 3 * countOf r ≤ length r
+unfolding isRecording
+few-datagrams r h =
+    let b = and-both (leb 2 (length r)) (areThere (countOf r) (firstOf r)) h in
+    omega (arith, few (countOf r) (firstOf r) (b .1), length-drop 2 r, leb-true 2 (length r) (b .0))

@@ -1,0 +1,4 @@
+pub mod Input
+pub mod Laws
+pub mod Recording
+pub mod Section
