@@ -70,6 +70,19 @@ digits-below (suc m) n j h = picked (ltb n 10) j h refl (λ i g. digits-below m 
     picked false zero h e shorter = let l : n < 10 ^ 1 = h in absurd (omega (arith, ltb-false n 10 e))
     picked false (suc j) h e shorter = let p = pow-suc 10 (suc j) in rw length-append (omega (arith, shorter j (omega arith)))
 
+digits-at-most : (m n : ℕ) → length (decimalUpTo m n) ≤ suc m
+digits-at-most zero n = omega arith
+digits-at-most (suc m) n = picked (ltb n 10) (digits-at-most m (n / 10))
+  where
+    picked : (t : Bool) → length (decimalUpTo m (n / 10)) ≤ suc m → length (cond t [] (decimalUpTo m (n / 10)) ++ (48 + n % 10) ∷ []) ≤ suc (suc m)
+    picked true h = omega arith
+    picked false h = rw length-append (omega arith)
+
+-- no number has more than 20 digits
+pub decimal-short : (n : ℕ) → length (decimal n) ≤ 20
+unfolding decimal
+decimal-short n = digits-at-most 19 n
+
 -- at most 5 digits for 16 bits, 10 for 32, 20 for 64
 pub length-decimal : (n j : ℕ) → n < 10 ^ suc j → length (decimal n) ≤ suc j
 unfolding decimal
