@@ -47,7 +47,7 @@ there-turn n i good d h = let e : n - i ≡ suc (n - (i + 1)) = omega arith in r
 pub datagram-inside : (d : List ℕ) → length (bytesOf d) ≤ length d
 datagram-inside d = rw (length-take, length-drop) (omega arith)
 
-and-both : (a b : Bool) → (a && b) ≡ true → (a ≡ true) × (b ≡ true)
+pub and-both : (a b : Bool) → (a && b) ≡ true → (a ≡ true) × (b ≡ true)
 and-both true true h = (refl, refl)
 and-both true false h = (refl, h)
 and-both false b h = (h, cc)
