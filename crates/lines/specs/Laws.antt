@@ -1,12 +1,12 @@
 -- Laws of the output: one line more, and how long it is. Assumes nothing.
 use Prim.Native.Nat.{ℕ, zero, suc, _+_, _*_, _≤_, _<_, _^_}
-use mathlib.Core.Path.{_≡_}
+use mathlib.Core.Path.{_≡_, _∙_}
 use mathlib.Core.List.{List, [], _∷_, _++_, append-assoc, append-nil}
 use native.Mathlib.Omega.{arith}
 use native.Mathlib.Numerals.{add-one}
 use lib.ListN.{length, getD, take, length-append, length-take}
 use lib.Seq.{take-suc, take-length}
-use Rattle.text.specs.Laws.{decimal-short, length-decimal}
+use Rattle.text.specs.Laws.{Wrote, wrote-more, decimal-short, length-decimal}
 use Rattle.lines.specs.declared.Line.{Line}
 use Rattle.lines.specs.declared.Line.the-variants.{Deliver, Refuse}
 use Rattle.lines.specs.Lines.{datagramsWord, deliverWord, refuseWord, entryOf, countLine, lineOf, linesFrom, textTo, textOf}
@@ -25,6 +25,18 @@ text-more ls i d h =
     let e : 1 + length (take i ls) ≡ i + 1 = rw length-take (omega arith) in
     let t : take (i + 1) ls ≡ take i ls ++ (getD ls i d ∷ []) = rw add-one (take-suc ls i d h) in
     rw (t, lines-last 1 (take i ls) (getD ls i d), e, append-assoc)
+
+-- the first line, and then a turn of a loop that writes one line after another
+pub text-first : (ls : List Line) (d : List ℕ) {r : ℕ} {e : List ℕ} → Wrote 0 (countLine (length ls)) d r e → Wrote 0 (textTo 0 ls) d r e
+unfolding textTo linesFrom
+text-first ls d w = rw append-nil w
+
+pub text-turn : (ls : List Line) (i : ℕ) (l none : Line) (d : List ℕ) {r r′ : ℕ} {e e′ : List ℕ} → i < length ls → l ≡ getD ls i none
+    → length (textTo (i + 1) ls) ≤ length d → Wrote 0 (textTo i ls) d r e → Wrote r (lineOf (i + 1) l) e r′ e′ → Wrote 0 (textTo (i + 1) ls) d r′ e′
+text-turn ls i l none d h k f w v =
+    let t : textTo (i + 1) ls ≡ textTo i ls ++ lineOf (i + 1) l = text-more ls i none h ∙ rw k in
+    let g = rw t at f in
+    rw t (wrote-more 0 (textTo i ls) (lineOf (i + 1) l) d (omega arith) w v)
 
 -- all lines
 pub text-whole : (ls : List Line) → textTo (length ls) ls ≡ textOf ls
