@@ -1,16 +1,17 @@
 -- Laws of sections: how many records and datagrams they have, and one datagram after another. Assumes nothing.
 use Prim.Native.Nat.{ℕ, zero, suc, _+_, _-_, _*_, _≤_, _<_}
-use mathlib.Core.Path.{_≡_, refl, ap}
+use mathlib.Core.Path.{_≡_, refl, sym, ap, _∙_}
 use mathlib.Core.Bool.{Bool, true, false, _&&_, and-assoc}
 use mathlib.Core.List.{List, _∷_, flatten}
 use native.Mathlib.Omega.{arith}
+use native.Mathlib.Numerals.{add-one}
 use native.Mathlib.Nat.{zero-mul, suc-mul, add-comm}
 use borrow.Author.Tests.{leb-true}
 use lib.Dec.{leb}
-use lib.ListN.{length, take, drop, length-take, length-drop}
-use lib.Seq.{take-add}
+use lib.ListN.{length, getD, take, drop, length-take, length-drop}
+use lib.Seq.{drop-cons, take-add}
 use Rattle.input.specs.Section.{countOf, records, recordsOf}
-use Rattle.input.specs.Recording.{interfaceOf, bytesOf, sizeOf, isThere, nextOf, firstOf, datagramsFrom, areThere, isRecording}
+use Rattle.input.specs.Recording.{Datagram, interfaceOf, bytesOf, sizeOf, isThere, nextOf, firstOf, datagramsFrom, areThere, datagramsOf, isRecording}
 
 -- n records are n
 count-records : (size n : ℕ) (bs : List ℕ) → length (records size n bs) ≡ n
@@ -33,12 +34,31 @@ pub length-datagrams : (n : ℕ) (d : List ℕ) → length (datagramsFrom n d) �
 length-datagrams zero d = refl
 length-datagrams (suc n) d = ap suc (length-datagrams n (nextOf d))
 
--- where a loop has come to the datagram of number i: this one, and those behind it
-pub datagrams-turn : (n i : ℕ) (d : List ℕ) → i < n
-    → datagramsFrom (n - i) d ≡ record { interface = interfaceOf d; bytes = bytesOf d } ∷ datagramsFrom (n - (i + 1)) (nextOf d)
-datagrams-turn n i d h = let e : n - i ≡ suc (n - (i + 1)) = omega arith in rw e
+-- a walk over the section has come to the datagram of number k, counted from 0: it stands at the start of rest
+abbrev pub Walked : List ℕ → ℕ → List ℕ → Type 0
+Walked r k rest = drop k (datagramsOf r) ≡ datagramsFrom (countOf r - k) rest
 
--- the same of their being there
+pub walked-first : (r : List ℕ) → Walked r 0 (firstOf r)
+unfolding datagramsOf
+walked-first r = let e : countOf r - 0 ≡ countOf r = omega arith in rw e
+
+module _ (r rest : List ℕ) (k : ℕ) (none : Datagram) (h : k < countOf r) (w : Walked r k rest) where
+  walked-both : getD (datagramsOf r) k none ∷ drop (suc k) (datagramsOf r)
+      ≡ record { interface = interfaceOf rest; bytes = bytesOf rest } ∷ datagramsFrom (countOf r - (k + 1)) (nextOf rest)
+  unfolding datagramsOf
+  walked-both =
+      let n = length-datagrams (countOf r) (firstOf r) in
+      let e : countOf r - k ≡ suc (countOf r - (k + 1)) = omega arith in
+      sym (drop-cons (datagramsOf r) k none (omega arith)) ∙ w ∙ rw e
+
+  -- this datagram, and then the next one
+  pub walked-datagram : getD (datagramsOf r) k none ≡ record { interface = interfaceOf rest; bytes = bytesOf rest }
+  walked-datagram = cc walked-both
+
+  pub walked-next : Walked r (k + 1) (nextOf rest)
+  walked-next = let d : drop (k + 1) (datagramsOf r) ≡ drop (suc k) (datagramsOf r) = rw add-one in cc walked-both
+
+-- a turn of a loop that sees whether datagrams are there
 pub there-turn : (n i : ℕ) (good : Bool) (d : List ℕ) → i < n
     → (good && isThere d && areThere (n - (i + 1)) (nextOf d)) ≡ (good && areThere (n - i) d)
 there-turn n i good d h = let e : n - i ≡ suc (n - (i + 1)) = omega arith in rw e (and-assoc good (isThere d) (areThere (n - (i + 1)) (nextOf d)))

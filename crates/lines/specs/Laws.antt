@@ -6,10 +6,10 @@ use native.Mathlib.Omega.{arith}
 use native.Mathlib.Numerals.{add-one}
 use lib.ListN.{length, getD, take, length-append, length-take}
 use lib.Seq.{take-suc, take-length}
-use Rattle.text.specs.Laws.{Wrote, wrote-more, decimal-short, length-decimal}
+use Rattle.text.specs.Laws.{Wrote, wrote-none, wrote-more, decimal-short, length-decimal}
 use Rattle.lines.specs.declared.Line.{Line}
 use Rattle.lines.specs.declared.Line.the-variants.{Deliver, Refuse}
-use Rattle.lines.specs.Lines.{datagramsWord, deliverWord, refuseWord, entryOf, countLine, lineOf, linesFrom, textTo, textOf}
+use Rattle.lines.specs.Lines.{datagramsWord, deliverWord, refuseWord, entryOf, countLine, lineOf, linesFrom, linesTo, textOf}
 
 lines-last : (k : ℕ) (xs : List Line) (l : Line) → linesFrom k (xs ++ (l ∷ [])) ≡ linesFrom k xs ++ lineOf (k + length xs) l
 unfolding linesFrom
@@ -19,29 +19,29 @@ lines-last k (x ∷ xs) l =
     rw (lines-last (suc k) xs l, append-assoc, e)
 
 -- one line more
-pub text-more : (ls : List Line) (i : ℕ) (d : Line) → i < length ls → textTo (i + 1) ls ≡ textTo i ls ++ lineOf (i + 1) (getD ls i d)
-unfolding textTo
-text-more ls i d h =
+pub lines-more : (ls : List Line) (i : ℕ) (none : Line) → i < length ls → linesTo (i + 1) ls ≡ linesTo i ls ++ lineOf (i + 1) (getD ls i none)
+unfolding linesTo
+lines-more ls i none h =
     let e : 1 + length (take i ls) ≡ i + 1 = rw length-take (omega arith) in
-    let t : take (i + 1) ls ≡ take i ls ++ (getD ls i d ∷ []) = rw add-one (take-suc ls i d h) in
-    rw (t, lines-last 1 (take i ls) (getD ls i d), e, append-assoc)
+    let t : take (i + 1) ls ≡ take i ls ++ (getD ls i none ∷ []) = rw add-one (take-suc ls i none h) in
+    rw (t, lines-last 1 (take i ls) (getD ls i none), e)
 
--- the first line, and then a turn of a loop that writes one line after another
-pub text-first : (ls : List Line) (d : List ℕ) {r : ℕ} {e : List ℕ} → Wrote 0 (countLine (length ls)) d r e → Wrote 0 (textTo 0 ls) d r e
-unfolding textTo linesFrom
-text-first ls d w = rw append-nil w
+-- a loop that writes one line after another: where it starts, a turn of it, and where it ends
+pub lines-none : (ls : List Line) (at : ℕ) (d : List ℕ) → at ≤ length d → Wrote at (linesTo 0 ls) d at d
+unfolding linesTo linesFrom
+lines-none ls at d h = wrote-none at d h
 
-pub text-turn : (ls : List Line) (i : ℕ) (l none : Line) (d : List ℕ) {r r′ : ℕ} {e e′ : List ℕ} → i < length ls → l ≡ getD ls i none
-    → length (textTo (i + 1) ls) ≤ length d → Wrote 0 (textTo i ls) d r e → Wrote r (lineOf (i + 1) l) e r′ e′ → Wrote 0 (textTo (i + 1) ls) d r′ e′
-text-turn ls i l none d h k f w v =
-    let t : textTo (i + 1) ls ≡ textTo i ls ++ lineOf (i + 1) l = text-more ls i none h ∙ rw k in
+pub lines-turn : (ls : List Line) (i : ℕ) (l none : Line) (at : ℕ) (d : List ℕ) {r r′ : ℕ} {e e′ : List ℕ} → i < length ls
+    → l ≡ getD ls i none → at + length (linesTo (i + 1) ls) ≤ length d
+    → Wrote at (linesTo i ls) d r e → Wrote r (lineOf (i + 1) l) e r′ e′ → Wrote at (linesTo (i + 1) ls) d r′ e′
+lines-turn ls i l none at d h k f w v =
+    let t : linesTo (i + 1) ls ≡ linesTo i ls ++ lineOf (i + 1) l = lines-more ls i none h ∙ rw k in
     let g = rw t at f in
-    rw t (wrote-more 0 (textTo i ls) (lineOf (i + 1) l) d (omega arith) w v)
+    rw t (wrote-more at (linesTo i ls) (lineOf (i + 1) l) d g w v)
 
--- all lines
-pub text-whole : (ls : List Line) → textTo (length ls) ls ≡ textOf ls
-unfolding textTo textOf
-text-whole ls = rw take-length
+pub lines-all : (ls : List Line) → textOf ls ≡ countLine (length ls) ++ linesTo (length ls) ls
+unfolding linesTo textOf
+lines-all ls = rw take-length
 
 -- the number that ends a line
 abbrev pub valueOf : Line → ℕ
@@ -83,7 +83,11 @@ lines-short k [] (suc i) h b = omega arith
 lines-short k (l ∷ ls) (suc i) h b =
     simp length-append (omega (arith, length-line k l 4 4 (omega arith) (b .0), lines-short (suc k) ls i (omega arith) (b .1)))
 
--- with five digits for each number no line is longer than 20 bytes, and the first no longer than 16
-pub length-text : (ls : List Line) (i : ℕ) → length ls < 100000 → Below 4 ls → length (textTo i ls) ≤ 16 + 20 * i
-unfolding textTo
-length-text ls i h b = simp length-append (omega (arith, length-count (length ls) 4 (omega arith), lines-short 1 ls i (omega arith) b))
+-- with five digits for each number no line is longer than 20 bytes, and the first line no longer than 16
+pub length-lines : (ls : List Line) (i : ℕ) → length ls < 100000 → Below 4 ls → length (linesTo i ls) ≤ 20 * i
+unfolding linesTo
+length-lines ls i h b = lines-short 1 ls i (omega arith) b
+
+pub length-text : (ls : List Line) → length ls < 100000 → Below 4 ls → length (textOf ls) ≤ 16 + 20 * length ls
+length-text ls h b =
+    rw (lines-all ls, length-append) (omega (arith, length-count (length ls) 4 (omega arith), length-lines ls (length ls) h b))

@@ -40,9 +40,9 @@ unfoldable pub linesFrom : ℕ → List Line → List ℕ
 linesFrom k [] = []
 linesFrom k (l ∷ ls) = lineOf k l ++ linesFrom (suc k) ls
 
--- the output up to the lines of the first i datagrams
-unfoldable pub textTo : ℕ → List Line → List ℕ
-textTo i ls = countLine (length ls) ++ linesFrom 1 (take i ls)
+-- the lines of the first i datagrams, counted from 1
+unfoldable pub linesTo : ℕ → List Line → List ℕ
+linesTo i ls = linesFrom 1 (take i ls)
 
 -- the whole output
 unfoldable pub textOf : List Line → List ℕ

@@ -7,7 +7,7 @@ use native.Mathlib.Omega.{arith}
 use native.Mathlib.Nat.{pow-suc, zero-add, add-assoc}
 use borrow.Author.Tests.{lt-ltb, le-ltb, ltb-false}
 use lib.Dec.{ltb}
-use lib.ListN.{length, take, drop, length-append, length-take}
+use lib.ListN.{length, take, drop, length-append, length-take, take-append-drop}
 use lib.Seq.{take-append-seam, drop-append-add, drop-drop}
 use Rattle.lent.specs.Written.{over, placed}
 use Rattle.lent.specs.Laws.{placed-fits, length-over}
@@ -51,6 +51,12 @@ wrote-more at w p d h f g =
       b ∙ behind-fits (at + length w) p (over at w d) room ∙ rw (behind-fits at (w ++ p) d h) (omega arith),
       t ∙ placed-fits (at + length w) p (over at w d) room ∙ over-more at w p d (omega arith) ∙ sym (placed-fits at (w ++ p) d h),
     )
+
+-- no text
+pub wrote-none : (at : ℕ) (d : List ℕ) → at ≤ length d → Wrote at [] d at d
+wrote-none at d h =
+    let e : at + 0 ≡ at = omega arith in
+    (sym (behind-fits at [] d (omega arith) ∙ e), sym (placed-fits at [] d (omega arith) ∙ rw e (take-append-drop at d)))
 
 -- the front of what was written over the start of d
 pub front-wrote : (w d : List ℕ) {r : ℕ} {e : List ℕ} → length w ≤ length d → Wrote 0 w d r e → (r ≡ length w) × (take r e ≡ w)
