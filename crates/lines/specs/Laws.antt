@@ -9,7 +9,7 @@ use lib.Seq.{take-suc, take-length}
 use Rattle.text.specs.Laws.{Wrote, wrote-none, wrote-more, decimal-short, length-decimal}
 use Rattle.lines.specs.declared.Line.{Line}
 use Rattle.lines.specs.declared.Line.the-variants.{Deliver, Refuse}
-use Rattle.lines.specs.Lines.{datagramsWord, deliverWord, refuseWord, entryOf, countLine, lineOf, linesFrom, linesTo, textOf}
+use Rattle.lines.specs.Lines.{longestLine, datagramsWord, deliverWord, refuseWord, entryOf, countLine, lineOf, linesFrom, linesTo, textOf}
 
 lines-last : (k : ℕ) (xs : List Line) (l : Line) → linesFrom k (xs ++ (l ∷ [])) ≡ linesFrom k xs ++ lineOf (k + length xs) l
 unfolding linesFrom
@@ -58,7 +58,7 @@ pub entry-short : (w : List ℕ) (n : ℕ) → length (entryOf w n) ≤ length w
 unfolding entryOf
 entry-short w n = simp length-append (omega (arith, decimal-short n))
 
-pub line-short : (k : ℕ) (l : Line) → length (lineOf k l) ≤ 50
+pub line-short : (k : ℕ) (l : Line) → length (lineOf k l) ≤ longestLine
 unfolding lineOf
 line-short k (Deliver n) = simp length-append (omega (arith, decimal-short k, entry-short deliverWord n))
 line-short k (Refuse n) = simp length-append (omega (arith, decimal-short k, entry-short refuseWord n))

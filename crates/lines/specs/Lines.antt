@@ -35,6 +35,10 @@ unfoldable pub lineOf : ℕ → Line → List ℕ
 lineOf k (Deliver n) = decimal k ++ entryOf deliverWord n
 lineOf k (Refuse n) = decimal k ++ entryOf refuseWord n
 
+-- no line is longer: two numbers of 20 digits, the longer word and a line feed
+abbrev pub longestLine : ℕ
+longestLine = 50
+
 -- a line for each datagram, the first of number k
 unfoldable pub linesFrom : ℕ → List Line → List ℕ
 linesFrom k [] = []

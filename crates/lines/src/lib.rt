@@ -5,13 +5,16 @@ ghost use Prim.Native.Nat.{_+_, _≤_};
 ghost use lib.ListN.{length};
 ghost use Rattle.lent.specs.Written.{placed};
 ghost use Rattle.text.specs.Text.{behind};
-ghost use Rattle.lines.specs.Lines.{entryOf, badInput, countLine, lineOf};
+ghost use Rattle.lines.specs.Lines.{longestLine, entryOf, badInput, countLine, lineOf};
 
 // What the program says of a datagram: the length that is delivered, or the number of the refusal.
 pub enum Line {
     Deliver(usize),
     Refuse(u8),
 }
+
+// The longest line: two numbers of 20 digits, the longer word and a line feed.
+const LONGEST_LINE: usize = 50;
 
 // Writes a word, a number and a line feed, where there is room for the longest number.
 fn put_entry(word: &[u8], n: u64, out: &mut [u8], at: usize) -> usize
@@ -26,7 +29,7 @@ fn put_entry(word: &[u8], n: u64, out: &mut [u8], at: usize) -> usize
 
 // Writes a line where there is room for the longest one.
 fn write_line(k: usize, line: Line, out: &mut [u8], at: usize) -> usize
-    requires { ⌜ at + 50 ≤ length (now out) ⌝ }
+    requires { ⌜ at + longestLine ≤ length (now out) ⌝ }
     ensures { λ r. ⌜ r ≡ behind at (lineOf k line) (now (out .entry)) ⌝ }
     ensures { λ _. ⌜ now (out .exit) ≡ placed at (lineOf k line) (now (out .entry)) ⌝ }
 {
@@ -42,7 +45,7 @@ pub fn put_count(n: usize, out: &mut [u8], at: usize) -> usize
     ensures { λ r. ⌜ r ≡ behind at (countLine n) (now (out .entry)) ⌝ }
     ensures { λ _. ⌜ now (out .exit) ≡ placed at (countLine n) (now (out .entry)) ⌝ }
 {
-    let mut bytes = [0u8; 31];
+    let mut bytes = [0u8; LONGEST_LINE];
     let end = put_entry(b"datagrams ", n as u64, &mut bytes, 0);
     text::put(&bytes[..end], out, at)
 }
@@ -52,7 +55,7 @@ pub fn put_line(k: usize, line: Line, out: &mut [u8], at: usize) -> usize
     ensures { λ r. ⌜ r ≡ behind at (lineOf k line) (now (out .entry)) ⌝ }
     ensures { λ _. ⌜ now (out .exit) ≡ placed at (lineOf k line) (now (out .entry)) ⌝ }
 {
-    let mut bytes = [0u8; 50];
+    let mut bytes = [0u8; LONGEST_LINE];
     let end = write_line(k, line, &mut bytes, 0);
     text::put(&bytes[..end], out, at)
 }

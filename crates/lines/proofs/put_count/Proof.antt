@@ -3,7 +3,7 @@ use mathlib.Core.Path.{sym, ap, _∙_}
 use native.Mathlib.Omega.{arith}
 use lib.ListN.{length, replicate}
 use Rattle.text.specs.Laws.{front-wrote}
-use Rattle.lines.specs.Lines.{datagramsWord, entryOf, countLine}
+use Rattle.lines.specs.Lines.{longestLine, datagramsWord, entryOf, countLine}
 use Rattle.lines.specs.Laws.{entry-short}
 use Rattle.lines.proofs.put_count.Statement.{statement}
 use Rattle.lines.proofs.put_count.Tie as tie
@@ -12,12 +12,12 @@ array-share-prefix-bytes : tie.Need-array-share-prefix-bytes
 array-share-prefix-bytes c =
     let a = c .before .before .before .before .before .args in
     let s = entry-short datagramsWord (a .n) in
-    omega (arith, front-wrote (entryOf datagramsWord (a .n)) (replicate 31 0) s (c .before .put-entry .ensures) .0)
+    omega (arith, front-wrote (entryOf datagramsWord (a .n)) (replicate longestLine 0) (omega arith) (c .before .put-entry .ensures) .0)
 
 slice-aggregate-put : tie.Need-slice-aggregate-put
 slice-aggregate-put c =
     let a = c .before .before .before .before .before .before .args in
-    let f = front-wrote (entryOf datagramsWord (a .n)) (replicate 31 0) (entry-short datagramsWord (a .n)) (c .before .before .put-entry .ensures) in
+    let f = front-wrote (entryOf datagramsWord (a .n)) (replicate longestLine 0) (omega (arith, entry-short datagramsWord (a .n))) (c .before .before .put-entry .ensures) in
     f .0 ∙ sym (ap length (f .1))
 
 returns : tie.Need-returns
@@ -25,7 +25,7 @@ unfolding countLine
 returns c =
     let c6 = c .before .before .before .before .before .before in
     let a = c6 .before .before .before .before .args in
-    let e = front-wrote (entryOf datagramsWord (a .n)) (replicate 31 0) (entry-short datagramsWord (a .n)) (c6 .put-entry .ensures) .1 in
+    let e = front-wrote (entryOf datagramsWord (a .n)) (replicate longestLine 0) (omega (arith, entry-short datagramsWord (a .n))) (c6 .put-entry .ensures) .1 in
     let p = c .before .before .put .ensures in
     (rw e at (p .0), rw e at (p .1))
 

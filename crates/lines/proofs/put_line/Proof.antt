@@ -3,7 +3,7 @@ use mathlib.Core.Path.{sym, ap, _∙_}
 use native.Mathlib.Omega.{arith}
 use lib.ListN.{length, replicate}
 use Rattle.text.specs.Laws.{front-wrote}
-use Rattle.lines.specs.Lines.{lineOf}
+use Rattle.lines.specs.Lines.{longestLine, lineOf}
 use Rattle.lines.specs.Laws.{line-short}
 use Rattle.lines.proofs.put_line.Statement.{statement}
 use Rattle.lines.proofs.put_line.Tie as tie
@@ -12,19 +12,19 @@ array-share-prefix-bytes : tie.Need-array-share-prefix-bytes
 array-share-prefix-bytes c =
     let a = c .before .before .before .before .args in
     let s = line-short (a .k) (a .line) in
-    omega (arith, front-wrote (lineOf (a .k) (a .line)) (replicate 50 0) s (c .before .write-line .ensures) .0)
+    omega (arith, front-wrote (lineOf (a .k) (a .line)) (replicate longestLine 0) s (c .before .write-line .ensures) .0)
 
 slice-aggregate-put : tie.Need-slice-aggregate-put
 slice-aggregate-put c =
     let a = c .before .before .before .before .before .args in
-    let f = front-wrote (lineOf (a .k) (a .line)) (replicate 50 0) (line-short (a .k) (a .line)) (c .before .before .write-line .ensures) in
+    let f = front-wrote (lineOf (a .k) (a .line)) (replicate longestLine 0) (line-short (a .k) (a .line)) (c .before .before .write-line .ensures) in
     f .0 ∙ sym (ap length (f .1))
 
 returns : tie.Need-returns
 returns c =
     let c6 = c .before .before .before .before .before .before in
     let a = c6 .before .before .before .args in
-    let e = front-wrote (lineOf (a .k) (a .line)) (replicate 50 0) (line-short (a .k) (a .line)) (c6 .write-line .ensures) .1 in
+    let e = front-wrote (lineOf (a .k) (a .line)) (replicate longestLine 0) (line-short (a .k) (a .line)) (c6 .write-line .ensures) .1 in
     let p = c .before .before .put .ensures in
     (rw e at (p .0), rw e at (p .1))
 
