@@ -27,7 +27,7 @@ returns-3 c =
     let fits : 20 + n ≤ room = omega arith in
     let pass = wrap-pass n room (omega arith) fits in
     let first = placed-first header (a .out .now) (omega arith) (rw (c .before .before .before .before .before .before .before .before .before .outer-bytes .ensures) at (c .before .before .before .before .before .before .place .ensures)) in
-    (rw pass, rw pass (placed-more 20 header (a .packet .now) (a .out .now) long fits first (c .before .before .place2 .ensures)))
+    (rw pass, rw pass (placed-more _ header (a .packet .now) (a .out .now) (omega arith) (omega arith) first (c .before .before .place2 .ensures)))
 
 pub wrap-spec : {M : Type 1} → statement M
 wrap-spec =
