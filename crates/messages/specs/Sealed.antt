@@ -23,11 +23,12 @@ tail-sum : (k : ℕ) → k ≤ 65535 → wordSum (pseudoTail k) ≡ k + 58
 unfolding wordSum
 tail-sum k h = omega arith
 
--- one pass over an ICMPv6 packet of n bytes, from the source address on, gives the sum with its pseudo header
+-- one pass over an ICMPv6 packet of n bytes, from the source address on, gives the sum with its pseudo header, where it is
+-- started with the message's length and the next header
 module _ (n : ℕ) (d : List ℕ) (least : 40 ≤ n) (most : n ≤ 65575) (fits : n ≤ length d) (bytes : Bytes d) where
-  pub one-pass : onesSumFrom (n - 40 + 58) (take (n - 8) (drop 8 d)) ≡ icmpSum (take 32 (drop 8 (take n d))) (drop 40 (take n d))
+  pub one-pass : (start : ℕ) → start ≡ n - 40 + 58 → onesSumFrom start (take (n - 8) (drop 8 d)) ≡ icmpSum (take 32 (drop 8 (take n d))) (drop 40 (take n d))
   unfolding icmpSum
-  one-pass =
+  one-pass start begun =
       let p = take n d in
       let whole : length p ≡ n = length-take-le n d fits in
       let a = take 32 (drop 8 p) in
@@ -37,7 +38,8 @@ module _ (n : ℕ) (d : List ℕ) (least : 40 ≤ n) (most : n ≤ 65575) (fits 
       let split : drop 8 p ≡ a ++ m = sym (ap (λ (l : List ℕ). a ++ l) (sym (drop-drop 32 8 p)) ∙ take-append-drop 32 (drop 8 p)) in
       let t : 0 + wordSum (pseudoTail (n - 40)) ≡ n - 40 + 58 = zero-add _ ∙ tail-sum (n - 40) (omega arith) in
       let parts : Bytes p = bytes-take n d bytes in
-      ap (λ (l : List ℕ). onesSumFrom (n - 40 + 58) l) (sym (drop-take 8 n d (omega arith) (omega arith)) ∙ split)
+      ap (λ (k : ℕ). onesSumFrom k (take (n - 8) (drop 8 d))) begun
+      ∙ ap (λ (l : List ℕ). onesSumFrom (n - 40 + 58) l) (sym (drop-take 8 n d (omega arith) (omega arith)) ∙ split)
       ∙ sym
       (ap (λ (k : ℕ). onesSumFrom 0 (a ++ (pseudoTail k ++ m))) lm
       ∙ sum-moved 0 a (pseudoTail (n - 40)) m (omega arith) refl (omega arith) (bytes-take 32 (drop 8 p) (bytes-drop 8 p parts)) (omega arith) (bytes-drop 40 p parts)

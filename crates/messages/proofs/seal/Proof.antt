@@ -18,9 +18,10 @@ returns c =
     let out = a .out .now in
     let whole : length (take (a .n) out) ≡ a .n = length-take-le (a .n) out (omega arith) in
     let same = ap (λ (k : ℕ). take (a .n) out ++ drop k out) whole ∙ take-append-drop (a .n) out in
-    let sum = one-pass (a .n) out (omega arith) (omega arith) (omega arith) (bytes-of out (λ i. c .before .before .before .before .before .before .before .before .before .before .before .slice-known .given i .fits)) in
+    let bytes = bytes-of out (λ i. c .before .before .before .before .before .before .before .before .before .before .before .slice-known .given i .fits) in
+    let sum = c .before .before .before .before .before .before .before .before .sum-from .ensures ∙ one-pass (a .n) out (omega arith) (omega arith) (omega arith) bytes _ (omega arith) in
     placed-inside 42 (take (a .n) out) (c .before .before .before .before .before .before .high .result ∷ (c .before .before .before .before .before .low .result ∷ [])) out (omega arith) (omega arith) (sym same) (c .before .before .place .ensures)
-    ∙ rw (c .before .before .before .before .before .low .ensures, c .before .before .before .before .before .before .high .ensures, c .before .before .before .before .before .before .before .complement .ensures, c .before .before .before .before .before .before .before .before .sum-from .ensures, sum)
+    ∙ rw (c .before .before .before .before .before .low .ensures, c .before .before .before .before .before .before .high .ensures, c .before .before .before .before .before .before .before .complement .ensures, sum)
 
 pub seal-spec : {M : Type 1} → statement M
 seal-spec =
