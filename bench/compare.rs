@@ -2,8 +2,21 @@
 use std::hint::black_box;
 use std::time::Instant;
 
+/// The fields of an outer header that the caller chooses.
+#[repr(C)]
+#[derive(Clone, Copy, Debug)]
+struct OuterFields {
+    identification: u16,
+    dont_fragment: bool,
+    ttl: u8,
+    protocol: u8,
+    source: u32,
+    destination: u32,
+}
+
 extern "C" {
     fn bogtrumpet_checksum(start: u32, bytes: *const u8, length: usize) -> u16;
+    fn bogtrumpet_wrap(h: OuterFields, packet: *const u8, length: usize, out: *mut u8, room: usize) -> usize;
 }
 
 /// The checksum of the proved library.
@@ -29,6 +42,41 @@ fn checksum_rust(start: u32, s: &[u8]) -> u16 {
     sum as u16
 }
 
+/// A packet wrapped by the proved library.
+fn wrap_rattle(h: OuterFields, packet: &[u8], out: &mut [u8]) -> usize {
+    // The function is total: any fields and any slices will do.
+    unsafe { bogtrumpet_wrap(h, packet.as_ptr(), packet.len(), out.as_mut_ptr(), out.len()) }
+}
+
+/// A packet wrapped as one writes it in Rust.
+#[inline(never)]
+fn wrap_rust(h: OuterFields, packet: &[u8], out: &mut [u8]) -> usize {
+    let total = 20 + packet.len();
+    if total > 65535 || out.len() < total {
+        return 0;
+    }
+    let mut header = [0; 20];
+    header[0] = 0x45;
+    header[2..4].copy_from_slice(&(total as u16).to_be_bytes());
+    header[4..6].copy_from_slice(&h.identification.to_be_bytes());
+    header[6] = if h.dont_fragment { 0x40 } else { 0 };
+    header[8] = h.ttl;
+    header[9] = h.protocol;
+    header[12..16].copy_from_slice(&h.source.to_be_bytes());
+    header[16..20].copy_from_slice(&h.destination.to_be_bytes());
+    let mut sum = 0u32;
+    for word in header.chunks_exact(2) {
+        sum += u16::from_be_bytes([word[0], word[1]]) as u32;
+    }
+    while sum > 0xffff {
+        sum = (sum & 0xffff) + (sum >> 16);
+    }
+    header[10..12].copy_from_slice(&(!(sum as u16)).to_be_bytes());
+    out[..20].copy_from_slice(&header);
+    out[20..total].copy_from_slice(packet);
+    total
+}
+
 /// A small generator, so that every run has the same inputs.
 struct Random(u64);
 
@@ -42,6 +90,18 @@ impl Random {
 
     fn bytes(&mut self, length: usize) -> Vec<u8> {
         (0..length).map(|_| self.next() as u8).collect()
+    }
+
+    fn outer_fields(&mut self) -> OuterFields {
+        let (a, b) = (self.next(), self.next());
+        OuterFields {
+            identification: a as u16,
+            dont_fragment: a >> 16 & 1 == 1,
+            ttl: (a >> 24) as u8,
+            protocol: (a >> 32) as u8,
+            source: b as u32,
+            destination: (b >> 32) as u32,
+        }
     }
 }
 
@@ -78,10 +138,21 @@ fn compare_checksums(random: &mut Random) {
     }
 }
 
-fn main() {
-    let mut random = Random(1071);
-    compare_checksums(&mut random);
-    println!("{:<24}{:>12}{:>12}{:>12}", "", "Rattle, ns", "Rust, ns", "ratio");
+/// Answers and whole outputs, in a room that is too short by one, that just fits, and that has bytes behind.
+fn compare_wraps(random: &mut Random) {
+    for length in (0..300).chain([1280, 1480, 9196, 65514, 65515, 65516, 70000]) {
+        let (h, packet) = (random.outer_fields(), random.bytes(length));
+        for room in [length + 19, length + 20, length + 29] {
+            let before = random.bytes(room);
+            let (mut rattle, mut rust) = (before.clone(), before);
+            let answers = (wrap_rattle(h, &packet, &mut rattle), wrap_rust(h, &packet, &mut rust));
+            assert_eq!(answers.0, answers.1, "{length} bytes wrapped in a room of {room}: {h:?}");
+            assert!(rattle == rust, "{length} bytes wrapped in a room of {room}: {h:?}");
+        }
+    }
+}
+
+fn time_checksums(random: &mut Random) {
     for length in [20, 1500, 65535] {
         let s = random.bytes(length);
         row(
@@ -90,4 +161,25 @@ fn main() {
             || _ = black_box(checksum_rust(black_box(0), black_box(&s))),
         );
     }
+}
+
+fn time_wraps(random: &mut Random) {
+    for length in [64, 1280, 1480, 65515] {
+        let (h, packet) = (random.outer_fields(), random.bytes(length));
+        let (mut rattle, mut rust) = (vec![0; 65535], vec![0; 65535]);
+        row(
+            &format!("wrap {length}"),
+            || _ = black_box(wrap_rattle(black_box(h), black_box(&packet), black_box(&mut rattle))),
+            || _ = black_box(wrap_rust(black_box(h), black_box(&packet), black_box(&mut rust))),
+        );
+    }
+}
+
+fn main() {
+    let mut random = Random(1071);
+    compare_checksums(&mut random);
+    compare_wraps(&mut random);
+    println!("{:<24}{:>12}{:>12}{:>12}", "", "Rattle, ns", "Rust, ns", "ratio");
+    time_checksums(&mut random);
+    time_wraps(&mut random);
 }

@@ -7,7 +7,8 @@ ghost use mathlib.Core.Bool.{cond};
 ghost use lib.ListN.{length};
 ghost use Rattle.header.specs.Wrap.{outerWith, outerBytes, wrapAnswer, wrapOutput};
 
-// The fields of the outer header that the caller chooses.
+// The fields of the outer header that the caller chooses, laid out as in C.
+#[repr(C)]
 pub struct OuterFields {
     pub identification: u16,
     pub dont_fragment: bool,
