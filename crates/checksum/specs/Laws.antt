@@ -77,6 +77,11 @@ unfolding onesSumFrom
 sum-folded start s h b =
     sym (folded-word _ (sum-word start s h b)) ∙ added-folded (onesAdd (start / 65536) (start % 65536)) s ∙ folded-start start (wordSum s)
 
+-- words that were added up exactly have the sum of the list that they are from
+pub sum-exact : (words : ℕ) (s : List ℕ) → words ≡ wordSum s → words < 2 ^ 32 → Bytes s → onesSumFrom words [] ≡ onesSumFrom 0 s
+unfolding wordSum
+sum-exact words s e fits b = sum-folded words [] fits tt ∙ ap folded (omega arith) ∙ sym (sum-folded 0 s (omega arith) b)
+
 pub wordSum-append : (a b : List ℕ) → length a % 2 ≡ 0 → wordSum (a ++ b) ≡ wordSum a + wordSum b
 unfolding wordSum
 wordSum-append [] b h = omega arith

@@ -1,6 +1,7 @@
 // The Internet checksum of RFC 1071.
 ghost use mathlib.Core.Path.{_≡_};
 ghost use Prim.Native.Nat.{_+_, _*_, _≤_, _<_, min};
+ghost use mathlib.Core.List.{[]};
 ghost use lib.ListN.{length, drop};
 ghost use Rattle.checksum.specs.Sum.{onesSum, onesSumFrom, onesComplement, isRight, isRightFrom};
 ghost use Rattle.checksum.specs.Laws.{wordSum, folded, chunk};
@@ -34,6 +35,13 @@ pub fn sum_from(start: u32, s: &[u8]) -> u16
         last = sum as u32;
         at = end;
     }
+}
+
+// The one's complement sum of words that were added up exactly: it is continued from them, and nothing follows.
+pub fn sum_of_words(words: u32) -> u16
+    ensures { λ r. ⌜ r ≡ onesSumFrom words [] ⌝ }
+{
+    fold(words as u64)
 }
 
 // The one's complement of x: what is written for a sum x.

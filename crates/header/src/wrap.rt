@@ -5,6 +5,7 @@ use refusals::Refusal;
 ghost use mathlib.Core.Path.{_≡_};
 ghost use mathlib.Core.Bool.{cond};
 ghost use lib.ListN.{length};
+ghost use Rattle.checksum.specs.Sum.{onesSum};
 ghost use Rattle.header.specs.Wrap.{outerWith, outerBytes, wrapAnswer, wrapOutput};
 
 // The fields of the outer header that the caller chooses, laid out as in C.
@@ -48,10 +49,22 @@ pub fn outer_bytes(total: u16, h: OuterFields) -> [u8; 20]
     ensures { λ r. ⌜ r ≡ outerBytes total h ⌝ }
 {
     let mut b = unsummed(total, h);
-    let sum = checksum::complement(checksum::sum(&b));
+    let sum = checksum::complement(header_sum(total, h));
     b[10] = fields::high(sum);
     b[11] = fields::low(sum);
     b
+}
+
+// The sum of that header with 0 for its checksum, whose words are added up as numbers.
+fn header_sum(total: u16, h: OuterFields) -> u16
+    ensures { λ r. ⌜ r ≡ onesSum (outerWith total h 0) ⌝ }
+{
+    let flags = flags(h.dont_fragment);
+    let numbers = 0x4500 + total as u32 + h.identification as u32;
+    let bytes = flags as u32 * 256 + h.ttl as u32 * 256 + h.protocol as u32;
+    let source = h.source / 65536 + h.source % 65536;
+    let destination = h.destination / 65536 + h.destination % 65536;
+    checksum::sum_of_words(numbers + bytes + source + destination)
 }
 
 // The same with 0 for the checksum.

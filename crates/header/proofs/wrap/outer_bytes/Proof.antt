@@ -6,10 +6,9 @@ use Rattle.header.proofs.wrap.outer_bytes.Tie as tie
 
 returns : tie.Need-returns
 unfolding outerBytes
-returns c = rw (c .low .ensures, c .before .high .ensures, c .before .before .complement .ensures, c .before .before .before .sum .ensures, c .before .before .before .before .before .unsummed .ensures)
+returns c = rw (c .low .ensures, c .before .high .ensures, c .before .before .complement .ensures, c .before .before .before .header-sum .ensures, c .before .before .before .before .unsummed .ensures)
 
 pub outer-bytes-spec : {M : Type 1} → statement M
 outer-bytes-spec =
     tie.close
-    (tie.spec (omega arith) (omega arith) (omega arith) (omega arith) (omega arith) (omega arith) (omega arith)
-    (omega arith) returns)
+    (tie.spec (omega arith) (omega arith) (omega arith) (omega arith) (omega arith) (omega arith) (omega arith) returns)
