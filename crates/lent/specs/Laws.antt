@@ -1,12 +1,12 @@
 -- Laws of writing: one write behind another, and a write inside of what was written. Assumes nothing.
 use Prim.Native.Nat.{ℕ, _+_, _-_, _<_, _≤_}
-use mathlib.Core.Path.{_≡_, ap, _∙_}
+use mathlib.Core.Path.{_≡_, ap, sym, _∙_}
 use mathlib.Core.List.{List, [], _++_, append-assoc, append-nil}
 use native.Mathlib.Omega.{arith}
 use native.Mathlib.Nat.{zero-add}
 use borrow.Author.Tests.{lt-ltb, le-ltb}
 use lib.ListN.{length, take, drop, length-take, length-drop, length-append, drop-of-length-le}
-use lib.Seq.{take-append-seam, drop-append-seam, take-append-le, drop-append-le, drop-append-add, drop-drop, take-all, take-length, drop-length}
+use lib.Seq.{take-append-seam, drop-append-seam, take-append-le, drop-append-le, drop-append-add, drop-drop, take-all, take-add, take-length, length-take-le, drop-length}
 use Rattle.lent.specs.Written.{written, over, placed}
 
 -- what fits is written
@@ -62,8 +62,25 @@ written-whole w d e = rw (e, drop-length, append-nil)
 
 -- a part from at on, lent and written over from its start, and back in its place
 pub part-over : (at : ℕ) (p d : List ℕ) → at + length p ≤ length d
-    → take at d ++ ((take (length p) p ++ drop (length p) (take (length d - at) (drop at d))) ++ drop (length d - at) (drop at d)) ≡ over at p d
+    → take at d ++ ((p ++ drop (length p) (take (length d - at) (drop at d))) ++ drop (length d - at) (drop at d)) ≡ over at p d
 part-over at p d h =
     let t : take (length d - at) (drop at d) ≡ drop at d = take-all (length d - at) (drop at d) (omega (arith, length-drop at d)) in
     let e : drop (length d - at) (drop at d) ≡ [] = drop-of-length-le (drop at d) {i = length d - at} (omega (arith, length-drop at d)) in
-    simp (take-length, t, e, append-nil, drop-drop)
+    simp (t, e, append-nil, drop-drop)
+
+-- what was written over b and is read from there is written over d
+pub by-way-of : (p b b₁ d : List ℕ) (n : ℕ) {d₁ : List ℕ} → n ≡ length p → b₁ ≡ take (length p) p ++ drop (length p) b
+    → d₁ ≡ take (length (take n b₁)) (take n b₁) ++ drop (length (take n b₁)) d → d₁ ≡ written p d
+by-way-of p b b₁ d n e f g =
+    let same : take n b₁ ≡ p = rw (f, e, take-length p) (take-append-seam p (drop (length p) b)) in
+    g ∙ rw (same, take-length p)
+
+-- a block of p, written right behind what p has before it
+pub written-block : (i e : ℕ) (p d : List ℕ) {d₁ d₂ : List ℕ} → i ≤ e → e ≤ length p → length p ≤ length d → d₁ ≡ written (take i p) d
+    → d₂ ≡ over i (take (e - i) (drop i p)) d₁ → d₂ ≡ written (take e p) d
+written-block i e p d h k l f g =
+    let block = take (e - i) (drop i p) in
+    let long : length (take i p) ≡ i = length-take-le i p (omega arith) in
+    let whole : e ≡ i + (e - i) = omega arith in
+    let parts : take e p ≡ take i p ++ block = ap (λ (j : ℕ). take j p) whole ∙ take-add i (e - i) p in
+    g ∙ rw (f, parts) (ap (λ (j : ℕ). over j block (written (take i p) d)) (sym long) ∙ over-next (take i p) block d)

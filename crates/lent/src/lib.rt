@@ -1,6 +1,11 @@
 // Writing into a lent slice.
 ghost use mathlib.Core.Path.{_≡_};
-ghost use Rattle.lent.specs.Written.{placed};
+ghost use Prim.Native.Nat.{_≤_, min};
+ghost use lib.ListN.{length};
+ghost use Rattle.lent.specs.Written.{written, placed};
+
+// The bytes that are moved at a time.
+const BLOCK: usize = 2048;
 
 // Writes src into dst from the index at on; where it does not fit, nothing is written.
 pub fn place(src: &[u8], dst: &mut [u8], at: usize)
@@ -12,5 +17,36 @@ pub fn place(src: &[u8], dst: &mut [u8], at: usize)
     if dst.len() - at < src.len() {
         return;
     }
-    bytes::copy(src, &mut dst[at..]);
+    write(src, &mut dst[at..]);
+}
+
+// Writes src over the front of dst, block after block.
+fn write(src: &[u8], dst: &mut [u8])
+    requires { ⌜ length (now src) ≤ length (now dst) ⌝ }
+    ensures { λ _. ⌜ now (dst .exit) ≡ written (now (src .entry)) (now (dst .entry)) ⌝ }
+{
+    let mut i = 0;
+    while i < src.len() {
+        let end = i + least(BLOCK, src.len() - i);
+        write_block(&src[i..end], &mut dst[i..]);
+        i = end;
+    }
+}
+
+// The same of one block. It goes by way of an array, which neither slice overlaps: so the compiler sees that both loops are
+// moves of memory, and makes one of them.
+fn write_block(src: &[u8], dst: &mut [u8])
+    requires { ⌜ length (now src) ≤ 2048 ⌝ }
+    requires { ⌜ length (now src) ≤ length (now dst) ⌝ }
+    ensures { λ _. ⌜ now (dst .exit) ≡ written (now (src .entry)) (now (dst .entry)) ⌝ }
+{
+    let mut block = [0; BLOCK];
+    let n = bytes::copy(src, &mut block);
+    bytes::copy(&block[..n], dst);
+}
+
+fn least(a: usize, b: usize) -> usize
+    ensures { λ r. ⌜ r ≡ min a b ⌝ }
+{
+    if a < b { a } else { b }
 }

@@ -14,7 +14,7 @@ returns-2 c = let a = c .before .before .before .before .args in sym (placed-sho
 returns-3 : tie.Need-returns-3
 returns-3 c =
     let a = c .before .before .before .before .before .before .before .before .args in
-    rw (c .before .before .copy .ensures .1) (part-over (a .at) (a .src .now) (a .dst .now) (omega arith) ∙ sym (placed-fits (a .at) (a .src .now) (a .dst .now) (omega arith)))
+    rw (c .before .before .write .ensures) (part-over (a .at) (a .src .now) (a .dst .now) (omega arith) ∙ sym (placed-fits (a .at) (a .src .now) (a .dst .now) (omega arith)))
 
 pub place-spec : {M : Type 1} → statement M
 place-spec =
