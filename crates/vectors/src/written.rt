@@ -79,7 +79,7 @@ fn too_big() {
     let from = address::link_local(0x0a000001);
     let mut short = [0xa5; 87];
     answer(
-        b"qPacket Too Big in a room of 87",
+        b"Packet Too Big in a room of 87",
         messages::too_big(from, 1480, tail(&d, 20), &mut short),
     );
     answer(
