@@ -29,28 +29,6 @@ fn forbidden() {
     edge(b"255.255.255.255", 0xffffffff);
 }
 
-// The bytes of fe80::/64 behind the identifier's, and of the IPv4 address 192.0.2.143.
-fn link_local(identifier: [u8; 4]) -> [u8; 16] {
-    [
-        0xfe,
-        0x80,
-        0,
-        0,
-        0,
-        0,
-        0,
-        0,
-        identifier[0],
-        identifier[1],
-        identifier[2],
-        identifier[3],
-        192,
-        0,
-        2,
-        143,
-    ]
-}
-
 // Two on-link prefixes, the second in the last place.
 fn on_link() -> [[u8; 8]; 8] {
     let first = [0x20, 0x01, 0x0d, 0xb8, 0, 0, 0, 1];
@@ -71,65 +49,79 @@ fn embedded(name: &[u8], count: usize, a: [u8; 16]) {
     }
 }
 
+// fe80::/64, four bytes of an identifier, 192.0.2.143
+fn identifier(name: &[u8], i: [u8; 4]) {
+    embedded(
+        name,
+        0,
+        [
+            0xfe,
+            0x80,
+            0,
+            0,
+            0,
+            0,
+            0,
+            0,
+            i[0],
+            i[1],
+            i[2],
+            i[3],
+            192,
+            0,
+            2,
+            143,
+        ],
+    );
+}
+
 fn identifiers() {
     print::bytes(
         b"address formed for 192.0.2.143",
         &address::link_local(0xc000028f),
     );
-    embedded(b"fe80::5efe:192.0.2.143", 0, link_local([0, 0, 0x5e, 0xfe]));
-    embedded(
-        b"fe80::200:5efe:192.0.2.143",
-        0,
-        link_local([2, 0, 0x5e, 0xfe]),
-    );
-    embedded(
-        b"fe80::100:5efe:192.0.2.143",
-        0,
-        link_local([1, 0, 0x5e, 0xfe]),
-    );
-    embedded(
-        b"fe80::300:5efe:192.0.2.143",
-        0,
-        link_local([3, 0, 0x5e, 0xfe]),
-    );
-    embedded(
-        b"fe80::1:5efe:192.0.2.143",
-        0,
-        link_local([0, 1, 0x5e, 0xfe]),
-    );
-    embedded(b"fe80::5eff:192.0.2.143", 0, link_local([0, 0, 0x5e, 0xff]));
-    embedded(b"fe80::5ffe:192.0.2.143", 0, link_local([0, 0, 0x5f, 0xfe]));
+    identifier(b"fe80::5efe:192.0.2.143", [0, 0, 0x5e, 0xfe]);
+    identifier(b"fe80::200:5efe:192.0.2.143", [2, 0, 0x5e, 0xfe]);
+    identifier(b"fe80::100:5efe:192.0.2.143", [1, 0, 0x5e, 0xfe]);
+    identifier(b"fe80::300:5efe:192.0.2.143", [3, 0, 0x5e, 0xfe]);
+    identifier(b"fe80::1:5efe:192.0.2.143", [0, 1, 0x5e, 0xfe]);
+    identifier(b"fe80::5eff:192.0.2.143", [0, 0, 0x5e, 0xff]);
+    identifier(b"fe80::5ffe:192.0.2.143", [0, 0, 0x5f, 0xfe]);
 }
 
 // 2001:db8:0:n::5efe:10.0.0.1
-fn under(n: u8) -> [u8; 16] {
-    [
-        0x20,
-        0x01,
-        0x0d,
-        0xb8,
-        0,
-        0,
-        0,
-        n,
-        0,
-        0,
-        0x5e,
-        0xfe,
-        10,
-        0,
-        0,
-        1,
-    ]
+fn prefixed(name: &[u8], count: usize, n: u8) {
+    embedded(
+        name,
+        count,
+        [
+            0x20,
+            0x01,
+            0x0d,
+            0xb8,
+            0,
+            0,
+            0,
+            n,
+            0,
+            0,
+            0x5e,
+            0xfe,
+            10,
+            0,
+            0,
+            1,
+        ],
+    );
 }
 
 fn prefixes() {
-    embedded(b"2001:db8:0:1::5efe:10.0.0.1, no prefix", 0, under(1));
-    embedded(b"2001:db8:0:1::5efe:10.0.0.1, one prefix", 1, under(1));
-    embedded(b"2001:db8:0:2::5efe:10.0.0.1, one prefix", 1, under(2));
-    embedded(b"2001:db8:0:8::5efe:10.0.0.1, seven prefixes", 7, under(8));
-    embedded(b"2001:db8:0:8::5efe:10.0.0.1, eight prefixes", 8, under(8));
-    embedded(b"2001:db8:0:8::5efe:10.0.0.1, count of nine", 9, under(8));
+    prefixed(b"2001:db8:0:1::5efe:10.0.0.1, no prefix", 0, 1);
+    prefixed(b"2001:db8:0:1::5efe:10.0.0.1, one prefix", 1, 1);
+    prefixed(b"2001:db8:0:2::5efe:10.0.0.1, one prefix", 1, 2);
+    prefixed(b"2001:db8:0:8::5efe:10.0.0.1, seven prefixes", 7, 8);
+    prefixed(b"2001:db8:0:8::5efe:10.0.0.1, eight prefixes", 8, 8);
+    prefixed(b"2001:db8:0:8::5efe:10.0.0.1, count of nine", 9, 8);
 }
 
 fn source(name: &[u8], a: [u8; 16]) {
@@ -138,19 +130,22 @@ fn source(name: &[u8], a: [u8; 16]) {
 }
 
 // 96 zero bits, then an IPv4 address.
-fn compatible(a: u8, b: u8, c: u8, d: u8) -> [u8; 16] {
-    [0, 0, 0, 0, 0, 0, 0, 0, 0, 0, 0, 0, a, b, c, d]
+fn compatible(name: &[u8], a: [u8; 4]) {
+    source(
+        name,
+        [0, 0, 0, 0, 0, 0, 0, 0, 0, 0, 0, 0, a[0], a[1], a[2], a[3]],
+    );
 }
 
 fn sources() {
-    source(b"::", compatible(0, 0, 0, 0));
-    source(b"::1", compatible(0, 0, 0, 1));
-    source(b"::2", compatible(0, 0, 0, 2));
-    source(b"::10.0.0.1", compatible(10, 0, 0, 1));
-    source(b"::127.0.0.1", compatible(127, 0, 0, 1));
-    source(b"::224.0.0.1", compatible(224, 0, 0, 1));
-    source(b"::240.0.0.1", compatible(240, 0, 0, 1));
-    source(b"::255.255.255.255", compatible(255, 255, 255, 255));
+    compatible(b"::", [0, 0, 0, 0]);
+    compatible(b"::1", [0, 0, 0, 1]);
+    compatible(b"::2", [0, 0, 0, 2]);
+    compatible(b"::10.0.0.1", [10, 0, 0, 1]);
+    compatible(b"::127.0.0.1", [127, 0, 0, 1]);
+    compatible(b"::224.0.0.1", [224, 0, 0, 1]);
+    compatible(b"::240.0.0.1", [240, 0, 0, 1]);
+    compatible(b"::255.255.255.255", [255, 255, 255, 255]);
     source(
         b"ff02::1",
         [0xff, 2, 0, 0, 0, 0, 0, 0, 0, 0, 0, 0, 0, 0, 0, 1],

@@ -92,10 +92,10 @@ pub fn mend(k: usize, d: &mut [u8]) {
     place(&[fields::high(sum), fields::low(sum)], d, 10);
 }
 
-// The example with some bytes changed from a place on, its checksum right.
-fn damaged(name: &[u8], change: &[u8], at: usize) {
+// The example with a byte changed, its checksum right.
+fn damaged(name: &[u8], byte: u8, at: usize) {
     let mut d = example();
-    place(change, &mut d, at);
+    place(&[byte], &mut d, at);
     mend(20, &mut d);
     read(name, &d);
 }
@@ -105,32 +105,28 @@ fn malformed() {
     read(b"no byte", front(&d, 0));
     read(b"19 bytes", front(&d, 19));
     read(b"59 bytes of 60", front(&d, 59));
-    damaged(b"version 5", b"\x55", 0);
-    damaged(b"four words", b"\x44", 0);
-    damaged(b"total length below the header", b"\x00\x13", 2);
-    damaged(b"total length above the bytes", b"\x00\x3d", 2);
-    damaged(b"total length of the header alone", b"\x00\x14", 2);
+    damaged(b"version 5", 0x55, 0);
+    damaged(b"four words", 0x44, 0);
+    damaged(b"total length below the header", 19, 3);
+    damaged(b"total length above the bytes", 61, 3);
+    damaged(b"total length of the header alone", 20, 3);
 }
 
 fn later_refusals() {
     let mut d = example();
     place(b"\x97", &mut d, 11);
     read(b"checksum one more", &d);
-    damaged(b"protocol 4", b"\x04", 9);
-    damaged(b"more-fragments", b"\x20", 6);
-    damaged(b"offset 8", b"\x01", 7);
-    damaged(b"highest bit of the offset", b"\x10", 6);
-    damaged(b"protocol 4 and more-fragments", b"\x20\x00\x40\x04", 6);
+    damaged(b"protocol 4", 4, 9);
+    damaged(b"more-fragments", 0x20, 6);
+    damaged(b"offset 8", 1, 7);
+    damaged(b"highest bit of the offset", 0x10, 6);
 }
 
 fn no_piece() {
-    damaged(b"don't-fragment", b"\x40", 6);
-    damaged(b"reserved flag", b"\x80", 6);
-    damaged(
-        b"type of service and TTL 0",
-        b"\x45\xff\x00\x3c\x00\x01\x00\x00\x00",
-        0,
-    );
+    damaged(b"don't-fragment", 0x40, 6);
+    damaged(b"reserved flag", 0x80, 6);
+    damaged(b"type of service 255", 255, 1);
+    damaged(b"TTL 0", 0, 8);
 }
 
 // A header of 15 words fills the example's 60 bytes; in 59 it is cut off.

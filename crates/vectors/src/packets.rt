@@ -37,33 +37,30 @@ fn inner(name: &[u8], p: &[u8]) {
     }
 }
 
-// 64 bytes: the example and four more, of a total length.
-fn longer(total: &[u8], payload: &[u8]) -> [u8; 64]
+// 64 bytes: the example and four more, of a total and an inner payload length below 256.
+fn longer(total: u8, payload: u8) -> [u8; 64]
     ensures { λ r. ⌜ 64 ≡ length r ⌝ }
 {
     let mut d = [0xee; 64];
     place(&datagrams::example(), &mut d, 0);
-    place(total, &mut d, 2);
-    place(payload, &mut d, 24);
+    place(&[total], &mut d, 3);
+    place(&[payload], &mut d, 25);
     datagrams::mend(20, &mut d);
     d
 }
 
-fn deliver_longer(name: &[u8], total: &[u8], payload: &[u8]) {
+fn deliver_longer(name: &[u8], total: u8, payload: u8) {
     deliver(name, &longer(total, payload));
 }
 
 fn received() {
     deliver(b"packet of document 01", &datagrams::example());
-    deliver_longer(b"four bytes of padding", b"\x00\x3c", b"\x00\x00");
-    deliver(
-        b"four bytes behind the packet",
-        &longer(b"\x00\x40", b"\x00\x00"),
-    );
-    deliver_longer(b"payload of four bytes", b"\x00\x40", b"\x00\x04");
-    deliver_longer(b"payload of five", b"\x00\x40", b"\x00\x05");
-    deliver_longer(b"payload in the padding", b"\x00\x3c", b"\x00\x04");
-    deliver_longer(b"39 bytes", b"\x00\x3b", b"\x00\x00");
+    deliver_longer(b"four bytes of padding", 60, 0);
+    deliver_longer(b"four bytes behind the packet", 64, 0);
+    deliver_longer(b"payload of four bytes", 64, 4);
+    deliver_longer(b"payload of five", 64, 5);
+    deliver_longer(b"payload in the padding", 60, 4);
+    deliver_longer(b"39 bytes", 59, 0);
     let mut d = datagrams::example();
     place(b"\x40", &mut d, 20);
     deliver(b"version 4 inside", &d);
@@ -87,13 +84,13 @@ fn behind_options() {
 fn sent() {
     let d = datagrams::example();
     send(b"to send, 40 bytes", tail(&d, 20));
-    send_longer(b"to send, four bytes too many", b"\x00\x00", 64);
-    send_longer(b"to send, payload of four bytes", b"\x00\x04", 64);
-    send_longer(b"to send, one byte too few", b"\x00\x04", 63);
+    send_longer(b"to send, four bytes too many", 0, 64);
+    send_longer(b"to send, payload of four bytes", 4, 64);
+    send_longer(b"to send, one byte too few", 4, 63);
 }
 
-fn send_longer(name: &[u8], payload: &[u8], end: usize) {
-    let d = longer(b"\x00\x3c", payload);
+fn send_longer(name: &[u8], payload: u8, end: usize) {
+    let d = longer(60, payload);
     send(name, tail(front(&d, end), 20));
 }
 
@@ -105,7 +102,7 @@ fn send(name: &[u8], p: &[u8]) {
 
 // The example's packet with a next header, and a byte of payload.
 fn error(name: &[u8], next: u8, kind: u8) {
-    let mut d = longer(b"\x00\x3d", b"\x00\x01");
+    let mut d = longer(61, 1);
     place(&[next], &mut d, 26);
     place(&[kind], &mut d, 60);
     draw(name, tail(front(&d, 61), 20));
