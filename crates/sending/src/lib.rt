@@ -136,17 +136,17 @@ fn message_length(n: usize) -> usize
 }
 
 // Number 14, or 15 for its message.
-fn big_plan(size: u16, packet: &[u8], room: usize) -> Plan
-    ensures { λ r. ⌜ r ≡ bigPlan size (now (packet .entry)) room ⌝ }
+fn big_plan(largest: u16, packet: &[u8], room: usize) -> Plan
+    ensures { λ r. ⌜ r ≡ bigPlan largest (now (packet .entry)) room ⌝ }
 {
     if inner::may_draw_error(packet) {
         if room < message_length(packet.len()) {
             Plan::Refuse(Refusal::OutputShort)
         } else {
-            Plan::Tell(size)
+            Plan::Tell(largest)
         }
     } else {
-        Plan::Silent(size)
+        Plan::Silent(largest)
     }
 }
 
