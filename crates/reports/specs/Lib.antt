@@ -1,2 +1,4 @@
 pub mod Report
 pub mod Laws
+pub mod Accepts
+pub mod AcceptsLaws
