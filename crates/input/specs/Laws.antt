@@ -2,7 +2,7 @@
 use Prim.Native.Nat.{ℕ, zero, suc, _+_, _-_, _*_, _≤_, _<_}
 use mathlib.Core.Path.{_≡_, refl, sym, ap, _∙_}
 use mathlib.Core.Bool.{Bool, true, false, _&&_, and-assoc}
-use mathlib.Core.List.{List, _∷_, flatten}
+use mathlib.Core.List.{List, [], _∷_, flatten}
 use native.Mathlib.Omega.{arith}
 use native.Mathlib.Numerals.{add-one}
 use native.Mathlib.Nat.{zero-mul, suc-mul, add-comm}
@@ -11,6 +11,7 @@ use lib.Dec.{leb}
 use lib.ListN.{length, getD, take, drop, length-take, length-drop}
 use lib.Seq.{drop-cons, take-add}
 use Rattle.input.specs.Section.{countOf, records, recordsOf}
+use Rattle.input.specs.Input.{prefixSection, routerSection, behindSettings, areSectionsWhole, inputLimit, isWellFormed}
 use Rattle.input.specs.Recording.{Datagram, interfaceOf, bytesOf, sizeOf, isThere, nextOf, firstOf, datagramsFrom, areThere, datagramsOf, isRecording}
 
 -- n records are n
@@ -63,9 +64,16 @@ pub there-turn : (n i : ℕ) (good : Bool) (d : List ℕ) → i < n
     → (good && isThere d && areThere (n - (i + 1)) (nextOf d)) ≡ (good && areThere (n - i) d)
 there-turn n i good d h = let e : n - i ≡ suc (n - (i + 1)) = omega arith in rw e (and-assoc good (isThere d) (areThere (n - (i + 1)) (nextOf d)))
 
--- a datagram is no longer than the bytes that it stands in
-pub datagram-inside : (d : List ℕ) → length (bytesOf d) ≤ length d
-datagram-inside d = rw (length-take, length-drop) (omega arith)
+-- each datagram has at most so many bytes
+abbrev pub Inside : ℕ → List Datagram → Type 0
+Inside limit [] = Unit
+Inside limit (d ∷ ds) = (length (d .bytes) ≤ limit) × Inside limit ds
+
+-- no datagram is longer than the bytes that it stands in
+pub datagrams-inside : (limit n : ℕ) (d : List ℕ) → length d ≤ limit → Inside limit (datagramsFrom n d)
+datagrams-inside limit zero d h = tt
+datagrams-inside limit (suc n) d h =
+    (rw (length-take, length-drop) (omega arith), datagrams-inside limit n (nextOf d) (rw length-drop (omega arith)))
 
 pub and-both : (a b : Bool) → (a && b) ≡ true → (a ≡ true) × (b ≡ true)
 and-both true true h = (refl, refl)
@@ -85,3 +93,16 @@ unfolding isRecording
 few-datagrams r h =
     let b = and-both (leb 2 (length r)) (areThere (countOf r) (firstOf r)) h in
     omega (arith, few (countOf r) (firstOf r) (b .1), length-drop 2 r, leb-true 2 (length r) (b .0))
+
+-- what stands behind the settings is no longer than the input
+pub behind-settings-short : (s : List ℕ) → length (behindSettings s) ≤ length s
+unfolding prefixSection routerSection behindSettings
+behind-settings-short s = simp length-drop (omega arith)
+
+-- a well-formed input is short, and so are its section of datagrams and their number
+pub well-formed-short : (s : List ℕ) → isWellFormed s ≡ true → (length s ≤ inputLimit) × (2 + 3 * countOf (behindSettings s) ≤ inputLimit)
+unfolding isWellFormed
+well-formed-short s h =
+    let g = and-both (leb (length s) inputLimit && areSectionsWhole s) (isRecording (behindSettings s)) h in
+    let l = leb-true (length s) inputLimit (and-both (leb (length s) inputLimit) (areSectionsWhole s) (g .0) .0) in
+    (l, omega (arith, few-datagrams (behindSettings s) (g .1), behind-settings-short s))
