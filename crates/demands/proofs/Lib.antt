@@ -1,3 +1,4 @@
 pub mod Follows
 pub mod Events
 pub mod Three
+pub mod Starred

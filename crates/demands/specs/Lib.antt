@@ -2,3 +2,4 @@ pub mod Calls
 pub mod Plain
 pub mod Sender
 pub mod Three
+pub mod Starred

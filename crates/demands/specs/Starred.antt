@@ -1,0 +1,103 @@
+-- The starred values of document 01, "Checked values", in one statement: a node of the program's example, L 1,500, with one
+-- neighbour 10.0.0.2.
+use Prim.Native.Nat.{ℕ, _+_, _-_, _/_, _%_}
+use mathlib.Core.Path.{_≡_}
+use mathlib.Core.Bool.{false}
+use mathlib.Core.List.{List, [], _∷_, _++_}
+use lib.ListN.{getD, replicate, length}
+use Rattle.checksum.specs.Sum.{onesSum, onesComplement}
+use Rattle.address.specs.Address.{linkLocalOf}
+use Rattle.refusals.specs.Given.{Given, answered, refused}
+use Rattle.refusals.specs.declared.Refusal.the-variants.{SizeUnusable, SizeNotBelow, OuterSourceWrong}
+use Rattle.header.specs.Wrap.{be16, be32, outerBytes}
+use Rattle.settings.specs.Locators.{noLocator}
+use Rattle.settings.specs.Settings.{defaultsFor}
+use Rattle.settings.specs.declared.Settings.{Settings}
+use Rattle.node.specs.Node.{nodeOf, sizeOf}
+use Rattle.node.specs.declared.Node.{Node}
+use Rattle.demands.specs.Calls.{NodeCall, receiving, sending, reporting, asking, givenTo, outputOf, nodeNext, nodeAfter}
+
+-- 10.0.0.1, our locator; 10.0.0.2, the neighbour
+abbrev us : ℕ
+us = 167772161
+
+abbrev neighbour : ℕ
+neighbour = 167772162
+
+abbrev settings : Settings
+settings =
+    defaultsFor (record { address = us; interface = 0 } ∷ replicate 7 noLocator) 1 (replicate 64 0) 0 (replicate 16 0) 0
+
+-- an ICMPv4 report of a size, that quotes a datagram of ours of a total length to the neighbour
+abbrev reportWith : ℕ → ℕ → ℕ → List ℕ
+reportWith sum size total =
+    3 ∷ 4 ∷ be16 sum (be16 0 (be16 size (69 ∷ 0 ∷ be16 total (0 ∷ 1 ∷ 0 ∷ 0 ∷ 64 ∷ 41 ∷ be16 0 (be32 us (be32 neighbour []))))))
+
+abbrev report : ℕ → ℕ → NodeCall
+report size total = reporting (reportWith (onesComplement (onesSum (reportWith 0 size total))) size total) 0
+
+-- a packet of n bytes to the neighbour, into an output of 2,000 bytes
+abbrev packet : ℕ → List ℕ
+packet n = 96 ∷ 0 ∷ 0 ∷ 0 ∷ be16 (n - 40) (59 ∷ 64 ∷ linkLocalOf us ++ (linkLocalOf neighbour ++ replicate (n - 40) 0))
+
+abbrev send : ℕ → NodeCall
+send n = sending (packet n) (linkLocalOf neighbour) 0 0 (replicate 2000 0)
+
+-- a datagram of 60 bytes from the neighbour, whose inner source's identifier begins with a byte b
+abbrev inner : ℕ → List ℕ
+inner b = 96 ∷ 0 ∷ 0 ∷ 0 ∷ 0 ∷ 0 ∷ 59 ∷ 64 ∷ 254 ∷ 128 ∷ 0 ∷ 0 ∷ 0 ∷ 0 ∷ 0 ∷ 0 ∷ b ∷ 0 ∷ 94 ∷ 254 ∷ be32 neighbour (linkLocalOf us)
+
+abbrev datagram : ℕ → List ℕ
+datagram b = 0x45 ∷ 0x00 ∷ 0x00 ∷ 0x3C ∷ 0x00 ∷ 0x01 ∷ 0x00 ∷ 0x00 ∷ 0x40 ∷ 0x29 ∷ 0x66 ∷ 0x96 ∷ be32 neighbour (be32 us (inner b))
+
+-- what the last of some calls gets on a fresh node
+abbrev pub givenLast : Node → List NodeCall → NodeCall → Given
+givenLast n calls x = givenTo (nodeAfter n calls) x
+
+-- the byte of the flags that it writes
+abbrev pub flagsLast : Node → List NodeCall → NodeCall → ℕ
+flagsLast n calls x = getD (outputOf (nodeAfter n calls) x) 6 0
+
+abbrev node : Node
+node = nodeOf settings
+
+-- 14, with the size it names; the message is of 1,280 bytes
+abbrev tooBig : ℕ → Given
+tooBig size = record { number = 14; values = size ∷ 1280 ∷ [] }
+
+abbrev accepted : ℕ → Given
+accepted size = answered (neighbour ∷ size ∷ [])
+
+pub record Starred : Type 0 where
+  -- P 1,300: n 1,280 wrapped, flag clear; 1,281 gives M 1,280
+  pub path1300 : (givenLast node (report 1300 1500 ∷ []) (send 1280) ≡ answered (1300 ∷ []))
+      × (flagsLast node (report 1300 1500 ∷ []) (send 1280) ≡ 0)
+      × (givenLast node (report 1300 1500 ∷ []) (send 1281) ≡ tooBig 1280)
+  -- P 1,301: 1,281 wrapped, flag set; 1,282 gives 1,281
+  pub path1301 : (givenLast node (report 1301 1500 ∷ []) (send 1281) ≡ answered (1301 ∷ []))
+      × (flagsLast node (report 1301 1500 ∷ []) (send 1281) ≡ 64)
+      × (givenLast node (report 1301 1500 ∷ []) (send 1282) ≡ tooBig 1281)
+  -- P 1,500: 1,480 passes; 1,481 gives 1,480
+  pub path1500 : (givenLast node [] (send 1480) ≡ answered (1500 ∷ [])) × (givenLast node [] (send 1481) ≡ tooBig 1480)
+  -- P 600: 1,280 passes, flag clear
+  pub path600 : (givenLast node (report 600 1500 ∷ []) (send 1280) ≡ answered (1300 ∷ []))
+      × (flagsLast node (report 600 1500 ∷ []) (send 1280) ≡ 0)
+  -- candidate 0: quoted 1,500 gives 1,492; 1,492 gives 1,006; 69 gives 68; 68 is 18
+  pub plateaus : (givenLast node [] (report 0 1500) ≡ accepted 1492)
+      × (givenLast node [] (report 0 1492) ≡ accepted 1006)
+      × (givenLast node [] (report 0 69) ≡ accepted 68)
+      × (givenLast node [] (report 0 68) ≡ refused SizeUnusable)
+  -- size 68 accepted, 67 is 18, 1,500 is 19
+  pub sizes : (givenLast node [] (report 68 1500) ≡ accepted 68)
+      × (givenLast node [] (report 67 1500) ≡ refused SizeUnusable)
+      × (givenLast node [] (report 1500 1500) ≡ refused SizeNotBelow)
+  -- accepted at 1,000: in force at 1,599, gone at 1,600
+  pub ages : (sizeOf (nodeAfter node (asking 0 1000 [] ∷ report 1300 1500 ∷ asking 0 1599 [] ∷ [])) neighbour ≡ 1300)
+      × (sizeOf (nodeAfter node (asking 0 1000 [] ∷ report 1300 1500 ∷ asking 0 1600 [] ∷ [])) neighbour ≡ 1500)
+  -- the header of the program's example gets checksum 6696
+  pub checksum : outerBytes 60 (record { identification = 1; «dont_fragment» = false; ttl = 64; protocol = 41; source = neighbour; destination = us })
+      ≡ 0x45 ∷ 0x00 ∷ 0x00 ∷ 0x3C ∷ 0x00 ∷ 0x01 ∷ 0x00 ∷ 0x00 ∷ 0x40 ∷ 0x29 ∷ 0x66 ∷ 0x96 ∷ be32 neighbour (be32 us [])
+  -- first identifier byte 02 admitted, 01 and 03 not
+  pub identifiers : (givenLast node [] (receiving (datagram 2) 0) ≡ answered (20 ∷ 40 ∷ []))
+      × (givenLast node [] (receiving (datagram 1) 0) ≡ refused OuterSourceWrong)
+      × (givenLast node [] (receiving (datagram 3) 0) ≡ refused OuterSourceWrong)
