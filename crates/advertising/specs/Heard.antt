@@ -16,6 +16,7 @@ use Rattle.header.specs.Fields.{wordAt}
 use Rattle.header.specs.Inner.{innerOf, isInnerMalformed}
 use Rattle.header.specs.declared.inner.Inner.{Inner}
 use Rattle.lifetimes.specs.Lifetimes.{optionsReadOf, dueAfter}
+use Rattle.lifetimes.specs.declared.Smallest.{Smallest}
 use Rattle.routers.specs.Routers.{live, listed, rescheduledOf}
 use Rattle.routers.specs.declared.RouterList.{RouterList}
 use Rattle.settings.specs.Settings.{embeddedTo}
@@ -37,10 +38,13 @@ optionsStart = 16
 unfoldable pub isValidAdvertisement : Inner → List ℕ → Bool
 isValidAdvertisement i p = isValidMessage advertisement optionsStart i p && isLinkLocal (i .source)
 
--- "Due becomes now + the larger of the interval and half the smallest lifetime": the router's, its bytes 6 and 7, or an option's
+-- the smallest lifetime: the router's, which stands in the message's bytes 6 and 7 (RFC 4861, 4.2), or an option's
+abbrev pub smallestFrom : List ℕ → Smallest
+smallestFrom p = optionsReadOf (wordAt (messageOf p) 6) (drop optionsStart (messageOf p)) .smallest
+
+-- "Due becomes now + the larger of the interval and half the smallest lifetime"
 unfoldable pub dueFrom : ℕ → ℕ → List ℕ → ℕ
-dueFrom now interval p =
-    dueAfter now interval (optionsReadOf (wordAt (messageOf p) 6) (drop optionsStart (messageOf p)) .smallest)
+dueFrom now interval p = dueAfter now interval (smallestFrom p)
 
 -- after a refusal the router list is as before
 abbrev pub refusedBy : Refusal → RouterList → Heard
@@ -52,6 +56,7 @@ heardOfRouter (Ipv4 a) routers due =
     cond (listed a (live routers)) (record { answer = Router a; routers = rescheduledOf a due routers }) (refusedBy AdvertiserNotListed routers)
 heardOfRouter Nothing routers due = refusedBy AdvertiserNotListed routers
 
+-- the same of the source of a valid advertisement, in the packet p
 unfoldable pub heardFrom : Settings → RouterList → ℕ → List ℕ → List ℕ → Heard
 heardFrom s routers now source p = heardOfRouter (embeddedTo s source) routers (dueFrom now (s .interval) p)
 

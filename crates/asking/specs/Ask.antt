@@ -43,10 +43,11 @@ abbrev pub plannedOutput : Plan → List ℕ → List ℕ
 plannedOutput (Ask from router) out = written (solicitationOf (linkLocalOf from) (linkLocalOf router)) out
 plannedOutput (Refuse refusal) out = out
 
--- its due time becomes now + interval
+-- the answer of an asking and the router list after it: the due time of the router asked becomes now + interval
 unfoldable pub askedOf : Settings → RouterList → ℕ → ℕ → ℕ → Asked
 askedOf s routers now locator room = carriedOut (askPlan s routers now locator room) (now + s .interval) routers
 
+-- what an asking leaves in the output: after a refusal it is untouched
 unfoldable pub askedOutput : Settings → RouterList → ℕ → ℕ → List ℕ → List ℕ
 askedOutput s routers now locator out = plannedOutput (askPlan s routers now locator (length out)) out
 

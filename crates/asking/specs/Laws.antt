@@ -7,12 +7,10 @@ use native.Mathlib.Omega.{arith}
 use borrow.Author.Tests.{ltb-false, le-ltb}
 use lib.ListN.{length}
 use lib.Dec.{ltb}
-use Rattle.address.specs.Address.{linkLocalOf}
-use Rattle.lent.specs.Written.{written}
 use Rattle.refusals.specs.declared.Refusal.{Refusal}
-use Rattle.refusals.specs.declared.Refusal.the-variants.{OutputShort}
-use Rattle.messages.specs.Icmp.{solicitationLength, solicitationOf}
-use Rattle.routers.specs.Routers.{live, nextOf, rescheduledOf}
+use Rattle.refusals.specs.declared.Refusal.the-variants.{OutputShort, NoRouterDue}
+use Rattle.messages.specs.Icmp.{solicitationLength}
+use Rattle.routers.specs.Routers.{live, nextOf}
 use Rattle.routers.specs.declared.RouterList.{RouterList}
 use Rattle.routers.specs.declared.Next.{Next}
 use Rattle.routers.specs.declared.Next.the-variants.{Due, NoneDue}
@@ -21,6 +19,7 @@ use Rattle.settings.specs.declared.Settings.{Settings}
 use Rattle.settings.specs.declared.locators.Found.{Found}
 use Rattle.settings.specs.declared.locators.Found.the-variants.{Address, Nothing}
 use Rattle.asking.specs.Ask.{planFor, askPlan, carriedOut, plannedOutput, askedOf, askedOutput}
+use Rattle.asking.specs.Answered.{Answered}
 use Rattle.asking.specs.declared.AskAnswer.the-variants.{Router, Refused}
 use Rattle.asking.specs.declared.Plan.{Plan}
 use Rattle.asking.specs.declared.Plan.the-variants.{Ask, Refuse}
@@ -47,6 +46,17 @@ unfolding askPlan
 room-planned s routers now number room {p} {from} {router} e h =
     planned (locatorFound (s .locators) (s .«locator_count») number) (nextOf now (live routers)) room from router (sym e ∙ h) .2
 
+-- 22 is given only if no router is due
+none-planned : (found : Found) (next : Next) (room : ℕ) → planFor found next room ≡ Refuse NoRouterDue → next ≡ NoneDue
+unfolding planFor
+none-planned Nothing next room h = cc
+none-planned (Address f) NoneDue room h = refl
+none-planned (Address f) (Due a) room h = never (ltb room solicitationLength) h
+  where
+    never : (short : Bool) → cond short (Refuse OutputShort) (Ask f a) ≡ Refuse NoRouterDue → Due a ≡ NoneDue
+    never true h = cc
+    never false h = cc
+
 record AskedFrom (p : Plan) (router : ℕ) : Type 0 where
   pub from : ℕ
   pub is : p ≡ Ask from router
@@ -55,30 +65,31 @@ asked-from : (p : Plan) (due : ℕ) (routers : RouterList) (router : ℕ) → ca
 asked-from (Ask f a) due routers router h = record { from = f; is = cc }
 asked-from (Refuse r) due routers router h = record { from = 0; is = cc }
 
+asked-refused : (p : Plan) (due : ℕ) (routers : RouterList) (r : Refusal) → carriedOut p due routers .answer ≡ Refused r → p ≡ Refuse r
+asked-refused (Ask f a) due routers r h = cc
+asked-refused (Refuse x) due routers r h = cc
+
 refused-plan : (p : Plan) (due : ℕ) (routers : RouterList) (out : List ℕ) (r : Refusal) → carriedOut p due routers .answer ≡ Refused r
     → (carriedOut p due routers .routers ≡ routers) × (plannedOutput p out ≡ out)
 refused-plan (Ask f a) due routers out r h = (cc, cc)
 refused-plan (Refuse x) due routers out r h = (refl, refl)
 
 module _ (s : Settings) (routers : RouterList) (now number : ℕ) (out : List ℕ) where
-  -- what holds of an asking that names the router
-  pub record Answered (router : ℕ) : Type 0 where
-    -- the address of the numbered locator
-    pub from : ℕ
-    pub locator : locatorFound (s .locators) (s .«locator_count») number ≡ Address from
-    pub next : nextOf now (live routers) ≡ Due router
-    pub room : solicitationLength ≤ length out
-    pub rescheduled : askedOf s routers now number (length out) .routers ≡ rescheduledOf router (now + s .interval) routers
-    pub output : askedOutput s routers now number out ≡ written (solicitationOf (linkLocalOf from) (linkLocalOf router)) out
-
   -- after a refusal the router list and the output are as before
   pub refused-unchanged : (r : Refusal) → askedOf s routers now number (length out) .answer ≡ Refused r
       → (askedOf s routers now number (length out) .routers ≡ routers) × (askedOutput s routers now number out ≡ out)
   unfolding askedOf askedOutput
   refused-unchanged r h = refused-plan (askPlan s routers now number (length out)) (now + s .interval) routers out r h
 
+  -- after 22 no router is due
+  pub refused-none-due : askedOf s routers now number (length out) .answer ≡ Refused NoRouterDue → nextOf now (live routers) ≡ NoneDue
+  unfolding askedOf askPlan
+  refused-none-due h =
+      none-planned (locatorFound (s .locators) (s .«locator_count») number) (nextOf now (live routers)) (length out)
+      (asked-refused (askPlan s routers now number (length out)) (now + s .interval) routers NoRouterDue h)
+
   -- an asking names a router only if it is the next one, the locator is there and a solicitation fits
-  pub answered-only-if : (router : ℕ) → askedOf s routers now number (length out) .answer ≡ Router router → Answered router
+  pub answered-only-if : (router : ℕ) → askedOf s routers now number (length out) .answer ≡ Router router → Answered s routers now number out router
   unfolding askedOf askedOutput askPlan
   answered-only-if router h =
       let found = locatorFound (s .locators) (s .«locator_count») number in

@@ -2,3 +2,4 @@ pub mod Icmp
 pub mod Sealed
 pub mod WriterLaws
 pub mod Right
+pub mod Examples

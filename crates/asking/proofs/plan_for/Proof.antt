@@ -1,6 +1,8 @@
 -- `asking::plan_for` meets its contract: by cases on the locator, the router and the room. Assumes nothing.
 use borrow.Author.Needs.{needs}
+use native.Mathlib.Omega.{arith}
 use borrow.Author.Tests.{lt-ltb, le-ltb}
+use Rattle.messages.specs.Icmp.{solicitationLength}
 use Rattle.asking.specs.Ask.{planFor}
 use Rattle.asking.proofs.plan_for.Statement.{statement}
 use Rattle.asking.proofs.plan_for.Tie as tie
@@ -15,11 +17,15 @@ returns-2 c = rw (c .before .before .before .found .given .1, c .enum-told2 .giv
 
 returns-3 : tie.Need-returns-3
 unfolding planFor
-returns-3 c = rw (c .before .before .before .before .before .found .given .1, c .before .before .next .given .1, lt-ltb _ _ (c .if1 .taken))
+returns-3 c =
+    let short = lt-ltb (c .before .before .before .before .before .before .before .args .room) solicitationLength (omega arith) in
+    rw (c .before .before .before .before .before .found .given .1, c .before .before .next .given .1, short)
 
 returns-4 : tie.Need-returns-4
 unfolding planFor
-returns-4 c = rw (c .before .before .before .before .before .found .given .1, c .before .before .next .given .1, le-ltb _ _ (c .if1 .left))
+returns-4 c =
+    let fits = le-ltb (c .before .before .before .before .before .before .before .args .room) solicitationLength (omega arith) in
+    rw (c .before .before .before .before .before .found .given .1, c .before .before .next .given .1, fits)
 
 pub plan-for-spec : {M : Type 1} → statement M
 plan-for-spec =
