@@ -2,3 +2,4 @@ pub mod Follows
 pub mod Events
 pub mod Three
 pub mod Starred
+pub mod One

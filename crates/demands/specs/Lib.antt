@@ -3,3 +3,4 @@ pub mod Plain
 pub mod Sender
 pub mod Three
 pub mod Starred
+pub mod One
