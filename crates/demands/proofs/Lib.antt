@@ -3,3 +3,4 @@ pub mod Events
 pub mod Three
 pub mod Starred
 pub mod One
+pub mod Two

@@ -1,6 +1,7 @@
 pub mod Calls
+pub mod One
+pub mod Two
 pub mod Plain
 pub mod Sender
 pub mod Three
 pub mod Starred
-pub mod One
