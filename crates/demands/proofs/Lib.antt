@@ -4,3 +4,4 @@ pub mod Three
 pub mod Starred
 pub mod One
 pub mod Two
+pub mod Fair

@@ -10,35 +10,34 @@ use Rattle.refusals.specs.Given.{Given, answered, refused}
 use Rattle.refusals.specs.declared.Refusal.{Refusal}
 use Rattle.refusals.specs.declared.Refusal.the-variants as refusal
 use Rattle.settings.specs.Settings.{areRoutersRight}
-use Rattle.receiving.specs.Receive.{receivedGiven}
 use Rattle.receiving.specs.declared.Received.{Received}
 use Rattle.receiving.specs.declared.Received.the-variants as received
 use Rattle.routers.specs.declared.RouterList.{RouterList}
-use Rattle.sending.specs.Sending.{sentOf, sentOutput, sendGiven}
+use Rattle.sending.specs.Sending.{sendGiven}
 use Rattle.sending.specs.Leaves.{messageOf, refused-leaves, too-big-leaves}
 use Rattle.sending.specs.declared.SendAnswer.{SendAnswer}
 use Rattle.sending.specs.declared.SendAnswer.the-variants as sent
 use Rattle.reports.specs.Report.{reportGiven}
 use Rattle.reports.specs.declared.ReportAnswer.{ReportAnswer}
 use Rattle.reports.specs.declared.ReportAnswer.the-variants as reported
-use Rattle.asking.specs.Ask.{askedOf, askedOutput, askGiven}
+use Rattle.asking.specs.Ask.{askGiven}
 use Rattle.asking.specs.Laws as asking
 use Rattle.asking.specs.declared.AskAnswer.{AskAnswer}
 use Rattle.asking.specs.declared.AskAnswer.the-variants as asked
-use Rattle.advertising.specs.Heard.{heardOf, heardGiven}
+use Rattle.advertising.specs.Heard.{heardGiven}
 use Rattle.advertising.specs.Laws as advertising
 use Rattle.advertising.specs.declared.HeardAnswer.{HeardAnswer}
 use Rattle.advertising.specs.declared.HeardAnswer.the-variants as heard
 use Rattle.node.specs.Node.{raisedTo}
-use Rattle.node.specs.Receive.{receiveOf, partIn}
+use Rattle.node.specs.Receive.{receiveOf}
 use Rattle.node.specs.Send.{sizeToward, sentBy, sendOf, sendOutput}
-use Rattle.node.specs.Report.{pathsAfter, reportAnswerOf, reportOf}
-use Rattle.node.specs.RouterList.{listGiven, withRouters, relisted, replaceOf}
+use Rattle.node.specs.Report.{reportAnswerOf, reportOf}
+use Rattle.node.specs.RouterList.{listGiven, relisted, replaceOf}
 use Rattle.node.specs.Ask.{askedBy, askOf, askOutput}
 use Rattle.node.specs.Hear.{heardBy, hearOf}
 use Rattle.node.specs.declared.Node.{Node}
 use Rattle.node.specs.declared.router_list.Replaced.{Replaced}
-use Rattle.demands.specs.Calls.{NodeCall, receiving, receivingPart, sending, reporting, relisting, asking, hearing}
+use Rattle.demands.specs.Calls.{receiving, receivingPart, sending, reporting, relisting, asking, hearing}
 use Rattle.demands.specs.One.{Message, Refusing, DemandOne}
 
 raised-zero : (n : Node) → n ≡ raisedTo n 0
@@ -104,7 +103,7 @@ reporting-refusing n m time (reported.Accepted v c) e =
 reporting-refusing n m time (reported.Refused r) e =
     record { state = λ h. rw e; output = λ h g. refl; tooBig = λ size len h. plain-message [] [] size len r (rw e at h) }
 
-unchosen : (b : Bool) (x y : Replaced) → b ≡ false → cond b x y .node ≡ y .node
+pub unchosen : (b : Bool) (x y : Replaced) → b ≡ false → cond b x y .node ≡ y .node
 unchosen true x y e = cc
 unchosen false x y e = refl
 

@@ -1,7 +1,6 @@
 -- Demand 2 holds of every node: each call's own law, at what is in force. Assumes nothing.
 use Prim.Native.Nat.{max}
 use mathlib.Core.Path.{refl}
-use lib.ListN.{length}
 use Rattle.routers.specs.Routers.{live}
 use Rattle.reports.specs.AcceptsLaws.{accepted-exactly}
 use Rattle.sending.specs.WrapsLaws.{wrapped-exactly}
@@ -9,14 +8,12 @@ use Rattle.receiving.specs.Admitted as receiving
 use Rattle.receiving.proofs.Delivered as receiving-laws
 use Rattle.asking.specs.Laws as asking
 use Rattle.advertising.specs.Laws as advertising
-use Rattle.node.specs.Node.{sizeAt}
 use Rattle.node.specs.Receive.{receiveOf, partIn}
 use Rattle.node.specs.Send.{sizeToward}
 use Rattle.node.specs.Report.{reportAnswerOf}
 use Rattle.node.specs.Ask.{askedBy, askOf}
 use Rattle.node.specs.Hear.{heardBy, hearOf}
-use Rattle.node.specs.declared.Node.{Node}
-use Rattle.demands.specs.Two.{Exactly, DemandTwo}
+use Rattle.demands.specs.Two.{DemandTwo}
 
 pub demand-two : DemandTwo
 unfolding DemandTwo receiving.DemandTwo receiveOf partIn reportAnswerOf askOf askedBy hearOf heardBy

@@ -4,4 +4,5 @@ pub mod Two
 pub mod Plain
 pub mod Sender
 pub mod Three
+pub mod Fair
 pub mod Starred

@@ -1,10 +1,10 @@
 -- The starred values of document 01, "Checked values", in one statement: a node of the program's example, L 1,500, with one
 -- neighbour 10.0.0.2.
-use Prim.Native.Nat.{ℕ, _+_, _-_, _/_, _%_}
+use Prim.Native.Nat.{ℕ, _-_}
 use mathlib.Core.Path.{_≡_}
 use mathlib.Core.Bool.{false}
 use mathlib.Core.List.{List, [], _∷_, _++_}
-use lib.ListN.{getD, replicate, length}
+use lib.ListN.{getD, replicate}
 use Rattle.checksum.specs.Sum.{onesSum, onesComplement}
 use Rattle.address.specs.Address.{linkLocalOf}
 use Rattle.refusals.specs.Given.{Given, answered, refused}
@@ -15,7 +15,7 @@ use Rattle.settings.specs.Settings.{defaultsFor}
 use Rattle.settings.specs.declared.Settings.{Settings}
 use Rattle.node.specs.Node.{nodeOf, sizeOf}
 use Rattle.node.specs.declared.Node.{Node}
-use Rattle.demands.specs.Calls.{NodeCall, receiving, sending, reporting, asking, givenTo, outputOf, nodeNext, nodeAfter}
+use Rattle.demands.specs.Calls.{NodeCall, receiving, sending, reporting, asking, givenTo, outputOf, nodeAfter}
 
 -- 10.0.0.1, our locator; 10.0.0.2, the neighbour
 abbrev us : ℕ
