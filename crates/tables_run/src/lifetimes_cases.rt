@@ -9,7 +9,7 @@ fn whole(case: &[u8], options: &[u8]) {
     write::answer(case, lifetimes::options_whole(options));
 }
 
-pub fn all_whole() {
+pub(crate) fn all_whole() {
     whole(b"no option at all is whole", b"");
     whole(b"one option to the exact end is whole", b"\x01\x01......");
     whole(
@@ -38,7 +38,7 @@ fn smallest(case: &[u8], router: u16, options: &[u8]) {
 }
 
 // A prefix option is valid for 3,600 s and preferred for 7 s, and a route lasts 9 s.
-pub fn kinds() {
+pub(crate) fn kinds() {
     smallest(
         b"prefix option for 3,600 s, router 0",
         0,
@@ -81,7 +81,7 @@ pub fn kinds() {
     );
 }
 
-pub fn counted() {
+pub(crate) fn counted() {
     smallest(
         b"routes for 256 s and 200 s, router 1,800",
         1800,
@@ -110,7 +110,7 @@ fn due(case: &[u8], now: u32, smallest: Smallest) {
     write::second(case, lifetimes::due_after(now, 120, smallest));
 }
 
-pub fn due_times() {
+pub(crate) fn due_times() {
     due(
         b"at 1,000 half of 1,801 s, rounded down",
         1000,
@@ -135,7 +135,7 @@ pub fn due_times() {
 }
 
 // An advertisement makes a due time earlier.
-pub fn earlier() {
+pub(crate) fn earlier() {
     let list = RouterList::new([ROUTER; 16], 1).rescheduled(ROUTER, 4000);
     write::next(b"due at 4,000, asking at 1,150", list.next(1150));
     let read = lifetimes::options_read(300, b"");

@@ -40,7 +40,7 @@ fn of_three(case: &[u8], now: u32) {
     write::next(case, three().next(now));
 }
 
-pub fn next_due() {
+pub(crate) fn next_due() {
     of_three(b"two due at 40, the lower place first", 60);
     of_three(b"a due time equal to now", 40);
     of_three(b"all due times in the future", 39);
@@ -59,7 +59,7 @@ fn asked(case: &[u8], list: RouterList, now: u32) -> RouterList {
     }
 }
 
-pub fn turns() {
+pub(crate) fn turns() {
     let first = asked(b"first asking at 100", three(), 100);
     let second = asked(b"second asking at 100", first, 100);
     let third = asked(b"third asking at 100", second, 100);
@@ -71,7 +71,7 @@ fn due_at(case: &[u8], due: u64) {
     write::next(case, fresh(1).rescheduled(ONE, due).next(LAST_SECOND));
 }
 
-pub fn last_second() {
+pub(crate) fn last_second() {
     due_at(b"due at the last 32-bit second", 4294967295);
     due_at(b"due past the last 32-bit second", 4294967296);
     let again = asked(b"asked at the last 32-bit second", fresh(1), LAST_SECOND);
@@ -86,7 +86,7 @@ fn replaced(case: &[u8], a: u32, b: u32, count: usize, now: u32) {
     );
 }
 
-pub fn all_replaced() {
+pub(crate) fn all_replaced() {
     replaced(
         b"a router in both lists keeps its due time",
         FOUR,
@@ -99,7 +99,7 @@ pub fn all_replaced() {
     replaced(b"replaced by an empty list", ONE, TWO, 0, 60);
 }
 
-pub fn emptied() {
+pub(crate) fn emptied() {
     let empty = three().replaced(addresses(ONE, TWO, THREE), 0, 45);
     let back = empty.replaced(addresses(ONE, TWO, THREE), 3, 55);
     write::next(
@@ -112,7 +112,7 @@ fn listed(case: &[u8], count: usize, address: u32) {
     write::answer(case, fresh(count).lists(address));
 }
 
-pub fn all_listed() {
+pub(crate) fn all_listed() {
     listed(b"10.0.0.3 is listed", 3, THREE);
     listed(b"10.0.0.4 is listed", 3, FOUR);
     listed(b"an address behind the count is listed", 2, THREE);
@@ -123,7 +123,7 @@ fn distinct(case: &[u8], a: u32, b: u32, c: u32, count: usize) {
     write::answer(case, routers::distinct(addresses(a, b, c), count));
 }
 
-pub fn all_distinct() {
+pub(crate) fn all_distinct() {
     distinct(b"three routers are distinct", ONE, TWO, THREE, 3);
     distinct(
         b"the first and the last the same are distinct",

@@ -16,7 +16,7 @@ fn address(a: u32) {
     io::print_decimal(OUT, (a % 256) as u64);
 }
 
-pub fn next(case: &[u8], next: Next) {
+pub(crate) fn next(case: &[u8], next: Next) {
     io::write_all(OUT, case);
     match next {
         Next::Due(a) => {
@@ -30,7 +30,7 @@ pub fn next(case: &[u8], next: Next) {
     io::write_all(OUT, b"\n");
 }
 
-pub fn answer(case: &[u8], yes: bool) {
+pub(crate) fn answer(case: &[u8], yes: bool) {
     io::write_all(OUT, case);
     if yes {
         io::write_all(OUT, b": yes\n");
@@ -39,14 +39,14 @@ pub fn answer(case: &[u8], yes: bool) {
     }
 }
 
-pub fn second(case: &[u8], due: u64) {
+pub(crate) fn second(case: &[u8], due: u64) {
     io::write_all(OUT, case);
     io::write_all(OUT, b": due at ");
     io::print_decimal(OUT, due);
     io::write_all(OUT, b"\n");
 }
 
-pub fn smallest(case: &[u8], read: Options) {
+pub(crate) fn smallest(case: &[u8], read: Options) {
     io::write_all(OUT, case);
     let found = read.smallest;
     match found {

@@ -2,7 +2,7 @@
 use crate::print;
 use address::Embedded;
 
-pub fn run() {
+pub(crate) fn run() {
     forbidden();
     identifiers();
     prefixes();

@@ -10,7 +10,7 @@ use lent::place;
 ghost use mathlib.Core.Path.{_≡_};
 ghost use lib.ListN.{length};
 
-pub fn run() {
+pub(crate) fn run() {
     let d = example();
     let h = fields();
     print::bytes(b"header of document 01", &wrap::outer_bytes(60, h));
@@ -22,7 +22,7 @@ pub fn run() {
 }
 
 // The fields of document 01's header.
-pub fn fields() -> OuterFields {
+pub(crate) fn fields() -> OuterFields {
     OuterFields {
         identification: 1,
         dont_fragment: false,
@@ -34,7 +34,7 @@ pub fn fields() -> OuterFields {
 }
 
 // Document 01's first datagram.
-pub fn example() -> [u8; 60]
+pub(crate) fn example() -> [u8; 60]
     ensures { λ r. ⌜ 60 ≡ length r ⌝ }
 {
     let mut d = [0; 60];
@@ -80,13 +80,13 @@ fn header(o: Outer) {
 }
 
 // The first n bytes, or all where there are fewer.
-pub fn front(d: &[u8], n: usize) -> &[u8] {
+pub(crate) fn front(d: &[u8], n: usize) -> &[u8] {
     let end = fields::least(n, d.len());
     &d[..end]
 }
 
 // The checksum of a header of k bytes put right.
-pub fn mend(k: usize, d: &mut [u8]) {
+pub(crate) fn mend(k: usize, d: &mut [u8]) {
     place(b"\x00\x00", d, 10);
     let sum = checksum::complement(checksum::sum(front(d, k)));
     place(&[fields::high(sum), fields::low(sum)], d, 10);

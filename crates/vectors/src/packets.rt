@@ -11,7 +11,7 @@ use refusals::Refusal;
 ghost use mathlib.Core.Path.{_≡_};
 ghost use lib.ListN.{length};
 
-pub fn run() {
+pub(crate) fn run() {
     received();
     behind_options();
     sent();

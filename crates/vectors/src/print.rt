@@ -1,39 +1,39 @@
 // Lines of text: a name, then a value.
 use refusals::Refusal;
 
-pub fn text(s: &[u8]) {
+pub(crate) fn text(s: &[u8]) {
     io::write_all(1, s);
 }
 
-pub fn number(name: &[u8], n: u64) {
+pub(crate) fn number(name: &[u8], n: u64) {
     text(name);
     text(b": ");
     io::print_decimal(1, n);
     text(b"\n");
 }
 
-pub fn word(name: &[u8], n: u16) {
+pub(crate) fn word(name: &[u8], n: u16) {
     text(name);
     text(b": ");
     io::print_hex(1, n as u64, 4);
     text(b"\n");
 }
 
-pub fn quad(name: &[u8], n: u32) {
+pub(crate) fn quad(name: &[u8], n: u32) {
     text(name);
     text(b": ");
     io::print_hex(1, n as u64, 8);
     text(b"\n");
 }
 
-pub fn bytes(name: &[u8], s: &[u8]) {
+pub(crate) fn bytes(name: &[u8], s: &[u8]) {
     text(name);
     text(b": ");
     digits(s);
     text(b"\n");
 }
 
-pub fn truth(name: &[u8], yes: bool) {
+pub(crate) fn truth(name: &[u8], yes: bool) {
     text(name);
     if yes {
         text(b": yes\n");
@@ -42,7 +42,7 @@ pub fn truth(name: &[u8], yes: bool) {
     }
 }
 
-pub fn refusal(name: &[u8], r: Refusal) {
+pub(crate) fn refusal(name: &[u8], r: Refusal) {
     text(name);
     text(b": refused ");
     io::print_decimal(1, r.number() as u64);

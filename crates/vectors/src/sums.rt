@@ -1,7 +1,7 @@
 // RFC 1071's worked example (section 3), and the edges of the sum.
 use crate::print;
 
-pub fn run() {
+pub(crate) fn run() {
     let example = b"\x00\x01\xf2\x03\xf4\xf5\xf6\xf7";
     let sum = checksum::sum(example);
     print::word(b"sum of RFC 1071, section 3", sum);

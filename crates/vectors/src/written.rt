@@ -7,7 +7,7 @@ use header::wrap;
 use header::wrap::Written;
 use lent::place;
 
-pub fn run() {
+pub(crate) fn run() {
     wrapped();
     limits();
     solicitations();
