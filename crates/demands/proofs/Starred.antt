@@ -2,39 +2,30 @@
 use mathlib.Core.Path.{refl}
 use Rattle.checksum.specs.Sum as checksum-sum
 use Rattle.address.specs.Address as address-address
-use Rattle.lent.specs.Written as lent-written
 use Rattle.header.specs.Fields as header-fields
 use Rattle.header.specs.Inner as header-inner
 use Rattle.header.specs.Outer as header-outer
 use Rattle.header.specs.Wrap as header-wrap
-use Rattle.messages.specs.Icmp as messages-icmp
-use Rattle.messages.specs.Sealed as messages-sealed
 use Rattle.paths.specs.Candidate as paths-candidate
 use Rattle.paths.specs.Kept as paths-kept
 use Rattle.paths.specs.Packets as paths-packets
-use Rattle.paths.specs.Record as paths-record
 use Rattle.paths.specs.Table as paths-table
-use Rattle.routers.specs.Fairness as routers-fairness
 use Rattle.routers.specs.Routers as routers-routers
 use Rattle.settings.specs.Locators as settings-locators
 use Rattle.settings.specs.Settings as settings-settings
 use Rattle.reports.specs.Report as reports-report
 use Rattle.sending.specs.Plan as sending-plan
 use Rattle.sending.specs.Sending as sending-sending
-use Rattle.receiving.specs.Admitted as receiving-admitted
 use Rattle.receiving.specs.Receive as receiving-receive
-use Rattle.asking.specs.Ask as asking-ask
 use Rattle.node.specs.Ask as node-ask
-use Rattle.node.specs.Hear as node-hear
 use Rattle.node.specs.Node as node-node
 use Rattle.node.specs.Receive as node-receive
 use Rattle.node.specs.Report as node-report
-use Rattle.node.specs.RouterList as node-routerlist
 use Rattle.node.specs.Send as node-send
 use Rattle.demands.specs.Starred.{Starred}
 
 pub starred : Starred
-unfolding checksum-sum.onesSumFrom checksum-sum.isRightFrom address-address.isForbidden address-address.lastQuad address-address.isUnder address-address.isOnLink address-address.isIdentifier address-address.embeddedIn address-address.linkLocalOf address-address.isMulticastOrUnspecified address-address.isBadSourceWith lent-written.placed header-fields.wordAt header-fields.quadAt header-fields.addressAt header-inner.innerOf header-inner.isInnerMalformed header-inner.isPacketMalformed header-inner.innerPacketOf header-inner.mayDrawError header-outer.outerOf header-outer.isOuterMalformed header-outer.isSumWrong header-outer.outerCheck header-outer.outerReadOf header-outer.payloadOf header-outer.isQuoteMalformed header-wrap.outerBytes header-wrap.wrapped header-wrap.wrapCheck header-wrap.wrapAnswer header-wrap.wrapOutput messages-icmp.icmpSum messages-icmp.icmpMessage messages-icmp.icmpPacket messages-icmp.tooBigOf messages-icmp.tooBigCheck messages-icmp.tooBigAnswer messages-icmp.tooBigOutput messages-icmp.solicitationOf messages-icmp.solicitationCheck messages-icmp.solicitationAnswer messages-icmp.solicitationOutput messages-sealed.sealed paths-candidate.plateauBelow paths-candidate.candidateOf paths-kept.whileYoung paths-kept.inForce paths-packets.largestPacket paths-packets.dontFragment paths-record.recordKept paths-table.keptIn paths-table.tableAfter routers-fairness.served routers-fairness.Unheard routers-routers.any routers-routers.earlier routers-routers.earliest routers-routers.nextOf routers-routers.dueOr routers-routers.dueIf routers-routers.areDistinct settings-locators.locatorFound settings-locators.rowsOf settings-settings.defaultsFor settings-settings.forbiddenTo settings-settings.isOurs settings-settings.isOurLocator settings-settings.isBadEnd settings-settings.embeddedTo settings-settings.areLocatorsRight settings-settings.areRoutersRight settings-settings.areNumbersRight settings-settings.isAccepted reports-report.isReportMalformed reports-report.isQuoteForeign reports-report.reportCheck reports-report.candidateFor reports-report.judgedOf reports-report.acceptedBelow sending-plan.sourceOf sending-plan.isNoLocator sending-plan.isNotIsatap sending-plan.sendCheck sending-plan.bigPlan sending-plan.wrapPlan sending-plan.sizedPlan sending-plan.planOf sending-sending.fieldsFor sending-sending.sentOf sending-sending.sentOutput receiving-admitted.DemandTwo receiving-receive.arrivalCheck receiving-receive.embeds receiving-receive.innerCheck receiving-receive.opened receiving-receive.arrived receiving-receive.receivedOf asking-ask.planFor asking-ask.askPlan asking-ask.askedOf asking-ask.askedOutput node-ask.askedBy node-ask.askOf node-ask.askOutput node-hear.heardBy node-hear.hearOf node-node.nodeOf node-node.setupOf node-node.raisedTo node-node.sizeAt node-node.sizeOf node-receive.receiveOf node-receive.partIn node-report.reportAnswerOf node-report.reportOf node-routerlist.replaceOf node-send.sentBy node-send.sendOf node-send.sendOutput
+unfolding checksum-sum.onesSumFrom checksum-sum.isRightFrom address-address.isForbidden address-address.lastQuad address-address.isUnder address-address.isOnLink address-address.isIdentifier address-address.embeddedIn address-address.linkLocalOf address-address.isMulticastOrUnspecified address-address.isBadSourceWith header-fields.wordAt header-fields.quadAt header-fields.addressAt header-inner.innerOf header-inner.isInnerMalformed header-inner.isPacketMalformed header-inner.mayDrawError header-outer.outerOf header-outer.isOuterMalformed header-outer.isSumWrong header-outer.outerCheck header-outer.payloadOf header-outer.isQuoteMalformed header-wrap.outerBytes header-wrap.wrapped header-wrap.wrapCheck header-wrap.wrapOutput paths-candidate.plateauBelow paths-candidate.candidateOf paths-kept.whileYoung paths-kept.inForce paths-packets.largestPacket paths-packets.dontFragment paths-table.keptIn paths-table.tableAfter routers-routers.any settings-locators.locatorFound settings-locators.rowsOf settings-settings.defaultsFor settings-settings.forbiddenTo settings-settings.isOurs settings-settings.isOurLocator settings-settings.isBadEnd settings-settings.embeddedTo reports-report.isReportMalformed reports-report.isQuoteForeign reports-report.reportCheck reports-report.candidateFor reports-report.judgedOf reports-report.acceptedBelow sending-plan.sourceOf sending-plan.isNoLocator sending-plan.isNotIsatap sending-plan.sendCheck sending-plan.bigPlan sending-plan.wrapPlan sending-plan.sizedPlan sending-plan.planOf sending-sending.fieldsFor sending-sending.sentOf sending-sending.sentOutput receiving-receive.arrivalCheck receiving-receive.embeds receiving-receive.innerCheck receiving-receive.opened receiving-receive.arrived receiving-receive.receivedOf node-ask.askOf node-node.nodeOf node-node.sizeAt node-node.sizeOf node-receive.receiveOf node-report.reportAnswerOf node-report.reportOf node-send.sentBy node-send.sendOf node-send.sendOutput
 starred = record {
   path1300 = (refl, refl, refl);
   path1301 = (refl, refl, refl);
