@@ -27,6 +27,7 @@ demand-two n =
       reports = λ m now v c. accepted-exactly s m _ v c;
       judged = λ m now. refl;
       asks = λ k time out router h. asking.answered-only-if s routers (max (n .latest) time) k out router h;
+      asked = λ k time out from router l next room. asking.answered-if s routers (max (n .latest) time) k out from router l next room;
       hears = λ packet time router h. advertising.accepted-only-if s routers (max (n .latest) time) packet router h;
       heard = λ packet time router a. advertising.accepted-if s routers (max (n .latest) time) packet router a;
     }

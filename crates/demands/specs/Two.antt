@@ -1,10 +1,14 @@
 -- Demand 2 at the node: each call does exactly what the rules say, with the settings, the router list and the path size that are
 -- in force. The rules stand as records of plain facts beside the definitions of each call.
-use Prim.Native.Nat.{ℕ, max}
+use Prim.Native.Nat.{ℕ, _≤_, max}
 use mathlib.Core.Path.{_≡_}
 use mathlib.Core.List.{List}
 use lib.ListN.{length}
-use Rattle.routers.specs.Routers.{live}
+use Rattle.messages.specs.Icmp.{solicitationLength}
+use Rattle.routers.specs.Routers.{live, nextOf}
+use Rattle.routers.specs.declared.Next.the-variants.{Due}
+use Rattle.settings.specs.Locators.{locatorFound}
+use Rattle.settings.specs.declared.locators.Found.the-variants.{Address}
 use Rattle.reports.specs.Accepts as reports
 use Rattle.reports.specs.Report.{judgedOf, answerAt}
 use Rattle.sending.specs.Wraps.{WrappedExactly}
@@ -33,9 +37,14 @@ pub record Exactly (n : Node) : Type 0 where
       → reports.AcceptedExactly (n .service .settings) m (sizeAt n (neighbourIn (judgedOf (n .service .settings) m)) now) v c
   pub judged : (m : List ℕ) (now : ℕ)
       → reportAnswerOf n m now ≡ answerAt (judgedOf (n .service .settings) m) (sizeAt n (neighbourIn (judgedOf (n .service .settings) m)) now)
-  -- an asking names a router only if the rules hold, and then the solicitation is written and the router is due after the interval
+  -- an asking names a router exactly if the rules hold, and then the solicitation is written and the router is due after the interval
   pub asks : (k time : ℕ) (out : List ℕ) (router : ℕ) → askOf n k time (length out) .answer ≡ ask.Router router
       → Answered (n .service .settings) (n .service .routers) (max (n .latest) time) k out router
+  pub asked : (k time : ℕ) (out : List ℕ) (from router : ℕ)
+      → locatorFound (n .service .settings .locators) (n .service .settings .«locator_count») k ≡ Address from
+      → nextOf (max (n .latest) time) (live (n .service .routers)) ≡ Due router
+      → solicitationLength ≤ length out
+      → askOf n k time (length out) .answer ≡ ask.Router router
   -- an advertisement is accepted exactly when it is valid and its source embeds a listed router
   pub hears : (packet : List ℕ) (time router : ℕ) → hearOf n packet time .answer ≡ hear.Router router
       → advertising.Accepts (n .service .settings) (n .service .routers) (max (n .latest) time) packet router

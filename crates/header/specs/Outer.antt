@@ -6,6 +6,7 @@ use lib.ListN.{getD, length, take, drop}
 use lib.Dec.{eqb, ltb}
 use Rattle.checksum.specs.Sum.{isRight}
 use Rattle.refusals.specs.Refusals.{firstOf}
+use Rattle.refusals.specs.Given.{Given, answered, refused}
 use Rattle.refusals.specs.declared.Refusal.{Refusal}
 use Rattle.refusals.specs.declared.Refusal.the-variants.{OuterMalformed, OuterChecksum, OtherProtocol, Piece}
 use Rattle.refusals.specs.declared.Check.{Check}
@@ -57,6 +58,11 @@ pieceRows o = (not (eqb (o .fragment) 0), Piece) ∷ []
 -- the first of 2 to 5 that a datagram of n bytes gets, which starts with d and has the fields o
 unfoldable pub outerCheck : ℕ → List ℕ → Outer → Check
 outerCheck n d o = firstOf (headerRows n d o ++ (protocolRows o ++ pieceRows o))
+
+-- document 01's number and values: the fields of a header that passes
+abbrev pub outerGiven : OuterRead → Given
+outerGiven (Header o) = answered (o .header ∷ o .total ∷ o .source ∷ o .destination ∷ o .protocol ∷ o .fragment ∷ [])
+outerGiven (Refused refusal) = refused refusal
 
 abbrev pub readWith : Check → Outer → OuterRead
 readWith Pass o = Header o

@@ -7,6 +7,7 @@ use lib.Dec.{ltb}
 use Rattle.checksum.specs.Sum.{onesSum, onesComplement}
 use Rattle.lent.specs.Written.{written}
 use Rattle.refusals.specs.Refusals.{firstOf}
+use Rattle.refusals.specs.Given.{Given, answered, refused}
 use Rattle.refusals.specs.declared.Refusal.the-variants.{WrappedTooLong, OutputShort}
 use Rattle.refusals.specs.declared.Check.{Check}
 use Rattle.refusals.specs.declared.Check.the-variants.{Pass, Stop}
@@ -47,6 +48,11 @@ wrapped h packet = outerBytes (20 + length packet) h ++ packet
 -- 23, then 15, for a packet of n bytes
 unfoldable pub wrapCheck : ℕ → ℕ → Check
 wrapCheck n room = firstOf ((ltb 65535 (20 + n), WrappedTooLong) ∷ ((ltb room (20 + n), OutputShort) ∷ []))
+
+-- document 01's number and values: the length written
+abbrev pub writtenGiven : Written → Given
+writtenGiven (Length n) = answered (n ∷ [])
+writtenGiven (Refused refusal) = refused refusal
 
 -- what a writer answers that would write n bytes
 abbrev pub writerAnswer : Check → ℕ → Written

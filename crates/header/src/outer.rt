@@ -3,7 +3,7 @@ use crate::fields;
 use refusals::Check;
 use refusals::Refusal;
 ghost use mathlib.Core.Path.{_≡_};
-ghost use Rattle.header.specs.Outer.{outerOf, isOuterMalformed, isSumWrong, outerCheck, outerReadOf, payloadOf, quoteOf, isQuoteMalformed};
+ghost use Rattle.header.specs.Outer.{outerOf, isOuterMalformed, isSumWrong, outerCheck, outerGiven, outerReadOf, payloadOf, quoteOf, isQuoteMalformed};
 
 // The fields of an IPv4 header, lengths in bytes.
 pub struct Outer {
@@ -20,6 +20,18 @@ pub struct Outer {
 pub enum OuterRead {
     Header(Outer),
     Refused(Refusal),
+}
+
+impl OuterRead {
+    // Document 01's number, 0 for a header that passes 2 to 5.
+    pub fn number(self) -> u8
+        ensures { λ r. ⌜ r ≡ outerGiven self .number ⌝ }
+    {
+        match self {
+            OuterRead::Header(_) => 0,
+            OuterRead::Refused(refusal) => refusal.number(),
+        }
+    }
 }
 
 pub fn outer_header(d: &[u8]) -> Outer

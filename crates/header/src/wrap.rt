@@ -6,7 +6,7 @@ ghost use mathlib.Core.Path.{_≡_};
 ghost use mathlib.Core.Bool.{cond};
 ghost use lib.ListN.{length};
 ghost use Rattle.checksum.specs.Sum.{onesSum};
-ghost use Rattle.header.specs.Wrap.{outerWith, outerBytes, wrapAnswer, wrapOutput};
+ghost use Rattle.header.specs.Wrap.{outerWith, outerBytes, writtenGiven, wrapAnswer, wrapOutput};
 
 // The fields of the outer header that the caller chooses, laid out as in C.
 #[repr(C)]
@@ -23,6 +23,18 @@ pub struct OuterFields {
 pub enum Written {
     Length(usize),
     Refused(Refusal),
+}
+
+impl Written {
+    // Document 01's number, 0 where something is written.
+    pub fn number(self) -> u8
+        ensures { λ r. ⌜ r ≡ writtenGiven self .number ⌝ }
+    {
+        match self {
+            Written::Length(_) => 0,
+            Written::Refused(refusal) => refusal.number(),
+        }
+    }
 }
 
 // Writes an outer header and then the packet into out.

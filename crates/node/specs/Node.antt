@@ -1,9 +1,11 @@
 -- The node: how it is made, its latest time and its sizes.
 use Prim.Native.Nat.{ℕ, max}
 use mathlib.Core.Bool.{cond}
+use mathlib.Core.List.{[]}
 use lib.ListN.{replicate}
 use Rattle.paths.specs.Kept.{inForce}
 use Rattle.paths.specs.Table.{noReports, keptIn}
+use Rattle.refusals.specs.Given.{Given, answered, refused}
 use Rattle.refusals.specs.declared.Refusal.the-variants as refusal
 use Rattle.routers.specs.Routers.{newOf}
 use Rattle.settings.specs.Locators.{noLocator}
@@ -11,6 +13,7 @@ use Rattle.settings.specs.Settings.{isAccepted}
 use Rattle.settings.specs.declared.Settings.{Settings}
 use Rattle.node.specs.declared.Node.{Node}
 use Rattle.node.specs.declared.Setup.{Setup}
+use Rattle.node.specs.declared.SetupAnswer.{SetupAnswer}
 use Rattle.node.specs.declared.SetupAnswer.the-variants.{Made, Refused}
 
 -- document 01, "Settings": at setup all routers are due at time 0; "The node keeps the latest time seen, 0 at setup"
@@ -36,6 +39,11 @@ noSettings = record {
   identification = 0;
   reporting = replicate 16 0;
 }
+
+-- document 01's number: a node that is made has no values
+abbrev pub setupGiven : SetupAnswer → Given
+setupGiven Made = answered []
+setupGiven (Refused r) = refused r
 
 -- 1: the settings break the rules; refused settings make no state, and a node that has nothing of them stands in its place
 unfoldable pub setupOf : Settings → Setup

@@ -13,7 +13,7 @@ use settings::Settings;
 use settings::locators::Locator;
 ghost use mathlib.Core.Path.{_≡_};
 ghost use Prim.Native.Nat.{max};
-ghost use Rattle.node.specs.Node.{noSettings, nodeOf, setupOf, raisedTo, sizeAt, sizeOf};
+ghost use Rattle.node.specs.Node.{noSettings, nodeOf, setupGiven, setupOf, raisedTo, sizeAt, sizeOf};
 
 // What one service of a node owns.
 pub struct Service {
@@ -38,6 +38,18 @@ pub enum SetupAnswer {
 pub struct Setup {
     pub answer: SetupAnswer,
     pub node: Node,
+}
+
+impl SetupAnswer {
+    // Document 01's number, 0 where a node is made.
+    pub fn number(self) -> u8
+        ensures { λ r. ⌜ r ≡ setupGiven self .number ⌝ }
+    {
+        match self {
+            SetupAnswer::Made => 0,
+            SetupAnswer::Refused(refusal) => refusal.number(),
+        }
+    }
 }
 
 fn no_settings() -> Settings
