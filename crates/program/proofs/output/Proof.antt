@@ -1,0 +1,40 @@
+-- `output` meets its contract: by whether there is room, and whether the input is well-formed. Assumes nothing.
+use mathlib.Core.Path.{sym, _∙_}
+use native.Mathlib.Omega.{arith}
+use borrow.Author.Tests.{lt-ltb}
+use Rattle.program.specs.Program.{textFor, countGiven, bytesLeft}
+use Rattle.program.specs.Laws.{text-given}
+use Rattle.program.proofs.output.Statement.{statement}
+use Rattle.program.proofs.output.Tie as tie
+
+returns : tie.Need-returns
+unfolding countGiven bytesLeft
+returns c = let t = lt-ltb _ _ (c .if1 .taken) in (simp t, simp t)
+
+put-taken-requires : tie.Need-put-taken-requires
+put-taken-requires c κs = (sym (c .before .before .well-formed .ensures) ∙ c .before .if2 .taken, omega arith)
+
+returns-2 : tie.Need-returns-2
+unfolding textFor
+returns-2 c =
+    let p = c .before .before in
+    let i = p .before .before in
+    let w = i .before in
+    let a = w .before .before .before .before .args in
+    let h = sym (w .well-formed .ensures) ∙ i .if2 .taken in
+    text-given (a .s .now) (a .out .now) (omega arith) (rw h (p .put-taken .ensures))
+
+returns-3 : tie.Need-returns-3
+unfolding textFor
+returns-3 c =
+    let p = c .before .before in
+    let i = p .before .before in
+    let w = i .before in
+    let a = w .before .before .before .before .args in
+    let h = sym (w .well-formed .ensures) ∙ i .if2 .left in
+    text-given (a .s .now) (a .out .now) (omega arith) (rw h (p .put-bad-input .ensures))
+
+pub output-spec : {M : Type 1} → statement M
+output-spec =
+    tie.close
+    (tie.spec returns (omega arith) put-taken-requires (omega arith) returns-2 (omega arith) (omega arith) returns-3)

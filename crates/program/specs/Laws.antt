@@ -1,0 +1,65 @@
+-- Laws of the program: which text there is, one line after another, and what is given back. Assumes nothing.
+use Prim.Native.Nat.{ℕ, _≤_, _<_}
+use mathlib.Core.Path.{_≡_, refl, sym, ap, _∙_}
+use mathlib.Core.Bool.{Bool, true, false, cond}
+use mathlib.Core.List.{List}
+use native.Mathlib.Omega.{arith}
+use native.Mathlib.Nat.{zero-add}
+use borrow.Author.Tests.{le-ltb, ltb-false}
+use lib.Dec.{ltb}
+use lib.ListN.{length, getD, List·getD-map}
+use Rattle.lent.specs.Laws.{placed-first}
+use Rattle.text.specs.Laws.{Wrote, behind-fits}
+use Rattle.settings.specs.Settings.{isAccepted}
+use Rattle.node.specs.Node.{nodeOf, setupOf}
+use Rattle.node.specs.declared.Node.{Node}
+use Rattle.input.specs.Section.{countOf}
+use Rattle.input.specs.Input.{behindSettings, settingsOf, isWellFormed}
+use Rattle.input.specs.Recording.{Datagram, interfaceOf, bytesOf, datagramsOf}
+use Rattle.input.specs.Laws.{Walked, walked-datagram}
+use Rattle.lines.specs.Lines.{textOf, badInput}
+use Rattle.program.specs.Program.{lineOn, lineFor, linesOf, takenText, textFor, outputRoom, countGiven, bytesLeft}
+use Rattle.program.specs.Lengths.{text-short}
+
+-- a well-formed input with settings that the rules accept gets its lines, and any other the one line
+pub text-taken : (s : List ℕ) → isWellFormed s ≡ true → isAccepted (settingsOf s) ≡ true
+    → textFor s ≡ textOf (linesOf (nodeOf (settingsOf s)) (behindSettings s))
+unfolding textFor takenText setupOf
+text-taken s h a = rw (h, a)
+
+pub text-refused : (s : List ℕ) → isAccepted (settingsOf s) ≡ false → textFor s ≡ badInput
+unfolding textFor takenText setupOf
+text-refused s a = rw a (same (isWellFormed s))
+  where
+    same : (t : Bool) → cond t badInput badInput ≡ badInput
+    same true = refl
+    same false = refl
+
+pub text-malformed : (s : List ℕ) → isWellFormed s ≡ false → textFor s ≡ badInput
+unfolding textFor
+text-malformed s h = rw h
+
+-- the line of the datagram to which a walk has come
+pub line-at : (node : Node) (r rest : List ℕ) (k : ℕ) (none : Datagram) → k < countOf r → Walked r k rest
+    → lineOn node (interfaceOf rest) (bytesOf rest) ≡ getD (linesOf node r) k (lineFor node none)
+unfolding linesOf
+line-at node r rest k none h w =
+    sym (List·getD-map (lineFor node) (datagramsOf r) k none ∙ ap (lineFor node) (walked-datagram r rest k none h w))
+
+-- what is given back where there is room
+pub text-given : (s d : List ℕ) {r : ℕ} {e : List ℕ} → outputRoom ≤ length d → Wrote 0 (textFor s) d r e → (r ≡ countGiven s d) × (e ≡ bytesLeft s d)
+unfolding countGiven bytesLeft
+text-given s d h w =
+    let l : length (textFor s) ≤ length d = omega (arith, text-short s) in
+    let t = le-ltb (length d) outputRoom h in
+    let r = w .0 ∙ behind-fits 0 (textFor s) d (omega arith) ∙ zero-add (length (textFor s)) in
+    (simp t r, simp t (placed-first (textFor s) d l (w .1)))
+
+-- what is given back is never more than the lent bytes
+pub count-within : (s d : List ℕ) → countGiven s d ≤ length d
+unfolding countGiven
+count-within s d = within (ltb (length d) outputRoom) refl
+  where
+    within : (t : Bool) → ltb (length d) outputRoom ≡ t → cond t 0 (length (textFor s)) ≤ length d
+    within true h = omega arith
+    within false h = omega (arith, text-short s, ltb-false (length d) outputRoom h)
