@@ -5,9 +5,11 @@ use mathlib.Core.Bool.{Bool, true, false, cond}
 use mathlib.Core.List.{List}
 use native.Mathlib.Omega.{arith}
 use native.Mathlib.Nat.{zero-add}
-use borrow.Author.Tests.{le-ltb, ltb-false}
+use borrow.Author.Tests.{le-ltb}
 use lib.Dec.{ltb}
-use lib.ListN.{length, getD, List·getD-map}
+use lib.ListN.{length, getD, take, length-append, List·getD-map}
+use lib.Seq.{take-append-seam}
+use Rattle.lent.specs.Written.{written}
 use Rattle.lent.specs.Laws.{placed-first}
 use Rattle.text.specs.Laws.{Wrote, behind-fits}
 use Rattle.settings.specs.Settings.{isAccepted}
@@ -55,11 +57,11 @@ text-given s d h w =
     let r = w .0 ∙ behind-fits 0 (textFor s) d (omega arith) ∙ zero-add (length (textFor s)) in
     (simp t r, simp t (placed-first (textFor s) d l (w .1)))
 
--- what is given back is never more than the lent bytes
-pub count-within : (s d : List ℕ) → countGiven s d ≤ length d
-unfolding countGiven
-count-within s d = within (ltb (length d) outputRoom) refl
+-- what is given back is the length of a front of the lent bytes
+pub count-within : (s d : List ℕ) {r : ℕ} {e : List ℕ} → r ≡ countGiven s d → e ≡ bytesLeft s d → (r ≤ length e) × (r ≡ length (take r e))
+unfolding countGiven bytesLeft
+count-within s d f g = rw (f, g) (within (ltb (length d) outputRoom))
   where
-    within : (t : Bool) → ltb (length d) outputRoom ≡ t → cond t 0 (length (textFor s)) ≤ length d
-    within true h = omega arith
-    within false h = omega (arith, text-short s, ltb-false (length d) outputRoom h)
+    within : (t : Bool) → let r : ℕ = cond t 0 (length (textFor s)) in let e : List ℕ = cond t d (written (textFor s) d) in (r ≤ length e) × (r ≡ length (take r e))
+    within true = (omega arith, refl)
+    within false = (rw length-append (omega arith), rw take-append-seam)

@@ -1,14 +1,13 @@
 -- `put_lines` meets its contract: the walk has come to the datagram of number k, and the lines before it are written. Assumes nothing.
-use Prim.Native.Nat.{ℕ, _≤_, _-_, _+_, _*_, _<_}
-use mathlib.Core.Path.{_≡_, sym, ap, _∙_}
-use mathlib.Core.List.{List, []}
+use Prim.Native.Nat.{_≤_, _-_, _+_, _*_, _<_}
+use mathlib.Core.Path.{_≡_}
+use mathlib.Core.List.{[]}
 use native.Mathlib.Omega.{arith}
-use lib.ListN.{length, getD, length-map, List·getD-map}
+use lib.ListN.{length, getD}
 use Rattle.text.specs.Laws.{Wrote}
 use Rattle.input.specs.Section.{countOf}
-use Rattle.input.specs.Recording.{Datagram, interfaceOf, bytesOf, firstOf, datagramsOf}
-use Rattle.input.specs.Laws.{Walked, walked-first, walked-datagram, walked-next, length-datagrams}
-use Rattle.lines.specs.declared.Line.{Line}
+use Rattle.input.specs.Recording.{Datagram}
+use Rattle.input.specs.Laws.{Walked, walked-first, walked-next}
 use Rattle.lines.specs.Lines.{linesTo}
 use Rattle.lines.specs.Laws.{lines-none, lines-turn, length-lines}
 use Rattle.program.specs.Program.{lineFor, linesOf}
