@@ -1,0 +1,70 @@
+// Runs document 01's program on the inputs in data/: for each its name, and then the output. The inputs and what is expected come
+// from tests/program_cases.py.
+ghost use mathlib.Core.Path.{_≡_};
+ghost use lib.ListN.{length};
+
+// One byte more than an input may have, so that a longer one is seen.
+const INPUT_ROOM: usize = input::LIMIT + 1;
+
+fn input_room() -> [u8; INPUT_ROOM]
+    ensures { λ r. ⌜ 65537 ≡ length r ⌝ }
+{
+    [0; INPUT_ROOM]
+}
+
+fn output_room() -> [u8; program::ROOM]
+    ensures { λ r. ⌜ 436896 ≡ length r ⌝ }
+{
+    [0; program::ROOM]
+}
+
+// Writes the output for what stands in the file.
+fn answer(file: i32) {
+    let mut bytes = input_room();
+    let n = io::read_full(file, &mut bytes);
+    let mut text = output_room();
+    let k = program::output(&bytes[..n], &mut text);
+    io::write_all(1, &text[..k]);
+}
+
+fn run(name: &[u8]) {
+    io::write_all(1, name);
+    io::write_all(1, b"\n");
+    let file = os::open_read(name);
+    if file < 0 {
+        io::write_all(1, b"no such file\n");
+        return;
+    }
+    answer(file);
+    libc::close(file);
+}
+
+fn main() {
+    run(b"empty");
+    run(b"no_datagram");
+    run(b"refused");
+    run(b"edges");
+    run(b"delivered");
+    run(b"most_settings");
+    run(b"cut_count");
+    run(b"cut_locators");
+    run(b"cut_prefixes");
+    run(b"cut_routers");
+    run(b"cut_datagram_count");
+    run(b"cut_datagram_length");
+    run(b"cut_datagram");
+    run(b"fewer_datagrams");
+    run(b"trailing_byte");
+    run(b"of_65536_bytes");
+    run(b"of_65537_bytes");
+    run(b"no_locator");
+    run(b"nine_locators");
+    run(b"locator_twice");
+    run(b"address_on_two_interfaces");
+    run(b"forbidden_locator");
+    run(b"nine_prefixes");
+    run(b"seventeen_routers");
+    run(b"router_twice");
+    run(b"forbidden_router");
+    run(b"router_of_our_own");
+}
