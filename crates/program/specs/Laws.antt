@@ -5,9 +5,9 @@ use mathlib.Core.Bool.{Bool, true, false, cond}
 use mathlib.Core.List.{List}
 use native.Mathlib.Omega.{arith}
 use native.Mathlib.Nat.{zero-add}
-use borrow.Author.Tests.{le-ltb}
+use borrow.Author.Tests.{lt-ltb, le-ltb}
 use lib.Dec.{ltb}
-use lib.ListN.{length, getD, take, length-append, List·getD-map}
+use lib.ListN.{length, getD, length-append, List·getD-map}
 use lib.Seq.{take-append-seam}
 use Rattle.lent.specs.Written.{written}
 use Rattle.lent.specs.Laws.{placed-first}
@@ -20,7 +20,7 @@ use Rattle.input.specs.Input.{behindSettings, settingsOf, isWellFormed}
 use Rattle.input.specs.Recording.{Datagram, interfaceOf, bytesOf, datagramsOf}
 use Rattle.input.specs.Laws.{Walked, walked-datagram}
 use Rattle.lines.specs.Lines.{textOf, badInput}
-use Rattle.program.specs.Program.{lineOn, lineFor, linesOf, takenText, textFor, outputRoom, countGiven, bytesLeft}
+use Rattle.program.specs.Program.{lineOn, lineFor, linesOf, takenText, textFor, outputRoom, IsFront, countGiven, bytesLeft}
 use Rattle.program.specs.Lengths.{text-short}
 
 -- a well-formed input with settings that the rules accept gets its lines, and any other the one line
@@ -48,20 +48,32 @@ unfolding linesOf
 line-at node r rest k none h w =
     sym (List·getD-map (lineFor node) (datagramsOf r) k none ∙ ap (lineFor node) (walked-datagram r rest k none h w))
 
--- what is given back where there is room
-pub text-given : (s d : List ℕ) {r : ℕ} {e : List ℕ} → outputRoom ≤ length d → Wrote 0 (textFor s) d r e → (r ≡ countGiven s d) × (e ≡ bytesLeft s d)
+-- what is given back is the length of a front of the lent bytes
+pub given-front : (s d : List ℕ) → IsFront (countGiven s d) (bytesLeft s d)
 unfolding countGiven bytesLeft
-text-given s d h w =
+given-front s d = tested (ltb (length d) outputRoom)
+  where
+    tested : (t : Bool) → IsFront (cond t 0 (length (textFor s))) (cond t d (written (textFor s) d))
+    tested true = (omega arith, refl)
+    tested false = (rw length-append (omega arith), rw take-append-seam)
+
+count-given : (s d : List ℕ) {r : ℕ} {e : List ℕ} → outputRoom ≤ length d → Wrote 0 (textFor s) d r e → (r ≡ countGiven s d) × (e ≡ bytesLeft s d)
+unfolding countGiven bytesLeft
+count-given s d h w =
     let l : length (textFor s) ≤ length d = omega (arith, text-short s) in
     let t = le-ltb (length d) outputRoom h in
     let r = w .0 ∙ behind-fits 0 (textFor s) d (omega arith) ∙ zero-add (length (textFor s)) in
     (simp t r, simp t (placed-first (textFor s) d l (w .1)))
 
--- what is given back is the length of a front of the lent bytes
-pub count-within : (s d : List ℕ) {r : ℕ} {e : List ℕ} → r ≡ countGiven s d → e ≡ bytesLeft s d → (r ≤ length e) × (r ≡ length (take r e))
+-- all that is promised, with too little room and with enough
+abbrev pub Given : List ℕ → List ℕ → ℕ → List ℕ → Type 0
+Given s d r e = (r ≡ countGiven s d) × ((e ≡ bytesLeft s d) × IsFront r e)
+
+pub none-given : (s d : List ℕ) → length d < outputRoom → Given s d 0 d
 unfolding countGiven bytesLeft
-count-within s d f g = rw (f, g) (within (ltb (length d) outputRoom))
-  where
-    within : (t : Bool) → let r : ℕ = cond t 0 (length (textFor s)) in let e : List ℕ = cond t d (written (textFor s) d) in (r ≤ length e) × (r ≡ length (take r e))
-    within true = (omega arith, refl)
-    within false = (rw length-append (omega arith), rw take-append-seam)
+none-given s d h = let t = lt-ltb (length d) outputRoom h in (simp t, (simp t, (omega arith, refl)))
+
+pub text-given : (s d : List ℕ) {r : ℕ} {e : List ℕ} → outputRoom ≤ length d → Wrote 0 (textFor s) d r e → Given s d r e
+text-given s d h w =
+    let f = count-given s d h w in
+    (f .0, (f .1, rw (f .0, f .1) (given-front s d)))

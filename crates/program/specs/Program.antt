@@ -1,9 +1,10 @@
 -- The program (document 01, "The program"): the output for any input.
-use Prim.Native.Nat.{ℕ}
+use Prim.Native.Nat.{ℕ, _≤_}
+use mathlib.Core.Path.{_≡_}
 use mathlib.Core.Bool.{cond}
 use mathlib.Core.List.{List, map}
 use lib.Dec.{ltb}
-use lib.ListN.{length}
+use lib.ListN.{length, take}
 use Rattle.lent.specs.Written.{written}
 use Rattle.refusals.specs.Refusals.{numberOf}
 use Rattle.receiving.specs.declared.Received.{Received}
@@ -48,6 +49,10 @@ takenText s = setupText (setupOf (settingsOf s) .answer) (setupOf (settingsOf s)
 unfoldable pub textFor : List ℕ → List ℕ
 textFor s = cond (isWellFormed s) (takenText s) badInput
 
+-- room for any input and one byte more
+abbrev pub inputRoom : ℕ
+inputRoom = 65537
+
 -- room for any output: a first line of 16 bytes, and 20 for each of at most 21,844 datagrams
 abbrev pub outputRoom : ℕ
 outputRoom = 436896
@@ -59,3 +64,7 @@ countGiven s d = cond (ltb (length d) outputRoom) 0 (length (textFor s))
 
 unfoldable pub bytesLeft : List ℕ → List ℕ → List ℕ
 bytesLeft s d = cond (ltb (length d) outputRoom) d (written (textFor s) d)
+
+-- n bytes stand at the front of d: this follows from the two above, and lets a caller take them
+abbrev pub IsFront : ℕ → List ℕ → Type 0
+IsFront n d = (n ≤ length d) × (n ≡ length (take n d))

@@ -6,7 +6,7 @@ use node::SetupAnswer;
 use receiving::Received;
 ghost use mathlib.Core.Path.{_≡_};
 ghost use Prim.Native.Nat.{_+_, _*_, _≤_, _<_};
-ghost use lib.ListN.{length};
+ghost use lib.ListN.{length, replicate};
 ghost use Rattle.lent.specs.Written.{placed};
 ghost use Rattle.text.specs.Text.{behind};
 ghost use mathlib.Core.Bool.{true};
@@ -14,11 +14,30 @@ ghost use Rattle.input.specs.Section.{countOf};
 ghost use Rattle.input.specs.Input.{isWellFormed};
 ghost use Rattle.lines.specs.Lines.{linesTo, textOf};
 ghost use Rattle.lines.specs.Laws.{Below};
-ghost use Rattle.program.specs.Program.{outputRoom, lineOn, linesOf, takenText, countGiven, bytesLeft};
+ghost use Rattle.program.specs.Program.{inputRoom, outputRoom, IsFront, lineOn, linesOf, takenText, countGiven, bytesLeft};
 ghost use Rattle.program.specs.Lengths.{Short};
 
+// Room for any input, and for one byte more, so that a longer input is seen.
+pub const INPUT_ROOM: usize = input::LIMIT + 1;
+
 // Room for any output: the first line, and a line for each of the most datagrams.
-pub const ROOM: usize = 436896;
+pub const OUTPUT_ROOM: usize = 436896;
+
+// Zeros for an input to be read over.
+pub fn input_room() -> [u8; INPUT_ROOM]
+    ensures { λ r. ⌜ r ≡ replicate inputRoom 0 ⌝ }
+    ensures { λ r. ⌜ inputRoom ≡ length r ⌝ }
+{
+    [0; INPUT_ROOM]
+}
+
+// Zeros for an output to be written over.
+pub fn output_room() -> [u8; OUTPUT_ROOM]
+    ensures { λ r. ⌜ r ≡ replicate outputRoom 0 ⌝ }
+    ensures { λ r. ⌜ outputRoom ≡ length r ⌝ }
+{
+    [0; OUTPUT_ROOM]
+}
 
 // What the program says of a datagram that arrived on an interface.
 fn line_on(node: Node, d: &[u8], interface: u8) -> Line
@@ -84,8 +103,9 @@ fn put_taken(s: &[u8], out: &mut [u8]) -> usize
 pub fn output(s: &[u8], out: &mut [u8]) -> usize
     ensures { λ r. ⌜ r ≡ countGiven (now (s .entry)) (now (out .entry)) ⌝ }
     ensures { λ _. ⌜ now (out .exit) ≡ bytesLeft (now (s .entry)) (now (out .entry)) ⌝ }
+    ensures { λ r. ⌜ IsFront r (now (out .exit)) ⌝ }
 {
-    if out.len() < ROOM {
+    if out.len() < OUTPUT_ROOM {
         return 0;
     }
     if input::well_formed(s) {

@@ -1,28 +1,10 @@
 // Runs document 01's program on the inputs in data/: for each its name, and then the output. The inputs and what is expected come
 // from tests/program_cases.py.
-ghost use mathlib.Core.Path.{_≡_};
-ghost use lib.ListN.{length};
-
-// One byte more than an input may have, so that a longer one is seen.
-const INPUT_ROOM: usize = input::LIMIT + 1;
-
-fn input_room() -> [u8; INPUT_ROOM]
-    ensures { λ r. ⌜ 65537 ≡ length r ⌝ }
-{
-    [0; INPUT_ROOM]
-}
-
-fn output_room() -> [u8; program::ROOM]
-    ensures { λ r. ⌜ 436896 ≡ length r ⌝ }
-{
-    [0; program::ROOM]
-}
-
 // Writes the output for what stands in the file.
 fn answer(file: i32) {
-    let mut bytes = input_room();
+    let mut bytes = program::input_room();
     let n = io::read_full(file, &mut bytes);
-    let mut text = output_room();
+    let mut text = program::output_room();
     let k = program::output(&bytes[..n], &mut text);
     io::write_all(1, &text[..k]);
 }

@@ -1,15 +1,13 @@
 -- `output` meets its contract: by whether there is room, and whether the input is well-formed. Assumes nothing.
 use mathlib.Core.Path.{sym, _∙_}
 use native.Mathlib.Omega.{arith}
-use borrow.Author.Tests.{lt-ltb}
-use Rattle.program.specs.Program.{textFor, countGiven, bytesLeft}
-use Rattle.program.specs.Laws.{text-given}
+use Rattle.program.specs.Program.{textFor}
+use Rattle.program.specs.Laws.{none-given, text-given}
 use Rattle.program.proofs.output.Statement.{statement}
 use Rattle.program.proofs.output.Tie as tie
 
 returns : tie.Need-returns
-unfolding countGiven bytesLeft
-returns c = let t = lt-ltb _ _ (c .if1 .taken) in (simp t, simp t)
+returns c = let a = c .before .before .before .args in none-given (a .s .now) (a .out .now) (c .if1 .taken)
 
 put-taken-requires : tie.Need-put-taken-requires
 put-taken-requires c κs = (sym (c .before .before .well-formed .ensures) ∙ c .before .if2 .taken, omega arith)
