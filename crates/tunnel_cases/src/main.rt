@@ -21,13 +21,18 @@ fn run(name: &[u8]) {
     libc::close(file);
 }
 
-fn main() {
+// What receiving answers.
+fn received() {
     run(b"empty");
     run(b"no_datagram");
     run(b"refused");
     run(b"edges");
     run(b"delivered");
     run(b"most_settings");
+}
+
+// Cut off in each section.
+fn cut() {
     run(b"cut_count");
     run(b"cut_locators");
     run(b"cut_prefixes");
@@ -36,9 +41,17 @@ fn main() {
     run(b"cut_datagram_length");
     run(b"cut_datagram");
     run(b"fewer_datagrams");
+}
+
+// Too long, and just not.
+fn long() {
     run(b"trailing_byte");
     run(b"of_65536_bytes");
     run(b"of_65537_bytes");
+}
+
+// Refused settings, and some that look like them.
+fn settings() {
     run(b"no_locator");
     run(b"nine_locators");
     run(b"locator_twice");
@@ -49,4 +62,11 @@ fn main() {
     run(b"router_twice");
     run(b"forbidden_router");
     run(b"router_of_our_own");
+}
+
+fn main() {
+    received();
+    cut();
+    long();
+    settings();
 }
