@@ -1,5 +1,5 @@
 -- The program (document 01, "The program"): the output for any input.
-use Prim.Native.Nat.{ℕ, _≤_}
+use Prim.Native.Nat.{ℕ, _+_, _*_, _≤_}
 use mathlib.Core.Path.{_≡_}
 use mathlib.Core.Bool.{cond}
 use mathlib.Core.List.{List, map}
@@ -14,7 +14,7 @@ use Rattle.node.specs.Receive.{receiveOf, partIn}
 use Rattle.node.specs.declared.Node.{Node}
 use Rattle.node.specs.declared.SetupAnswer.{SetupAnswer}
 use Rattle.node.specs.declared.SetupAnswer.the-variants as setup
-use Rattle.input.specs.Input.{behindSettings, settingsOf, isWellFormed}
+use Rattle.input.specs.Input.{behindSettings, settingsOf, inputLimit, isWellFormed}
 use Rattle.input.specs.Recording.{Datagram, datagramsOf}
 use Rattle.lines.specs.declared.Line.{Line}
 use Rattle.lines.specs.declared.Line.the-variants.{Deliver, Refuse}
@@ -51,11 +51,11 @@ textFor s = cond (isWellFormed s) (takenText s) badInput
 
 -- room for any input and one byte more
 abbrev pub inputRoom : ℕ
-inputRoom = 65537
+inputRoom = inputLimit + 1
 
 -- room for any output: a first line of 16 bytes, and 20 for each of at most 21,844 datagrams
 abbrev pub outputRoom : ℕ
-outputRoom = 436896
+outputRoom = 16 + 20 * 21844
 
 -- what is given back, the text's length, and what stands in the lent bytes, the text over their front; with less room than for
 -- any output nothing is written, and 0 is given

@@ -20,8 +20,8 @@ ghost use Rattle.program.specs.Lengths.{Short};
 // Room for any input, and for one byte more, so that a longer input is seen.
 pub const INPUT_ROOM: usize = input::LIMIT + 1;
 
-// Room for any output: the first line, and a line for each of the most datagrams.
-pub const OUTPUT_ROOM: usize = 436896;
+// Room for any output: a first line of 16 bytes, and 20 for each of at most 21,844 datagrams.
+pub const OUTPUT_ROOM: usize = 16 + 20 * 21844;
 
 // Zeros for an input to be read over.
 pub fn input_room() -> [u8; INPUT_ROOM]

@@ -10,7 +10,7 @@ returns : tie.Need-returns
 unfolding lineOn partIn
 returns c =
     let r = c .before .before .before .receive .ensures in
-    rw (← r, c .before .before .part .ensures, c .enum-told .given .1)
+    rw (← r, ← c .before .before .part .ensures, c .enum-told .given .1)
 
 returns-2 : tie.Need-returns-2
 unfolding lineOn partIn
