@@ -1,4 +1,6 @@
 //! The proved library beside straightforward Rust: both must give the same answers, then both are timed in one run.
+mod paths;
+
 use std::hint::black_box;
 use std::time::Instant;
 
@@ -115,14 +117,24 @@ fn time(calls: u32, f: &mut impl FnMut()) -> f64 {
 }
 
 /// One row of the table: the best of many short rounds, the two by turns.
-fn row(name: &str, mut rattle: impl FnMut(), mut rust: impl FnMut()) {
+fn row(name: &str, rattle: impl FnMut(), rust: impl FnMut()) {
+    row_of(name, 1, rattle, rust);
+}
+
+/// The same where each call does a thing so many times: the row is of one.
+fn row_of(name: &str, times: u32, mut rattle: impl FnMut(), mut rust: impl FnMut()) {
     let calls = (1e6 / time(100, &mut rust).max(1.0)) as u32 + 1;
     let (mut best_rattle, mut best_rust) = (f64::MAX, f64::MAX);
     for _ in 0..200 {
         best_rattle = best_rattle.min(time(calls, &mut rattle));
         best_rust = best_rust.min(time(calls, &mut rust));
     }
-    println!("{name:<24}{best_rattle:>12.1}{best_rust:>12.1}{:>12.2}", best_rattle / best_rust);
+    let (rattle, rust) = (best_rattle / times as f64, best_rust / times as f64);
+    println!("{name:<28}{rattle:>12.1}{rust:>12.1}{:>12.2}", rattle / rust);
+}
+
+fn heading(what: &str) {
+    println!("{what:<28}{:>12}{:>12}{:>12}", "Rattle, ns", "Rust, ns", "ratio");
 }
 
 fn compare_checksums(random: &mut Random) {
@@ -179,7 +191,12 @@ fn main() {
     let mut random = Random(1071);
     compare_checksums(&mut random);
     compare_wraps(&mut random);
-    println!("{:<24}{:>12}{:>12}{:>12}", "", "Rattle, ns", "Rust, ns", "ratio");
+    paths::compare(&mut random);
+    heading("each a call across C");
     time_checksums(&mut random);
     time_wraps(&mut random);
+    heading("in a loop of the program");
+    paths::time_inside();
+    heading("each a call across C");
+    paths::time_across();
 }
