@@ -72,8 +72,7 @@ impl PathTable {
         ensures { λ r. ⌜ r ≡ tableAfter self neighbour size now ⌝ }
     {
         let count = least(self.count, NEIGHBOURS);
-        let neighbours = self.neighbours;
-        let last = least(place(&neighbours, count, neighbour), NEIGHBOURS - 1);
+        let last = least(place(&self.neighbours, count, neighbour), NEIGHBOURS - 1);
         push_number(&mut self.neighbours, neighbour, last);
         push_size(&mut self.sizes, size, last);
         push_number(&mut self.times, now, last);

@@ -1,24 +1,18 @@
-use mathlib.Core.Path.{_≡_}
 use native.Mathlib.Omega.{arith}
 use borrow.Author.Needs.{needs}
-use lib.ListN.{length}
-use Rattle.paths.specs.Kept.{mostNeighbours}
 use Rattle.paths.proofs.Arrays.{Scanned, made}
 use Rattle.paths.proofs.PathTable.accepted.Statement.{statement}
 use Rattle.paths.proofs.PathTable.accepted.Tie as tie
 
-place-requires : tie.Need-place-requires
-place-requires c κs = let full : length (c .before .before .before .args .t1 .neighbours) ≡ mostNeighbours = search needs in omega arith
-
 scanned : (c : tie.After-place)
-    → Scanned (c .before .before .before .before .args .t1) (c .before .before .before .before .args .neighbour)
-    (c .before .before .before .least .result) (c .place .result)
+    → Scanned (c .before .before .before .before .before .args .t1) (c .before .before .before .before .before .args .neighbour)
+    (c .before .before .before .before .least .result) (c .place .result)
 scanned c =
     record {
       neighbours = search needs;
       sizes = search needs;
       times = search needs;
-      count = c .before .before .before .least .ensures;
+      count = c .before .before .before .before .least .ensures;
       place = c .place .ensures;
     }
 
@@ -29,12 +23,12 @@ returns c =
     let neighbours = sizes .before .before in
     let last = neighbours .before .before in
     let p = last .before in
-    let a = p .before .before .before .before .args in
+    let a = p .before .before .before .before .before .args in
     made (scanned p) (a .now) (a .size) (last .least2 .result) (c .most .result) _ _ _ (last .least2 .ensures) (omega arith)
     (neighbours .push-number .ensures) (sizes .push-size .ensures) (times .push-number2 .ensures)
 
 pub accepted-spec : {M : Type 1} → statement M
 accepted-spec =
     tie.close
-    (tie.spec (omega arith) (λ c. search needs) place-requires (omega arith) (omega arith) (λ c κs. search needs) (λ c κs. search needs)
+    (tie.spec (omega arith) (λ c κs. search needs) (omega arith) (omega arith) (λ c κs. search needs) (λ c κs. search needs)
     (λ c κs. search needs) (omega arith) (omega arith) returns)
