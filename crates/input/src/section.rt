@@ -44,7 +44,7 @@ pub fn behind(s: &[u8], size: u8) -> &[u8]
 }
 
 // The first n bytes, or all where there are fewer.
-pub(crate) fn front(d: &[u8], n: usize) -> &[u8]
+pub fn front(d: &[u8], n: usize) -> &[u8]
     ensures { λ r. ⌜ now r ≡ take n (now (d .entry)) ⌝ }
 {
     let end = fields::least(n, d.len());

@@ -1,0 +1,4 @@
+pub mod Arguments
+pub mod Call
+pub mod Laws
+pub mod Replay
