@@ -19,7 +19,10 @@ datagramOf c = countedAt 2 c
 
 -- send: "locator number 1, time 4, next hop 16, room 2, length 2, the packet"
 unfoldable pub sendingOf : List ℕ → SendNumbers
-sendingOf c = record { locator = getD c 1 0; time = quadAt c 2; «next_hop» = addressAt c 6; room = wordAt c 22 }
+sendingOf c = record { locator = getD c 1 0; time = quadAt c 2; «next_hop» = addressAt c 6 }
+
+abbrev pub sendRoom : List ℕ → ℕ
+sendRoom c = wordAt c 22
 
 abbrev pub packetOf : List ℕ → List ℕ
 packetOf c = countedAt 24 c
@@ -37,7 +40,10 @@ routersOf c = drop 5 c
 
 -- ask: "locator number 1, time 4, room 2"
 unfoldable pub askingOf : List ℕ → AskNumbers
-askingOf c = record { locator = getD c 1 0; time = quadAt c 2; room = wordAt c 6 }
+askingOf c = record { locator = getD c 1 0; time = quadAt c 2 }
+
+abbrev pub askRoom : List ℕ → ℕ
+askRoom c = wordAt c 6
 
 -- size: "neighbour 4"
 abbrev pub neighbourOf : List ℕ → ℕ

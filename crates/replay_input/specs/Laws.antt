@@ -1,6 +1,6 @@
 -- Laws of calls one behind another. Assumes nothing.
 use Prim.Native.Nat.{ℕ, zero, suc, _+_, _<_, _≤_}
-use mathlib.Core.Path.{_≡_, refl, sym, ap, _∙_}
+use mathlib.Core.Path.{_≡_, refl, sym, _∙_}
 use mathlib.Core.Bool.{Bool, true, false, _&&_, and-assoc}
 use mathlib.Core.List.{List, [], _∷_}
 use native.Mathlib.Omega.{arith}
@@ -8,7 +8,7 @@ use native.Mathlib.Numerals.{one-add}
 use borrow.Author.Tests.{le-leb}
 use lib.ListN.{length, drop}
 use lib.Dec.{leb, leb·suc-suc, leb·suc-zero}
-use Rattle.replay_input.specs.Call.{kindOf, isKnown, argumentBytes, callBytes, isThere, nextOf, callsAfter, areCalls}
+use Rattle.replay_input.specs.Call.{kindOf, isKnown, argumentBytes, isThere, nextOf, callsAfter, areCalls}
 
 -- n bytes are there, and calls behind them
 calls-after : (n : ℕ) (c : List ℕ) → callsAfter n c ≡ (leb n (length c) && callsAfter 0 (drop n c))

@@ -3,21 +3,19 @@ use header::fields;
 use input::section;
 ghost use mathlib.Core.Path.{_≡_};
 ghost use Prim.Native.Nat.{_<_};
-ghost use Rattle.replay_input.specs.Arguments.{countedAt, interfaceOf, datagramOf, sendingOf, packetOf, timeOf, messageOf, routersOf, askingOf, neighbourOf};
+ghost use Rattle.replay_input.specs.Arguments.{countedAt, interfaceOf, datagramOf, sendingOf, sendRoom, packetOf, timeOf, messageOf, routersOf, askingOf, askRoom, neighbourOf};
 
-// The numbers of a sending, and its next hop.
+// The locator's number, the time and the next hop of a sending.
 pub struct SendNumbers {
     pub locator: usize,
     pub time: u32,
     pub next_hop: [u8; 16],
-    pub room: usize,
 }
 
-// The numbers of an asking.
+// The locator's number and the time of an asking.
 pub struct AskNumbers {
     pub locator: usize,
     pub time: u32,
-    pub room: usize,
 }
 
 // Bytes behind their two-byte count, which stands at k.
@@ -42,7 +40,7 @@ pub fn datagram(c: &[u8]) -> &[u8]
     counted(c, 2)
 }
 
-// The numbers and the next hop of a sending.
+// The locator's number, the time and the next hop of a sending.
 pub fn sending(c: &[u8]) -> SendNumbers
     ensures { λ r. ⌜ r ≡ sendingOf (now (c .entry)) ⌝ }
 {
@@ -51,8 +49,14 @@ pub fn sending(c: &[u8]) -> SendNumbers
         locator: fields::byte(c, 1) as usize,
         time: fields::quad(c, 2),
         next_hop,
-        room: fields::word(c, 22) as usize,
     }
+}
+
+// The room of its output.
+pub fn send_room(c: &[u8]) -> usize
+    ensures { λ r. ⌜ (r ≡ sendRoom (now (c .entry))) × (r < 65536) ⌝ }
+{
+    fields::word(c, 22) as usize
 }
 
 // Its packet.
@@ -83,15 +87,21 @@ pub fn routers(c: &[u8]) -> &[u8]
     fields::tail(c, 5)
 }
 
-// The numbers of an asking.
+// The locator's number and the time of an asking.
 pub fn asking(c: &[u8]) -> AskNumbers
     ensures { λ r. ⌜ r ≡ askingOf (now (c .entry)) ⌝ }
 {
     AskNumbers {
         locator: fields::byte(c, 1) as usize,
         time: fields::quad(c, 2),
-        room: fields::word(c, 6) as usize,
     }
+}
+
+// The room of its output.
+pub fn ask_room(c: &[u8]) -> usize
+    ensures { λ r. ⌜ (r ≡ askRoom (now (c .entry))) × (r < 65536) ⌝ }
+{
+    fields::word(c, 6) as usize
 }
 
 // The neighbour whose size is asked for.

@@ -6,9 +6,8 @@ use Rattle.replay_input.proofs.arguments.asking.Tie as tie
 
 returns : tie.Need-returns
 unfolding askingOf
-returns c = rw (c .word .ensures, c .before .quad .ensures, c .before .before .byte .ensures)
+returns c = rw (c .quad .ensures, c .before .byte .ensures)
 
 pub asking-spec : {M : Type 1} → statement M
 asking-spec =
-    tie.close
-    (tie.spec (omega arith) (omega arith) (omega arith) (omega arith) (omega arith) returns)
+    tie.close (tie.spec (omega arith) (omega arith) (omega arith) returns)

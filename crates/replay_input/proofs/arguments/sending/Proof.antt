@@ -6,9 +6,8 @@ use Rattle.replay_input.proofs.arguments.sending.Tie as tie
 
 returns : tie.Need-returns
 unfolding sendingOf
-returns c = rw (c .word .ensures, c .before .quad .ensures, c .before .before .byte .ensures, c .before .before .before .address .ensures)
+returns c = rw (c .quad .ensures, c .before .byte .ensures, c .before .before .address .ensures)
 
 pub sending-spec : {M : Type 1} → statement M
 sending-spec =
-    tie.close
-    (tie.spec (omega arith) (omega arith) (omega arith) (omega arith) (omega arith) (omega arith) returns)
+    tie.close (tie.spec (omega arith) (omega arith) (omega arith) (omega arith) returns)

@@ -1,0 +1,4 @@
+pub mod Answers
+pub mod Digest
+pub mod Laws
+pub mod Lines
