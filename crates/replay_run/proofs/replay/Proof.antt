@@ -1,9 +1,9 @@
--- `replay::replay` ends: a call takes at least a byte. Assumes nothing.
+-- `replay_run::replay` ends: a call takes at least a byte. Assumes nothing.
 use native.Mathlib.Omega.{arith}
 use borrow.Author.Needs.{needs}
 use lib.ListN.{length, length-drop}
-use Rattle.replay.proofs.replay.Statement.{statement}
-use Rattle.replay.proofs.replay.Tie as tie
+use Rattle.replay_run.proofs.replay.Statement.{statement}
+use Rattle.replay_run.proofs.replay.Tie as tie
 
 abbrev Inv-loop : tie.InvT-loop
 Inv-loop calls node₀ rest₀ node rest = Unit {0}

@@ -1,4 +1,4 @@
--- `replay::write` is safe: what is written lies in the array. Assumes nothing.
+-- `replay_run::write` is safe: what is written lies in the array. Assumes nothing.
 use Prim.Native.Nat.{ℕ, _≤_, _+_}
 use mathlib.Core.Path.{_≡_, refl, ap, _∙_}
 use mathlib.Core.Bool.{Bool, true, false}
@@ -11,8 +11,8 @@ use lib.ListN.{length, take, replicate, length-take}
 use Rattle.lent.specs.Laws.{placed-fits, placed-short, length-over}
 use Rattle.text.specs.Laws.{Wrote, behind-fits, behind-short}
 use Rattle.replay_lines.specs.Lines.{lineOf}
-use Rattle.replay.proofs.write.Statement.{statement}
-use Rattle.replay.proofs.write.Tie as tie
+use Rattle.replay_run.proofs.write.Statement.{statement}
+use Rattle.replay_run.proofs.write.Tie as tie
 
 module _ (w d : List ℕ) {r : ℕ} {e : List ℕ} (f : Wrote 0 w d r e) where
   picked : (t : Bool) → ltb (length d) (0 + length w) ≡ t → (r ≤ length d) × (length e ≡ length d)

@@ -1,0 +1,67 @@
+// A run of replayed calls: the calls of an input are made one after another, and a line is written for each.
+use node::Node;
+use node::SetupAnswer;
+use replay_input::call;
+use replay_lines::Line;
+use replay_lines::Subject;
+use replay_lines::Value;
+use replay_lines::answers;
+ghost use mathlib.Core.Path.{_≡_};
+ghost use Rattle.replay_run.specs.Space.{zeros};
+
+// Room for the longest input, and for a byte more, which shows that the input is longer.
+const SPACE: usize = replay_input::LIMIT + 1;
+
+fn space() -> [u8; SPACE]
+    ensures { λ r. ⌜ r ≡ zeros 1048577 ⌝ }
+{
+    [0; SPACE]
+}
+
+// Writes a line.
+fn write(line: Line) {
+    let mut bytes = [0u8; replay_lines::LONGEST_LINE];
+    let end = replay_lines::put_line(line, &mut bytes);
+    io::write_all(1, &bytes[..end]);
+}
+
+// Makes all calls, one after another.
+fn replay(start: Node, calls: &[u8]) {
+    let mut node = start;
+    let mut rest = calls;
+    while 0 < rest.len() {
+        let made = replay_calls::make(node, rest);
+        let line = made.line;
+        write(line);
+        let next = made.node;
+        node = next;
+        let after = call::next(rest);
+        rest = after;
+    }
+}
+
+// Makes the calls of an input, all of which is read through before anything is written.
+pub fn run(s: &[u8]) {
+    if !replay_input::well_formed(s) {
+        io::write_all(1, b"bad input\n");
+        return;
+    }
+    let setup = Node::new(replay_input::settings(s));
+    let answer = setup.answer;
+    match answer {
+        SetupAnswer::Made => {
+            let node = setup.node;
+            replay(node, replay_input::calls(s));
+        }
+        SetupAnswer::Refused(refusal) => {
+            write(answers::refused(Subject::Settings, refusal, Value::Nothing));
+        }
+    }
+}
+
+// The same of standard input.
+pub fn run_standard_input() {
+    let mut bytes = space();
+    let n = io::read_full(0, &mut bytes);
+    run(&bytes[..n]);
+}
