@@ -75,7 +75,7 @@ extern "C" fn path_accepted_many_rust(mut table: PathTable, first: u32, count: u
     table
 }
 
-/// A table that no tunnel end makes: few neighbours, some of them twice, ages about the lifetime, and a count that may be too large.
+/// Any table, also one that no tunnel end makes: neighbours twice, ages about the lifetime, a count that may be too large.
 fn any_table(random: &mut Random, now: u32) -> PathTable {
     let mut table = bogtrumpet_path_table();
     for p in 0..NEIGHBOURS {
@@ -95,15 +95,26 @@ pub fn compare(random: &mut Random) {
         let (neighbour, size, link) = ((random.next() % 90) as u32, random.next() as u16, random.next() as u16);
         let first = neighbour.wrapping_sub(40);
         let count = (random.next() % 100) as u32;
-        let about = |what: &str| format!("{what} {neighbour} at {now}, {count} of them from {first}: {table:?}");
-        let same = bogtrumpet_path_size(table, link, neighbour, now) == path_size_rust(table, link, neighbour, now);
-        assert!(same, "{}", about("size toward"));
-        let same = bogtrumpet_path_accepted(table, neighbour, size, now) == path_accepted_rust(table, neighbour, size, now);
-        assert!(same, "{}", about("report of"));
-        let same = bogtrumpet_path_sizes(table, link, first, count, now) == path_sizes_rust(table, link, first, count, now);
-        assert!(same, "{}", about("sizes toward"));
-        let same = bogtrumpet_path_accepted_many(table, first, count, size, now) == path_accepted_many_rust(table, first, count, size, now);
-        assert!(same, "{}", about("reports of"));
+        let check = |what: &str, same: bool| {
+            assert!(same, "{what} {neighbour} at {now}, {count} of them from {first}: {table:?}");
+        };
+        check(
+            "size toward",
+            bogtrumpet_path_size(table, link, neighbour, now) == path_size_rust(table, link, neighbour, now),
+        );
+        check(
+            "report of",
+            bogtrumpet_path_accepted(table, neighbour, size, now) == path_accepted_rust(table, neighbour, size, now),
+        );
+        check(
+            "sizes toward",
+            bogtrumpet_path_sizes(table, link, first, count, now) == path_sizes_rust(table, link, first, count, now),
+        );
+        check(
+            "reports of",
+            bogtrumpet_path_accepted_many(table, first, count, size, now)
+                == path_accepted_many_rust(table, first, count, size, now),
+        );
     }
 }
 
@@ -117,8 +128,8 @@ fn full() -> PathTable {
     bogtrumpet_path_accepted_many(bogtrumpet_path_table(), KEPT, NEIGHBOURS as u32, 1400, NOW)
 }
 
-/// Calls in a loop of the program itself: nanoseconds a lookup or an update. Found: each of the 64 once. None in a table of none: both
-/// compilers make that loop one product, so it has no row here.
+/// Calls in a loop of the program itself: nanoseconds a lookup or an update. Found: each of the 64 once.
+/// Lookups in an empty table have no row here: both compilers make that loop one product.
 pub fn time_inside() {
     let sizes = |name: &str, table: PathTable, first: u32, count: u32| {
         row_of(
