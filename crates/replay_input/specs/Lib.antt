@@ -2,3 +2,4 @@ pub mod Arguments
 pub mod Call
 pub mod Laws
 pub mod Replay
+pub mod Values

@@ -7,7 +7,7 @@ ghost use Prim.Native.Nat.{_+_, _≤_};
 ghost use lib.ListN.{length};
 ghost use Rattle.lent.specs.Written.{placed};
 ghost use Rattle.text.specs.Text.{behind};
-ghost use Rattle.replay_lines.specs.Lines.{wordOf, outcomeOf, valueOf, valuesOf, lineOf};
+ghost use Rattle.replay_lines.specs.Lines.{longestLine, wordOf, outcomeOf, valueOf, valuesOf, lineOf};
 
 pub enum Subject {
     Receive,
@@ -120,6 +120,7 @@ fn put_values(line: Line, out: &mut [u8], at: usize) -> usize
 pub fn put_line(line: Line, out: &mut [u8; LONGEST_LINE]) -> usize
     ensures { λ r. ⌜ r ≡ behind 0 (lineOf line) (now (out .entry)) ⌝ }
     ensures { λ _. ⌜ now (out .exit) ≡ placed 0 (lineOf line) (now (out .entry)) ⌝ }
+    ensures { λ _. ⌜ length (lineOf line) ≤ longestLine ⌝ }
 {
     let subject = line.subject;
     let outcome = line.outcome;

@@ -32,9 +32,10 @@ returns c =
     let h1 = word-short (a .line .subject) in
     let h2 = outcome-short (a .line .outcome) in
     let e = v .put-values .ensures in
-    wrote-more 0 ((x ++ y) ++ z) (10 ∷ []) d (omega arith)
+    let p = wrote-more 0 ((x ++ y) ++ z) (10 ∷ []) d (omega arith)
     (wrote-more 0 (x ++ y) z d (omega arith) (wrote-more 0 x y d (omega arith) (s .put-subject .ensures) (o .put-outcome .ensures)) (e .0, e .1 .0))
-    (c .put .ensures)
+    (c .put .ensures) in
+    (p .0, (p .1, omega arith))
 
 pub put-line-spec : {M : Type 1} → statement M
 put-line-spec =
