@@ -176,7 +176,7 @@ fn time_checksums(random: &mut Random) {
 }
 
 fn time_wraps(random: &mut Random) {
-    for length in [64, 1280, 1480, 65515] {
+    for length in [20, 64, 1280, 1480, 1500, 65515] {
         let (h, packet) = (random.outer_fields(), random.bytes(length));
         let (mut rattle, mut rust) = (vec![0; 65535], vec![0; 65535]);
         row(
