@@ -74,10 +74,9 @@ impl Settings {
     }
 
     fn allowed(&self) -> bool {
-        let (Some(locators), Some(routers)) = (
-            self.locators.get(..self.locator_count),
-            self.routers.get(..self.router_count),
-        ) else {
+        let (Some(locators), Some(routers)) =
+            (self.locators.get(..self.locator_count), self.routers.get(..self.router_count))
+        else {
             return false;
         };
         !locators.is_empty()
@@ -126,17 +125,12 @@ impl RouterList {
     }
 
     fn find_mut(&mut self, address: u32) -> Option<&mut Router> {
-        self.routers[..self.count]
-            .iter_mut()
-            .find(|router| router.address == address)
+        self.routers[..self.count].iter_mut().find(|router| router.address == address)
     }
 
     /// The list of these addresses: a router of this list keeps its due time, a new one is due at `now`.
     fn replaced(&self, addresses: &[u32], now: u32) -> RouterList {
-        let mut next = RouterList {
-            count: addresses.len(),
-            ..RouterList::default()
-        };
+        let mut next = RouterList { count: addresses.len(), ..RouterList::default() };
         for (place, &address) in next.routers.iter_mut().zip(addresses) {
             let due = self.find(address).map_or(u64::from(now), |router| router.due);
             *place = Router { address, due };
@@ -170,14 +164,7 @@ pub struct PathTable {
 
 impl PathTable {
     fn new() -> PathTable {
-        PathTable {
-            reports: [Report {
-                neighbour: 0,
-                size: 0,
-                time: 0,
-            }; NEIGHBOURS],
-            count: 0,
-        }
+        PathTable { reports: [Report { neighbour: 0, size: 0, time: 0 }; NEIGHBOURS], count: 0 }
     }
 
     pub fn as_slice(&self) -> &[Report] {
@@ -244,10 +231,7 @@ impl Node {
     /// Where in the datagram the inner packet stands; 2 to 10.
     pub fn receive(&self, datagram: &[u8], interface: u8) -> Result<Range<usize>, Refusal> {
         let outer = rules::read_outer(datagram)?;
-        let ours = Locator {
-            address: outer.destination,
-            interface,
-        };
+        let ours = Locator { address: outer.destination, interface };
         if !self.settings.locators().contains(&ours) {
             return Err(Refusal::NotOurs);
         }
@@ -310,11 +294,8 @@ impl Node {
     }
 
     fn answer_too_big(&self, size: u16, packet: &[u8], out: &mut [u8]) -> Result<Sent, Refusal> {
-        let length = if rules::unanswered(packet) {
-            0
-        } else {
-            rules::too_big(&self.settings.reporting, size, packet, out)?
-        };
+        let length =
+            if rules::unanswered(packet) { 0 } else { rules::too_big(&self.settings.reporting, size, packet, out)? };
         Ok(Sent::TooBig { size, length })
     }
 
@@ -338,11 +319,7 @@ impl Node {
         if size >= self.path_size(neighbour) {
             return Err(Refusal::SizeNotBelow);
         }
-        self.paths.accept(Report {
-            neighbour,
-            size,
-            time: self.latest,
-        });
+        self.paths.accept(Report { neighbour, size, time: self.latest });
         Ok((neighbour, size))
     }
 
@@ -373,18 +350,14 @@ impl Node {
         let lifetime = rules::advertised_lifetime(packet)?;
         let advertiser = isatap(&[], &address_at(packet, 8)).ok_or(Refusal::Unlisted)?;
         let router = self.routers.find_mut(advertiser).ok_or(Refusal::Unlisted)?;
-        let wait = lifetime.map_or(RENEWAL, |lifetime| {
-            (lifetime / 2).max(u32::from(self.settings.interval))
-        });
+        let wait = lifetime.map_or(RENEWAL, |lifetime| (lifetime / 2).max(u32::from(self.settings.interval)));
         router.due = u64::from(self.latest) + u64::from(wait);
         Ok(advertiser)
     }
 
     /// The size in force toward the neighbour at the latest time.
     pub fn path_size(&self, neighbour: u32) -> u16 {
-        self.paths
-            .size(neighbour, self.latest)
-            .unwrap_or(self.settings.link_size)
+        self.paths.size(neighbour, self.latest).unwrap_or(self.settings.link_size)
     }
 
     pub fn settings(&self) -> &Settings {
@@ -413,11 +386,7 @@ impl Node {
 
     /// The address of the locator of that number; 11.
     fn locator(&self, number: usize) -> Result<u32, Refusal> {
-        self.settings
-            .locators()
-            .get(number)
-            .map(|locator| locator.address)
-            .ok_or(Refusal::LocatorNumber)
+        self.settings.locators().get(number).map(|locator| locator.address).ok_or(Refusal::LocatorNumber)
     }
 }
 

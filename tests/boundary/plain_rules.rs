@@ -67,9 +67,7 @@ pub fn checksum(start: u32, bytes: &[u8]) -> u16 {
     for block in bytes.chunks(1 << 16) {
         let words = block.chunks_exact(2);
         let odd = words.remainder().first().map_or(0, |&last| u32::from(last) << 8);
-        let words: u32 = words
-            .map(|word| u32::from(u16::from_be_bytes([word[0], word[1]])))
-            .sum();
+        let words: u32 = words.map(|word| u32::from(u16::from_be_bytes([word[0], word[1]]))).sum();
         sum += u64::from(words) + u64::from(odd);
     }
     while sum > 0xffff {
