@@ -5,6 +5,7 @@ ghost use lib.ListN.{take, drop};
 ghost use Rattle.lists.specs.Any.{anyOf, twice};
 ghost use Rattle.settings.specs.Locators.{isAt, isLocator, sameLocator, locatorFound, rowAt, rowsOf};
 
+#[repr(C)]
 pub struct Locator {
     pub address: u32,
     pub interface: u8,
