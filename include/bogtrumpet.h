@@ -263,7 +263,8 @@ struct bogtrumpet_received bogtrumpet_unwrap(const uint8_t *datagram, size_t len
 /* Writes the packet behind its outer header. The length written, or 0 for a refusal (23, 15). */
 size_t bogtrumpet_wrap(struct bogtrumpet_outer outer, const uint8_t *packet, size_t length, uint8_t *out, size_t room);
 
-/* Writes an ICMPv6 Packet Too Big about the packet, to its source. The length written, or 0 for a refusal (15). */
+/* Writes an ICMPv6 Packet Too Big about the packet, to its source, whoever that is. The length written, or 0 for a refusal
+   (8: the packet is under 40 bytes; 15). */
 size_t bogtrumpet_too_big(struct bogtrumpet_address reporting, uint16_t size, const uint8_t *packet, size_t length,
                           uint8_t *out, size_t room);
 

@@ -364,7 +364,8 @@ pub fn wrap(outer: Outer, packet: &[u8], out: &mut [u8]) -> usize {
     unsafe { bogtrumpet_wrap(outer, packet.as_ptr(), packet.len(), out.as_mut_ptr(), out.len()) }
 }
 
-/// Writes an ICMPv6 Packet Too Big about the packet, to its source. The length written, or 0 for a refusal (15).
+/// Writes an ICMPv6 Packet Too Big about the packet, to its source, whoever that is. The length written, or 0 for a refusal
+/// (8: the packet is under 40 bytes; 15).
 pub fn too_big(reporting: Address, size: u16, packet: &[u8], out: &mut [u8]) -> usize {
     unsafe { bogtrumpet_too_big(reporting, size, packet.as_ptr(), packet.len(), out.as_mut_ptr(), out.len()) }
 }

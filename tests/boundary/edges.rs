@@ -2,7 +2,7 @@
 
 use crate::check::Check;
 use crate::lists::break_settings;
-use crate::nodes::Nodes;
+use crate::nodes::{defaults, Nodes};
 use crate::packets::{self, put, put16, EDGES};
 use crate::plain::rules::link_local;
 use crate::plain::{Address, Locator, Settings};
@@ -294,6 +294,7 @@ fn refused_settings(check: &mut Check) {
         broken.locators[2] = Locator { address: LOCATOR + 1, interface: 7 };
         break_settings(&mut check.random, &mut broken);
         Nodes::new(check, &broken);
+        defaults(check, &broken);
     }
     let mut full = settings();
     (full.locator_count, full.router_count, full.prefix_count) = (8, 16, 8);
@@ -347,11 +348,12 @@ fn changed_datagrams(check: &mut Check) {
         let packet = packets::packet(&mut check.random, 47, 17, &packets::address(&PREFIX, 2, source));
         let datagram = packets::datagram(&mut check.random, (source, LOCATOR), words, &packet, padding);
         changed(&datagram, 64, |mut tried| {
-            nodes.receive(check, &tried, 7);
-            packets::repair_outer(&mut tried);
-            nodes.receive(check, &tried, 7);
-            stateless::read_outer(check, &tried);
-            stateless::unwrap(check, &tried);
+            for _ in 0..2 {
+                nodes.receive(check, &tried, 7);
+                stateless::read_outer(check, &tried);
+                stateless::unwrap(check, &tried);
+                packets::repair_outer(&mut tried);
+            }
             stateless::checksum_right(check, &tried[..tried.len().min(20)]);
         });
         for total in 0..=datagram.len() + 3 {

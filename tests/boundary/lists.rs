@@ -74,7 +74,7 @@ fn call(check: &mut Check, world: &mut World, weights: &[usize; 6]) {
     }
     let neighbour = any_address(&mut check.random, world);
     world.nodes.path_size(check, neighbour);
-    if check.random.once_in(64) {
+    if check.random.once_in(250) {
         for &neighbour in &world.neighbours {
             world.nodes.path_size(check, neighbour);
         }

@@ -1,15 +1,19 @@
 //! Compares the proved library, called through its Rust module, with plain Rust written from document 01: every public call of the
 //! node and of the rules without state, on random lists of calls and on the edges of the rules.
 //!
-//!     boundary [SEED [CALLS]]
+//!     boundary [SEED [CALLS [lists]]]
 //!
-//! One line of totals, or the first difference and status 1. Status 1 too if an answer that can come was never met.
+//! `lists` leaves the edges out, for a short run. One line of totals, or the first difference and status 1. Status 1 too if an
+//! answer that can come was never met.
 
+mod any_node;
 #[allow(dead_code)]
 #[path = "../../rust/bogtrumpet.rs"]
 mod bogtrumpet;
 mod check;
 mod edges;
+#[cfg(through_c)]
+mod layout;
 mod lent;
 mod lists;
 mod nodes;
@@ -24,17 +28,22 @@ mod totals;
 use check::Check;
 
 fn main() {
-    let mut arguments = std::env::args().skip(1).map(|word| word.parse().expect("a number"));
-    let seed: u64 = arguments.next().unwrap_or(1);
-    let calls: u64 = arguments.next().unwrap_or(3_000_000);
-    let mut check = Check::new(seed);
-    edges::edges(&mut check);
-    rules::edges(&mut check);
+    let words: Vec<String> = std::env::args().skip(1).collect();
+    let number = |place: usize, default: u64| words.get(place).map_or(default, |word| word.parse().expect("a number"));
+    let mut check = Check::new(number(0, 1));
+    let calls = number(1, 10_000_000);
+    #[cfg(through_c)]
+    layout::compare();
+    if words.len() < 3 {
+        edges::edges(&mut check);
+        rules::edges(&mut check);
+    }
     while check.totals.calls < calls {
         let length = check.random.between(1, 2000);
         lists::list(&mut check, length);
-        for _ in 0..length {
+        for _ in 0..length / 8 {
             rules::random(&mut check);
+            any_node::any_node(&mut check);
         }
     }
     println!("{}", check.totals.line());

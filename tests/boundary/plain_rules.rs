@@ -250,23 +250,18 @@ fn finish_message(out: &mut [u8], hop_limit: u8, source: &Address, destination: 
     out[42..44].copy_from_slice(&(!sum).to_be_bytes());
 }
 
-/// The packet's source; bytes that a short packet has not are 0.
-fn source_of(packet: &[u8]) -> Address {
-    let mut source = [0; 16];
-    let there = packet.get(8..).unwrap_or(&[]);
-    source.iter_mut().zip(there).for_each(|(byte, &there)| *byte = there);
-    source
-}
-
-/// Writes the Packet Too Big that answers a packet and gives its length; 15.
+/// Writes the Packet Too Big that answers a packet and gives its length; 8 (under 40 bytes), 15.
 pub fn too_big(reporting: &Address, size: u16, packet: &[u8], out: &mut [u8]) -> Result<usize, Refusal> {
+    if packet.len() < INNER_HEADER {
+        return Err(Refusal::InnerMalformed);
+    }
     let quote = &packet[..packet.len().min(QUOTED)];
     let length = INNER_HEADER + 8 + quote.len();
     let out = out.get_mut(..length).ok_or(Refusal::Room)?;
     out[40..44].copy_from_slice(&[2, 0, 0, 0]);
     out[44..48].copy_from_slice(&u32::from(size).to_be_bytes());
     out[48..].copy_from_slice(quote);
-    finish_message(out, 64, reporting, &source_of(packet));
+    finish_message(out, 64, reporting, &address_at(packet, 8));
     Ok(length)
 }
 

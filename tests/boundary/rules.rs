@@ -62,7 +62,8 @@ pub fn random(check: &mut Check) {
         full[..12].fill(0);
     }
     stateless::bad_source(check, full);
-    let length = check.random.between(0, 200);
+    let long = check.random.once_in(2000);
+    let length = if long { check.random.between(65500, 65530) } else { check.random.between(0, 200) };
     let mut bytes = vec![0; length];
     check.random.fill(&mut bytes);
     let start = check.random.next() as u32;
@@ -72,11 +73,11 @@ pub fn random(check: &mut Check) {
     }
     stateless::checksum_right(check, &bytes);
     let outer = outer(check);
-    let room = (length + check.random.between(16, 24)).saturating_sub(1);
+    let room = length + check.random.between(15, 24);
     stateless::wrap(check, &outer, &bytes, room);
     let reporting = check.random.bytes();
     stateless::too_big(check, reporting, start as u16, &bytes, room + 28);
-    let router = crate::rules::address(check);
+    let router = self::address(check);
     stateless::solicitation(check, address, router, room);
 }
 

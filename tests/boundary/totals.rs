@@ -38,8 +38,9 @@ kinds! {
     ReadOuter "read_outer" [0, 2, 3, 4, 5];
     Unwrap "unwrap" [0, 2, 3, 4, 5, 8];
     Wrap "wrap" [0, 15, 23];
-    TooBig "too_big" [0, 15];
+    TooBig "too_big" [0, 8, 15];
     Solicitation "solicitation" [0, 15];
+    AnyNode "on any node" [0, 1, 11, 13, 14, 15, 17, 18, 19, 21, 22];
 }
 
 pub struct Totals {
