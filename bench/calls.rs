@@ -6,7 +6,8 @@ use crate::nodes::Nodes;
 use crate::packets::{address, advertisement, datagram, option, packet, put, put16, put32, repair_outer, size_report};
 use crate::plain::rules::link_local;
 use crate::plain::{Address, Locator, Settings};
-use crate::ways;
+use crate::ways::{self, Turn};
+use crate::{inside, lent_node};
 
 pub const INTERFACE: u8 = 1;
 pub const LOCATOR: usize = 0;
@@ -35,7 +36,7 @@ pub enum Call {
 
 /// One call, made with its inputs in turn.
 pub struct Work {
-    name: String,
+    pub name: String,
     pub call: Call,
     /// What every turn must give.
     number: u8,
@@ -46,6 +47,14 @@ pub struct Work {
     pub next_hop: Address,
     /// Seconds from turn to turn.
     pub step: u32,
+}
+
+impl Work {
+    /// What a turn is given.
+    pub fn turn<'a>(&'a self, turn: u32, out: &'a mut [u8]) -> Turn<'a> {
+        let (input, time) = (self.inputs[turn as usize % 4], START + turn * self.step);
+        Turn { input, next_hop: &self.next_hop, interface: INTERFACE, locator: LOCATOR, time, out }
+    }
 }
 
 /// A work whose four inputs have the same length.
@@ -188,13 +197,12 @@ fn hears(check: &mut Check) -> Vec<Work> {
 fn compare(check: &mut Check, work: &Work) {
     let mut nodes = Nodes { library: work.nodes.library, plain: work.nodes.plain };
     for turn in 0..256 {
-        let input = work.inputs[turn % 4];
-        let time = START + work.step * turn as u32;
+        let Turn { input, next_hop, interface, locator, time, .. } = work.turn(turn, &mut []);
         let number = match work.call {
-            Call::Receive => nodes.receive(check, input, INTERFACE),
-            Call::Send => nodes.send(check, input, work.next_hop, LOCATOR, time, ROOM),
+            Call::Receive => nodes.receive(check, input, interface),
+            Call::Send => nodes.send(check, input, *next_hop, locator, time, ROOM),
             Call::Report => nodes.report(check, input, time),
-            Call::Ask => nodes.ask(check, LOCATOR, time, ROOM),
+            Call::Ask => nodes.ask(check, locator, time, ROOM),
             Call::Hear => nodes.hear(check, input, time),
         };
         assert_eq!(number, work.number, "{}, turn {turn}", work.name);
@@ -210,7 +218,7 @@ pub fn rows(check: &mut Check) -> Vec<Row> {
     let row = |work: Work| {
         compare(check, &work);
         let work: &'static Work = Box::leak(Box::new(work));
-        let ways = [Some(ways::plain(work)), Some(ways::by_value(work)), None, None];
+        let ways = [Some(ways::plain(work)), Some(ways::by_value(work)), Some(inside::inside(work)), lent_node::lent(work)];
         Row { name: work.name.clone(), ways }
     };
     works.into_iter().map(row).collect()

@@ -5,6 +5,7 @@ use crate::calls::{Call, Work, INTERFACE, LOCATOR, ROOM, START};
 use crate::measure::Turns;
 use crate::nodes::number;
 use crate::plain::Sent;
+use crate::ways::Turn;
 use std::hint::black_box;
 
 // Each gives the sum of what its calls answer: a refused one its number, another its length, size or router.
@@ -73,15 +74,15 @@ fn plain_many(work: &Work, out: &mut [u8], count: u32) -> u64 {
     let mut node = work.nodes.plain;
     let mut sum = 0;
     for turn in 0..count {
-        let (input, time) = (work.inputs[turn as usize % 4], START + turn * work.step);
+        let Turn { input, next_hop, interface, locator, time, out } = work.turn(turn, out);
         let answer = match work.call {
-            Call::Receive => node.receive(input, INTERFACE).map(|part| part.len() as u64),
-            Call::Send => node.send(input, &work.next_hop, LOCATOR, time, out).map(|sent| match sent {
+            Call::Receive => node.receive(input, interface).map(|part| part.len() as u64),
+            Call::Send => node.send(input, next_hop, locator, time, out).map(|sent| match sent {
                 Sent::Wrapped { length } => length as u64,
                 Sent::TooBig { size, .. } => size.into(),
             }),
             Call::Report => node.report(input, time).map(|(_, size)| size.into()),
-            Call::Ask => node.ask(LOCATOR, time, out).map(u64::from),
+            Call::Ask => node.ask(locator, time, out).map(u64::from),
             Call::Hear => node.hear(input, time).map(u64::from),
         };
         sum += answer.unwrap_or_else(|_| number(&answer).into());

@@ -5,6 +5,8 @@
 //!     bench COUNTS     the table with the counts that callgrind wrote
 
 mod calls;
+mod inside;
+mod lent_node;
 mod measure;
 mod paths;
 mod rules;

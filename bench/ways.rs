@@ -8,17 +8,17 @@ use std::hint::black_box;
 use std::ops::Range;
 
 /// What one turn is given.
-struct Turn<'a> {
-    input: &'a [u8],
-    next_hop: &'a Address,
-    interface: u8,
-    locator: usize,
-    time: u32,
-    out: &'a mut [u8],
+pub struct Turn<'a> {
+    pub input: &'a [u8],
+    pub next_hop: &'a Address,
+    pub interface: u8,
+    pub locator: usize,
+    pub time: u32,
+    pub out: &'a mut [u8],
 }
 
 /// Turns of a call, each run from the same node and time, the inputs in turn.
-fn turns<N: Copy + 'static>(work: &'static Work, start: N, call: impl Fn(&mut N, Turn) + 'static) -> Turns {
+pub fn turns<N: Copy + 'static>(work: &'static Work, start: N, call: impl Fn(&mut N, Turn) + 'static) -> Turns {
     let mut out = vec![0; ROOM];
     Box::new(move |turns| {
         let (work, interface, locator) = black_box((work, INTERFACE, LOCATOR));
