@@ -180,8 +180,7 @@ fn hears(check: &mut Check) -> Vec<Work> {
     let mut works = Vec::new();
     for number in [0, 20, 21] {
         let nodes = nodes(check, 0);
-        let name =
-            if number == 0 { "advertisement".into() } else { format!("advertisement, refused by {number}") };
+        let name = if number == 0 { "advertisement".into() } else { format!("advertisement, refused by {number}") };
         works.push(work(name, Call::Hear, number, nodes, |turn| {
             let router = if number == 21 { OTHER + turn } else { ROUTERS[turn as usize] };
             let options = [option(&mut check.random, 3, 4, 3600), option(&mut check.random, 1, 1, 0)].concat();
@@ -218,7 +217,8 @@ pub fn rows(check: &mut Check) -> Vec<Row> {
     let row = |work: Work| {
         compare(check, &work);
         let work: &'static Work = Box::leak(Box::new(work));
-        let ways = [Some(ways::plain(work)), Some(ways::by_value(work)), Some(inside::inside(work)), lent_node::lent(work)];
+        let ways =
+            [Some(ways::plain(work)), Some(ways::by_value(work)), Some(inside::inside(work)), lent_node::lent(work)];
         Row { name: work.name.clone(), ways }
     };
     works.into_iter().map(row).collect()

@@ -10,7 +10,14 @@ use std::hint::black_box;
 
 // Each gives the sum of what its calls answer: a refused one its number, another its length, size or router.
 unsafe extern "C" {
-    fn bogtrumpet_receive_many(node: Node, all: *const u8, length: usize, size: usize, interface: u8, count: u32) -> u64;
+    fn bogtrumpet_receive_many(
+        node: Node,
+        all: *const u8,
+        length: usize,
+        size: usize,
+        interface: u8,
+        count: u32,
+    ) -> u64;
     fn bogtrumpet_send_many(
         node: Node,
         all: *const u8,
@@ -59,9 +66,7 @@ fn many(work: &Work, out: &mut [u8], count: u32) -> u64 {
     unsafe {
         match work.call {
             Call::Receive => bogtrumpet_receive_many(node, all, length, size, INTERFACE, count),
-            Call::Send => {
-                bogtrumpet_send_many(node, all, length, size, next_hop, LOCATOR, START, output, room, count)
-            }
+            Call::Send => bogtrumpet_send_many(node, all, length, size, next_hop, LOCATOR, START, output, room, count),
             Call::Report => bogtrumpet_report_many(node, all, length, size, START, step, count),
             Call::Ask => bogtrumpet_ask_many(node, LOCATOR, START, step, output, room, count),
             Call::Hear => bogtrumpet_hear_many(node, all, length, size, START, count),

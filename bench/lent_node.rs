@@ -52,8 +52,7 @@ type Answer = [usize; 3];
 
 // SAFETY: pointers and lengths are those of slices; so in all of these.
 fn receive(node: &mut Node, turn: Turn) -> Answer {
-    let received =
-        unsafe { bogtrumpet_receive_in(node, turn.input.as_ptr(), turn.input.len(), turn.interface) };
+    let received = unsafe { bogtrumpet_receive_in(node, turn.input.as_ptr(), turn.input.len(), turn.interface) };
     [received.number.into(), received.offset, received.length]
 }
 

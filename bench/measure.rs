@@ -12,7 +12,7 @@ pub struct Row {
     pub ways: [Option<Turns>; 4],
 }
 
-const WAYS: [&str; 4] = ["plain", "value", "inside", "lent"];
+const WAYS: [&str; 4] = ["Rust ns", "value ns", "inside ns", "lent ns"];
 /// Turns come in such lots: each of the inputs has come equally often after them.
 const LOT: u32 = 64;
 /// Turns of the shorter of a way's two counted runs.
@@ -80,7 +80,7 @@ pub fn print_table(rows: Vec<Row>, file: Option<&str>) {
         print!("| {:<28} |", row.name);
         for (place, time) in times.into_iter().enumerate() {
             let count = time.and_then(|_| counts.next());
-            print!(" {} | {} |", number(time, 6, 1), number(count, 6, 0));
+            print!(" {} | {} |", number(time, 9, 1), number(count, 6, 0));
             if place > 0 {
                 print!(" {} |", number(time.map(|time| time / plain), 5, 2));
             }
@@ -91,7 +91,8 @@ pub fn print_table(rows: Vec<Row>, file: Option<&str>) {
 
 fn print_heading() {
     let ratio = |place| if place > 0 { format!(" {:>5} |", "ratio") } else { String::new() };
-    let columns: String = (0..4).map(|place| format!(" {:>6} | {:>6} |{}", WAYS[place], "instr.", ratio(place))).collect();
+    let columns: String =
+        (0..4).map(|place| format!(" {:>9} | {:>6} |{}", WAYS[place], "instr.", ratio(place))).collect();
     println!("| {:<28} |{columns}", "");
     let rule = |c| if c == '|' { '|' } else { '-' };
     println!("|{:-<30}|{}", "", columns.chars().map(rule).collect::<String>().replace("-|", ":|"));

@@ -1,27 +1,18 @@
 //! The rows of the path table with 64 neighbours: lookups, and updates by accepted reports. Each takes and gives the table alone.
 
+use crate::bogtrumpet::Paths;
 use crate::measure::{Row, Turns};
 use crate::plain::{PathTable, Report, NEIGHBOURS};
 use crate::random::Random;
 use std::hint::black_box;
 
-/// The library's table: place by place whose report it is, its size and its time; the first `count` are in use.
-#[repr(C)]
-#[derive(Clone, Copy)]
-struct Table {
-    neighbours: [u32; NEIGHBOURS],
-    sizes: [u16; NEIGHBOURS],
-    times: [u32; NEIGHBOURS],
-    count: usize,
-}
-
 // The functions are total: any table and any numbers will do.
 unsafe extern "C" {
-    safe fn bogtrumpet_path_table() -> Table;
-    safe fn bogtrumpet_table_size(table: Table, link: u16, neighbour: u32, now: u32) -> u16;
-    safe fn bogtrumpet_path_accepted(table: Table, neighbour: u32, size: u16, now: u32) -> Table;
-    safe fn bogtrumpet_path_sizes(table: Table, link: u16, first: u32, count: u32, now: u32) -> u64;
-    safe fn bogtrumpet_path_accepted_many(table: Table, first: u32, count: u32, size: u16, now: u32) -> Table;
+    safe fn bogtrumpet_path_table() -> Paths;
+    safe fn bogtrumpet_table_size(table: Paths, link: u16, neighbour: u32, now: u32) -> u16;
+    safe fn bogtrumpet_path_accepted(table: Paths, neighbour: u32, size: u16, now: u32) -> Paths;
+    safe fn bogtrumpet_path_sizes(table: Paths, link: u16, first: u32, count: u32, now: u32) -> u64;
+    safe fn bogtrumpet_path_accepted_many(table: Paths, first: u32, count: u32, size: u16, now: u32) -> Paths;
 }
 
 const LINK: u16 = 1500;
@@ -42,14 +33,15 @@ fn plain_accept(table: &mut PathTable, neighbour: u32, size: u16, now: u32) {
     table.accept(Report { neighbour, size, time: now });
 }
 
-fn full() -> (PathTable, Table) {
+fn full() -> (PathTable, Paths) {
     let mut plain = PathTable::new();
     (KEPT..KEPT + COUNT).for_each(|neighbour| plain_accept(&mut plain, neighbour, SIZE, NOW));
     (plain, bogtrumpet_path_accepted_many(bogtrumpet_path_table(), KEPT, COUNT, SIZE, NOW))
 }
 
-fn same(plain: &PathTable, table: &Table) -> bool {
-    let report = |place| Report { neighbour: table.neighbours[place], size: table.sizes[place], time: table.times[place] };
+fn same(plain: &PathTable, table: &Paths) -> bool {
+    let report =
+        |place| Report { neighbour: table.neighbours[place], size: table.sizes[place], time: table.times[place] };
     plain.as_slice().iter().copied().eq((0..table.count).map(report))
 }
 
@@ -103,11 +95,10 @@ fn lookup(name: &str, first: u32) -> Row {
 /// Reports of neighbours that the table does not keep: each moves all rows.
 fn update() -> Row {
     let (plain, table) = full();
-    let by_reference =
-        turns((plain, OTHER), move |state, _| {
-            plain_accept(black_box(&mut state.0), state.1, SIZE, NOW);
-            state.1 += 1;
-        });
+    let by_reference = turns((plain, OTHER), move |state, _| {
+        plain_accept(black_box(&mut state.0), state.1, SIZE, NOW);
+        state.1 += 1;
+    });
     let by_value = turns((table, OTHER), move |state, _| {
         state.0 = bogtrumpet_path_accepted(*black_box(&state.0), state.1, SIZE, NOW);
         state.1 += 1;
