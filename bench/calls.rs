@@ -66,7 +66,7 @@ fn work(name: String, call: Call, number: u8, nodes: Nodes, input: impl FnMut(u3
 }
 
 /// A tunnel end with two locators, two prefixes and four routers, and `kept` neighbours in its path table.
-fn nodes(check: &mut Check, kept: u32) -> Nodes {
+pub fn nodes(check: &mut Check, kept: u32) -> Nodes {
     let mut settings = Settings { locator_count: 2, prefix_count: 2, router_count: 4, ..Settings::default() };
     settings.locators[0] = Locator { address: OWN, interface: INTERFACE };
     settings.locators[1] = Locator { address: OWN + 1, interface: INTERFACE + 1 };

@@ -5,6 +5,7 @@
 use crate::bogtrumpet::{Address, Node, Received};
 use crate::calls::{Call, Work, ROOM, START};
 use crate::measure::Turns;
+use crate::paths;
 use crate::ways::{turns, Turn};
 use std::hint::black_box;
 
@@ -142,4 +143,21 @@ pub fn lent(work: &'static Work) -> Option<Turns> {
         #[allow(unreachable_patterns)]
         _ => None,
     }
+}
+
+/// The sizes toward the neighbours that `first` begins, place by place.
+pub fn path_sizes(start: Node, first: u32) -> Option<Turns> {
+    #[cfg(lent = "path_size")]
+    {
+        for neighbour in first..first + 64 {
+            assert_eq!(
+                bogtrumpet_path_size_in(&start, neighbour),
+                start.path_size(neighbour),
+                "{neighbour}: {start:?}"
+            );
+        }
+        return paths::turns(start, move |node, place| _ = black_box(bogtrumpet_path_size_in(node, first + place)));
+    }
+    #[allow(unreachable_code)]
+    None
 }

@@ -3,6 +3,7 @@
 //!     bench            the table of times
 //!     bench --count    each way's turns, for callgrind to count
 //!     bench COUNTS     the table with the counts that callgrind wrote
+//!     bench --moves    the table of bytes moved, if built with moves.c
 
 mod calls;
 mod inside;
@@ -41,10 +42,12 @@ fn main() {
     let argument = std::env::args().nth(1);
     let mut check = check::Check::new(5214);
     let mut rows = rules::rows(&mut check.random);
-    rows.extend(paths::rows(&mut check.random));
+    rows.extend(paths::rows(&mut check));
     rows.extend(calls::rows(&mut check));
     match argument.as_deref() {
         Some("--count") => measure::count(rows),
+        #[cfg(moves)]
+        Some("--moves") => measure::print_moves(rows),
         counts => measure::print_table(rows, counts),
     }
 }

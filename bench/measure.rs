@@ -12,7 +12,7 @@ pub struct Row {
     pub ways: [Option<Turns>; 4],
 }
 
-const WAYS: [&str; 4] = ["Rust ns", "value ns", "inside ns", "lent ns"];
+const WAYS: [&str; 4] = ["Rust", "value", "inside", "lent"];
 /// Turns come in such lots: each of the inputs has come equally often after them.
 const LOT: u32 = 64;
 /// Turns of the shorter of a way's two counted runs.
@@ -71,6 +71,28 @@ fn times(row: &mut Row) -> [Option<f64>; 4] {
     best.map(|best| (best < f64::MAX).then_some(best))
 }
 
+/// Bytes that memcpy and memmove move in one turn of each way.
+#[cfg(moves)]
+pub fn print_moves(rows: Vec<Row>) {
+    unsafe extern "C" {
+        safe fn bench_moved() -> u64;
+    }
+    let moved = |way: &mut Turns, turns: u32| {
+        let before = bench_moved();
+        way(turns);
+        (bench_moved() - before) as f64
+    };
+    println!("| {:<28} |{}", "bytes moved", WAYS.map(|way| format!(" {way:>6} |")).concat());
+    println!("|{:-<30}|{}", "", "-------:|".repeat(4));
+    for row in rows {
+        let ways = row.ways.map(|way| {
+            let one = way.map(|mut way| (moved(&mut way, 2 * COUNTED) - moved(&mut way, COUNTED)) / f64::from(COUNTED));
+            format!(" {} |", number(one, 6, 0))
+        });
+        println!("| {:<28} |{}", row.name, ways.concat());
+    }
+}
+
 pub fn print_table(rows: Vec<Row>, file: Option<&str>) {
     let mut counts = file.map(counts).unwrap_or_default().into_iter();
     print_heading();
@@ -92,7 +114,7 @@ pub fn print_table(rows: Vec<Row>, file: Option<&str>) {
 fn print_heading() {
     let ratio = |place| if place > 0 { format!(" {:>5} |", "ratio") } else { String::new() };
     let columns: String =
-        (0..4).map(|place| format!(" {:>9} | {:>6} |{}", WAYS[place], "instr.", ratio(place))).collect();
+        (0..4).map(|place| format!(" {:>6} ns | {:>6} |{}", WAYS[place], "instr.", ratio(place))).collect();
     println!("| {:<28} |{columns}", "");
     let rule = |c| if c == '|' { '|' } else { '-' };
     println!("|{:-<30}|{}", "", columns.chars().map(rule).collect::<String>().replace("-|", ":|"));

@@ -1,9 +1,11 @@
 //! The rows of the path table with 64 neighbours: lookups, and updates by accepted reports. Each takes and gives the table alone.
 
-use crate::bogtrumpet::Paths;
+use crate::bogtrumpet::{Node, Paths};
+use crate::check::Check;
 use crate::measure::{Row, Turns};
 use crate::plain::{PathTable, Report, NEIGHBOURS};
 use crate::random::Random;
+use crate::{calls, lent_node};
 use std::hint::black_box;
 
 // The functions are total: any table and any numbers will do.
@@ -66,7 +68,7 @@ fn compare(random: &mut Random) {
 }
 
 /// Turns of a lookup or an update, which is given a number of its own in each of every 64 turns.
-fn turns<T: Copy + 'static>(start: T, one: impl Fn(&mut T, u32) + 'static) -> Option<Turns> {
+pub fn turns<T: Copy + 'static>(start: T, one: impl Fn(&mut T, u32) + 'static) -> Option<Turns> {
     Some(Box::new(move |turns| {
         let mut table = start;
         for turn in 0..turns {
@@ -77,8 +79,9 @@ fn turns<T: Copy + 'static>(start: T, one: impl Fn(&mut T, u32) + 'static) -> Op
 }
 
 /// The sizes toward 64 neighbours in turn.
-fn lookup(name: &str, first: u32) -> Row {
+fn lookup(name: &str, mut node: Node, first: u32) -> Row {
     let (plain, table) = full();
+    (node.paths, node.latest, node.service.settings.link_size) = (table, NOW, LINK);
     let by_reference =
         turns(plain, move |table, place| _ = black_box(plain_size(black_box(table), LINK, first + place, NOW)));
     let by_value = turns(table, move |table, place| {
@@ -89,7 +92,7 @@ fn lookup(name: &str, first: u32) -> Row {
             black_box(bogtrumpet_path_sizes(*black_box(&table), LINK, first, COUNT, NOW));
         }
     });
-    Row { name: name.into(), ways: [by_reference, by_value, Some(inside), None] }
+    Row { name: name.into(), ways: [by_reference, by_value, Some(inside), lent_node::path_sizes(node, first)] }
 }
 
 /// Reports of neighbours that the table does not keep: each moves all rows.
@@ -109,7 +112,8 @@ fn update() -> Row {
     Row { name: "path update".into(), ways: [by_reference, by_value, Some(inside), None] }
 }
 
-pub fn rows(random: &mut Random) -> Vec<Row> {
-    compare(random);
-    vec![lookup("path lookup, found", KEPT), lookup("path lookup, not found", OTHER), update()]
+pub fn rows(check: &mut Check) -> Vec<Row> {
+    compare(&mut check.random);
+    let node = calls::nodes(check, 0).library;
+    vec![lookup("path lookup, found", node, KEPT), lookup("path lookup, not found", node, OTHER), update()]
 }
