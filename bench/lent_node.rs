@@ -1,6 +1,6 @@
 //! The library across the C boundary over a lent node: a pointer to it goes over, and it is changed in place. A function that the
 //! library does not have yet has no way here.
-#![allow(dead_code, unused_imports)]
+#![allow(dead_code, unused_imports, unused_variables)]
 
 use crate::bogtrumpet::{Address, Node, Received};
 use crate::calls::{Call, Work, ROOM, START};
