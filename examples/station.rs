@@ -1,7 +1,6 @@
 //! Two tunnel ends in one program: the centre wraps a packet, the station unwraps it, and the centre takes a size report and
 //! asks its router. examples/run builds it and compares what it prints with examples/station.txt.
 
-#[allow(dead_code)]
 #[path = "../rust/bogtrumpet.rs"]
 mod bogtrumpet;
 

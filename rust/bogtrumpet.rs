@@ -10,6 +10,8 @@
 //!
 //! The functions are safe: the library takes any values and any bytes, and the slices lend exactly what it may read and write.
 
+#![allow(dead_code)] // A program takes what it needs.
+
 /// An IPv6 address.
 #[repr(C)]
 #[derive(Clone, Copy, Debug, PartialEq, Eq)]

@@ -1,65 +1,73 @@
-//! Nodes of any bytes, as a caller in C can hand them over: no call goes wrong on one. What holds of every node is checked: an answer is
-//! one of the call's numbers, a refusal leaves the output alone and changes the latest time only, and a part lies in the datagram.
+//! Nodes of any bytes, as a caller in C can hand them over: no call goes wrong on one. What holds of every node is checked: an answer
+//! is one of the call's numbers, a refusal leaves the output alone and changes the latest time only, a part lies in the datagram.
 
-use crate::bogtrumpet::{Addresses, Node, Settings};
+use crate::bogtrumpet::{Address, Addresses, Node};
 use crate::check::{hex, same, Check};
 use crate::packets;
 use crate::totals::Call;
 
-/// Some calls on one such node.
+/// Every call on one such node, with bytes that suit its first locator and router.
 pub fn any_node(check: &mut Check) {
     let node = node(check);
-    let source = packets::address(&[0xfe, 0x80, 0, 0, 0, 0, 0, 0], 0, node.service.routers.routers[0].address);
-    let length = check.random.one_of(&[40, 60, 100, 1280, 1281, 1500]);
-    let packet = packets::packet(&mut check.random, length, 58, &source);
-    let locator = node.service.settings.locators[0];
-    let ends = (node.service.routers.routers[0].address, locator.address);
-    let datagram = packets::datagram(&mut check.random, ends, 0, &packet, 3);
-    let size = check.random.next() as u16;
-    let message = packets::size_report(&mut check.random, size, 1500, (locator.address, ends.0), 0, 8);
-    let advertisement = packets::advertisement(&mut check.random, &source, 1800, &[]);
+    let (locator, router) = (node.service.settings.locators[0], node.service.routers.routers[0].address);
     let time = check.random.next() as u32;
     let number = check.random.one_of(&[0, 7, 8, usize::MAX]);
-    let call = || format!("on {node:?}: {} {} {time} {number}", hex(&datagram), hex(&message));
+    let source = packets::address(&[0xfe, 0x80, 0, 0, 0, 0, 0, 0], 0, router);
+    let length = check.random.one_of(&[40, 60, 100, 1280, 1281, 1500]);
+    let packet = packets::packet(&mut check.random, length, 58, &source);
 
+    let datagram = packets::datagram(&mut check.random, (router, locator.address), 0, &packet, 3);
     let received = node.receive(check.lend_input(&datagram), locator.interface);
-    same("part in the datagram", &true, &(received.offset + received.length <= datagram.len()), &call);
-    same("an answer of receiving", &true, &(received.number <= 10 && received.number != 1), &call);
-    check.totals.count(Call::AnyNode, 0);
+    let call = || format!("receive {} on {node:?}", hex(&datagram));
+    let end = received.offset + received.length;
+    same("part in the datagram", &true, &(end <= datagram.len()), &call);
+    count(check, received.number, &[0, 2, 3, 4, 5, 6, 7, 8, 9, 10], &call);
 
-    let room = check.random.one_of(&[0, 79, 80, 1279, 1280, 1600]);
-    let loan = check.lend(&packet, room);
-    let hop = crate::bogtrumpet::Address { bytes: source };
-    let sent = node.send(loan.input, hop, number, time, loan.library);
-    if !matches!(sent.number, 0 | 14) {
-        loan.same_output(&call);
-    }
-    same("an answer of sending", &true, &[0, 8, 11, 12, 13, 14, 15, 23].contains(&sent.number), &call);
-    same("length in the room", &true, &(sent.length <= room), &call);
-    refused(check, sent.number, &node, &sent.node, time, &call);
+    writing(check, &node, &packet, Address { bytes: source }, number, time);
 
+    let size = check.random.next() as u16;
+    let message = packets::size_report(&mut check.random, size, 1500, (locator.address, router), 0, 8);
     let reported = node.report(check.lend_input(&message), time);
-    same("an answer to a report", &true, &[0, 16, 17, 18, 19].contains(&reported.number), &call);
-    refused(check, reported.number, &node, &reported.node, time, &call);
+    let call = || format!("report {} time {time} on {node:?}", hex(&message));
+    refused(reported.number, &node, &reported.node, time, &call);
+    count(check, reported.number, &[0, 16, 17, 18, 19], &call);
 
+    let advertisement = packets::advertisement(&mut check.random, &source, 1800, &[]);
     let heard = node.hear(check.lend_input(&advertisement), time);
-    same("an answer to an advertisement", &true, &[0, 8, 20, 21].contains(&heard.number), &call);
-    refused(check, heard.number, &node, &heard.node, time, &call);
-
-    let loan = check.lend(&[], room);
-    let asked = node.ask(number, time, loan.library);
-    if asked.number != 0 {
-        loan.same_output(&call);
-    }
-    same("an answer of asking", &true, &[0, 11, 22, 15].contains(&asked.number), &call);
-    refused(check, asked.number, &node, &asked.node, time, &call);
+    let call = || format!("hear {} time {time} on {node:?}", hex(&advertisement));
+    refused(heard.number, &node, &heard.node, time, &call);
+    count(check, heard.number, &[0, 8, 20, 21], &call);
 
     let list = Addresses { routers: node.service.settings.routers, count: number };
     let replaced = node.replace_routers(list, time);
-    same("an answer to a list", &true, &(replaced.number <= 1), &call);
-    refused(check, replaced.number, &node, &replaced.node, time, &call);
-    node.path_size(ends.0);
+    let call = || format!("replace_routers {list:?} time {time} on {node:?}");
+    refused(replaced.number, &node, &replaced.node, time, &call);
+    count(check, replaced.number, &[0, 1], &call);
+    node.path_size(router);
     check.totals.count(Call::AnyNode, 0);
+}
+
+/// Sending and asking.
+fn writing(check: &mut Check, node: &Node, packet: &[u8], next_hop: Address, locator: usize, time: u32) {
+    let room = check.random.one_of(&[0, 47, 48, 79, 80, 1279, 1280, 1600]);
+    let loan = check.lend(packet, room);
+    let sent = node.send(loan.input, next_hop, locator, time, loan.library);
+    let call = || format!("send {} locator {locator} time {time} room {room} on {node:?}", hex(packet));
+    if !matches!(sent.number, 0 | 14) {
+        loan.same_output(&call);
+    }
+    same("length in the room", &true, &(sent.length <= room), &call);
+    refused(sent.number, node, &sent.node, time, &call);
+    count(check, sent.number, &[0, 8, 11, 12, 13, 14, 15, 23], &call);
+
+    let loan = check.lend(&[], room);
+    let asked = node.ask(locator, time, loan.library);
+    let call = || format!("ask locator {locator} time {time} room {room} on {node:?}");
+    if asked.number != 0 {
+        loan.same_output(&call);
+    }
+    refused(asked.number, node, &asked.node, time, &call);
+    count(check, asked.number, &[0, 11, 22, 15], &call);
 }
 
 /// A node with random bytes and counts in every field.
@@ -69,7 +77,7 @@ fn node(check: &mut Check) -> Node {
     // SAFETY: every field is a number, so any bytes are a node.
     let mut node: Node = unsafe { std::mem::transmute(bytes) };
     let counts = [0, 1, 8, 9, 16, 17, 64, 65, 1 << 32, usize::MAX, usize::MAX / 8 + 1];
-    let settings: &mut Settings = &mut node.service.settings;
+    let settings = &mut node.service.settings;
     settings.locator_count = check.random.one_of(&counts);
     settings.prefix_count = check.random.one_of(&counts);
     settings.router_count = check.random.one_of(&counts);
@@ -80,10 +88,14 @@ fn node(check: &mut Check) -> Node {
     node
 }
 
-fn refused(check: &mut Check, number: u8, before: &Node, after: &Node, time: u32, call: &dyn Fn() -> String) {
+fn refused(number: u8, before: &Node, after: &Node, time: u32, call: &dyn Fn() -> String) {
     if number != 0 {
         let raised = Node { latest: before.latest.max(time), ..*before };
         same("node after a refusal", &raised, after, call);
     }
+}
+
+fn count(check: &mut Check, number: u8, numbers: &[u8], call: &dyn Fn() -> String) {
+    same("a number of the call", &true, &numbers.contains(&number), call);
     check.totals.count(Call::AnyNode, number.into());
 }

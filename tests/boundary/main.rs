@@ -3,11 +3,10 @@
 //!
 //!     boundary [SEED [CALLS [lists]]]
 //!
-//! `lists` leaves the edges out, for a short run. One line of totals, or the first difference and status 1. Status 1 too if an
-//! answer that can come was never met.
+//! `lists` leaves the edges out. One line of totals, or the first difference and status 1. Status 1 too if a run of a million calls
+//! or more never met an answer that can come.
 
 mod any_node;
-#[allow(dead_code)]
 #[path = "../../rust/bogtrumpet.rs"]
 mod bogtrumpet;
 mod check;
@@ -48,7 +47,7 @@ fn main() {
     }
     println!("{}", check.totals.line());
     let missing = check.totals.missing();
-    if !missing.is_empty() {
+    if calls >= 1_000_000 && !missing.is_empty() {
         println!("never met: {}", missing.join(", "));
         std::process::exit(1);
     }
