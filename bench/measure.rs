@@ -17,8 +17,10 @@ const WAYS: [&str; 4] = ["Rust", "value", "inside", "lent"];
 const LOT: u32 = 64;
 /// Turns of the shorter of a way's two counted runs.
 const COUNTED: u32 = 4 * LOT;
-const ROUNDS: u32 = 60;
-const ROUND_NANOSECONDS: f64 = 1e6;
+/// Every row is measured in each pass, so that a time in which the machine is busy does not hit one row alone.
+const PASSES: u32 = 16;
+const ROUNDS: u32 = 10;
+const ROUND_NANOSECONDS: f64 = 5e5;
 
 /// What callgrind counts: it dumps its count, and starts again, after each call.
 #[no_mangle]
@@ -55,12 +57,11 @@ fn time(way: &mut Turns, turns: u32) -> f64 {
 }
 
 /// The best of many short rounds of each way, the ways in turn: the machine does other work too.
-fn times(row: &mut Row) -> [Option<f64>; 4] {
+fn improve(row: &mut Row, best: &mut [f64; 4]) {
     let turns = row.ways.each_mut().map(|way| {
         let lots = way.as_mut().map_or(0.0, |way| ROUND_NANOSECONDS / (time(way, LOT) * f64::from(LOT)));
         (lots as u32 + 1) * LOT
     });
-    let mut best = [f64::MAX; 4];
     for _ in 0..ROUNDS {
         for (place, way) in row.ways.iter_mut().enumerate() {
             if let Some(way) = way {
@@ -68,7 +69,17 @@ fn times(row: &mut Row) -> [Option<f64>; 4] {
             }
         }
     }
-    best.map(|best| (best < f64::MAX).then_some(best))
+}
+
+/// Does the work so much deeper in the stack: a copy takes twice as long where its two ends lie unluckily, a multiple of
+/// 4,096 bytes apart, so each pass has them elsewhere.
+fn deeper(steps: u32, work: &mut dyn FnMut()) {
+    if steps == 0 {
+        return work();
+    }
+    black_box([0u8; 240]);
+    deeper(steps - 1, work);
+    black_box(());
 }
 
 /// Bytes that memcpy and memmove move in one turn of each way.
@@ -93,18 +104,21 @@ pub fn print_moves(rows: Vec<Row>) {
     }
 }
 
-pub fn print_table(rows: Vec<Row>, file: Option<&str>) {
+pub fn print_table(mut rows: Vec<Row>, file: Option<&str>) {
     let mut counts = file.map(counts).unwrap_or_default().into_iter();
+    let mut times = vec![[f64::MAX; 4]; rows.len()];
+    for pass in 0..PASSES {
+        deeper(pass, &mut || rows.iter_mut().zip(&mut times).for_each(|(row, best)| improve(row, best)));
+    }
     print_heading();
-    for mut row in rows {
-        let times = times(&mut row);
-        let plain = times[0].expect("plain Rust");
+    for (row, times) in rows.iter().zip(times) {
         print!("| {:<28} |", row.name);
-        for (place, time) in times.into_iter().enumerate() {
+        for place in 0..4 {
+            let time = row.ways[place].as_ref().map(|_| times[place]);
             let count = time.and_then(|_| counts.next());
             print!(" {} | {} |", number(time, 9, 1), number(count, 6, 0));
             if place > 0 {
-                print!(" {} |", number(time.map(|time| time / plain), 5, 2));
+                print!(" {} |", number(time.map(|time| time / times[0]), 5, 2));
             }
         }
         println!();
