@@ -11,6 +11,7 @@ mod lent_node;
 mod measure;
 mod paths;
 mod rules;
+mod table;
 mod ways;
 
 #[allow(dead_code)]
@@ -47,7 +48,12 @@ fn main() {
     match argument.as_deref() {
         Some("--count") => measure::count(rows),
         #[cfg(moves)]
-        Some("--moves") => measure::print_moves(rows),
-        counts => measure::print_table(rows, counts),
+        Some("--moves") => table::print_moves(&measure::moved(rows)),
+        counts => {
+            let rows = measure::measured(rows, counts);
+            table::print_rows(&rows);
+            println!();
+            table::print_goals(&rows);
+        }
     }
 }

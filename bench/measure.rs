@@ -1,4 +1,4 @@
-//! Times and instruction counts of rows, and the table.
+//! Times, instruction counts and bytes moved of each way to do a row's work.
 
 use std::hint::black_box;
 use std::time::Instant;
@@ -12,7 +12,15 @@ pub struct Row {
     pub ways: [Option<Turns>; 4],
 }
 
-const WAYS: [&str; 4] = ["Rust", "value", "inside", "lent"];
+pub const WAYS: [&str; 4] = ["Rust", "value", "inside", "lent"];
+
+/// What was measured of one turn, way by way.
+pub struct Measured {
+    pub name: String,
+    pub times: [Option<f64>; 4],
+    pub counts: [Option<f64>; 4],
+}
+
 /// Turns come in such lots: each of the inputs has come equally often after them.
 const LOT: u32 = 64;
 /// Turns of the shorter of a way's two counted runs.
@@ -82,9 +90,24 @@ fn deeper(steps: u32, work: &mut dyn FnMut()) {
     black_box(());
 }
 
+/// Times of all rows, and the instructions counted in the file, if there is one.
+pub fn measured(mut rows: Vec<Row>, file: Option<&str>) -> Vec<Measured> {
+    let mut times = vec![[f64::MAX; 4]; rows.len()];
+    for pass in 0..PASSES {
+        deeper(pass, &mut || rows.iter_mut().zip(&mut times).for_each(|(row, best)| improve(row, best)));
+    }
+    let mut counts = file.map(counts).unwrap_or_default().into_iter();
+    let measured = |(row, times): (Row, [f64; 4])| Measured {
+        name: row.name,
+        times: times.map(|time| (time < f64::MAX).then_some(time)),
+        counts: row.ways.map(|way| way.and_then(|_| counts.next())),
+    };
+    rows.into_iter().zip(times).map(measured).collect()
+}
+
 /// Bytes that memcpy and memmove move in one turn of each way.
 #[cfg(moves)]
-pub fn print_moves(rows: Vec<Row>) {
+pub fn moved(rows: Vec<Row>) -> Vec<(String, [Option<f64>; 4])> {
     unsafe extern "C" {
         safe fn bench_moved() -> u64;
     }
@@ -93,48 +116,6 @@ pub fn print_moves(rows: Vec<Row>) {
         way(turns);
         (bench_moved() - before) as f64
     };
-    println!("| {:<28} |{}", "bytes moved", WAYS.map(|way| format!(" {way:>6} |")).concat());
-    println!("|{:-<30}|{}", "", "-------:|".repeat(4));
-    for row in rows {
-        let ways = row.ways.map(|way| {
-            let one = way.map(|mut way| (moved(&mut way, 2 * COUNTED) - moved(&mut way, COUNTED)) / f64::from(COUNTED));
-            format!(" {} |", number(one, 6, 0))
-        });
-        println!("| {:<28} |{}", row.name, ways.concat());
-    }
-}
-
-pub fn print_table(mut rows: Vec<Row>, file: Option<&str>) {
-    let mut counts = file.map(counts).unwrap_or_default().into_iter();
-    let mut times = vec![[f64::MAX; 4]; rows.len()];
-    for pass in 0..PASSES {
-        deeper(pass, &mut || rows.iter_mut().zip(&mut times).for_each(|(row, best)| improve(row, best)));
-    }
-    print_heading();
-    for (row, times) in rows.iter().zip(times) {
-        print!("| {:<28} |", row.name);
-        for place in 0..4 {
-            let time = row.ways[place].as_ref().map(|_| times[place]);
-            let count = time.and_then(|_| counts.next());
-            print!(" {} | {} |", number(time, 9, 1), number(count, 6, 0));
-            if place > 0 {
-                print!(" {} |", number(time.map(|time| time / times[0]), 5, 2));
-            }
-        }
-        println!();
-    }
-}
-
-fn print_heading() {
-    let ratio = |place| if place > 0 { format!(" {:>5} |", "ratio") } else { String::new() };
-    let columns: String =
-        (0..4).map(|place| format!(" {:>6} ns | {:>6} |{}", WAYS[place], "instr.", ratio(place))).collect();
-    println!("| {:<28} |{columns}", "");
-    let rule = |c| if c == '|' { '|' } else { '-' };
-    println!("|{:-<30}|{}", "", columns.chars().map(rule).collect::<String>().replace("-|", ":|"));
-}
-
-/// The number with so many decimals, or a dash.
-fn number(number: Option<f64>, width: usize, decimals: usize) -> String {
-    number.map_or_else(|| format!("{:>width$}", "-"), |number| format!("{number:>width$.decimals$}"))
+    let one = |mut way: Turns| (moved(&mut way, 2 * COUNTED) - moved(&mut way, COUNTED)) / f64::from(COUNTED);
+    rows.into_iter().map(|row| (row.name, row.ways.map(|way| way.map(one)))).collect()
 }
