@@ -14,11 +14,11 @@ returns-2 c = simp (← c .before .before .before .before .before .before .inner
 
 returns-3 : tie.Need-returns-3
 unfolding innerCheck
-returns-3 c = let s = c .before .before in simp (← s .before .before .before .before .before .before .inner-malformed .ensures, s .before .before .before .before .before .if1 .left, ← s .before .before .before .last-quad .ensures, ← s .before .before .forbidden-to .ensures, ← s .before .bad-source-with .ensures, s .if2 .left, ← c .before .embeds-it .ensures, c .if3 .taken)
+returns-3 c = let s = c .before .before in simp (← s .before .before .before .before .before .before .inner-malformed .ensures, s .before .before .before .before .before .if1 .left, ← s .before .before .before .last-quad .ensures, ← s .before .before .forbidden-to .ensures, ← s .before .bad-source-with .ensures, s .if2 .left, ← c .before .source-right .ensures, c .if3 .taken)
 
 returns-4 : tie.Need-returns-4
 unfolding innerCheck
-returns-4 c = let s = c .before .before in simp (← s .before .before .before .before .before .before .inner-malformed .ensures, s .before .before .before .before .before .if1 .left, ← s .before .before .before .last-quad .ensures, ← s .before .before .forbidden-to .ensures, ← s .before .bad-source-with .ensures, s .if2 .left, ← c .before .embeds-it .ensures, c .if3 .left)
+returns-4 c = let s = c .before .before in simp (← s .before .before .before .before .before .before .inner-malformed .ensures, s .before .before .before .before .before .if1 .left, ← s .before .before .before .last-quad .ensures, ← s .before .before .forbidden-to .ensures, ← s .before .bad-source-with .ensures, s .if2 .left, ← c .before .source-right .ensures, c .if3 .left)
 
 pub check-inner-spec : {M : Type 1} → statement M
 check-inner-spec =
