@@ -16,6 +16,7 @@ ghost use Prim.Native.Nat.{max};
 ghost use Rattle.node.specs.Node.{noSettings, nodeOf, setupGiven, setupOf, raisedTo, sizeAt, sizeOf};
 
 // What one service of a node owns.
+#[repr(C)]
 pub struct Service {
     pub settings: Settings,
     pub routers: RouterList,
@@ -23,6 +24,7 @@ pub struct Service {
     pub identification: u16,
 }
 
+#[repr(C)]
 pub struct Node {
     pub service: Service,
     pub paths: PathTable,

@@ -9,11 +9,13 @@ ghost use Rattle.routers.specs.Routers.{places, live, listed, earlier, i
 pub const PLACES: usize = 16;
 
 // A router and its due time: an exact second, which may lie past the last one of 32 bits.
+#[repr(C)]
 pub struct Router {
     pub address: u32,
     pub due: u64,
 }
 
+#[repr(C)]
 pub struct RouterList {
     pub routers: [Router; PLACES],
     pub count: usize,

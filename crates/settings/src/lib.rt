@@ -7,6 +7,8 @@ ghost use lib.ListN.{take};
 ghost use Rattle.lists.specs.Any.{anyOf};
 ghost use Rattle.settings.specs.Settings.{defaultsFor, forbiddenTo, isOurs, isOurLocator, isBadEnd, embeddedTo, areLocatorsRight, areNumbersRight, areRoutersRight, isAccepted, isForbiddenLocator};
 
+// Laid out as in C, as all that a node holds is.
+#[repr(C)]
 pub struct Settings {
     pub locators: [Locator; 8],
     pub locator_count: usize,
@@ -97,7 +99,7 @@ impl Settings {
         ensures { λ r. ⌜ r ≡ embeddedTo self a ⌝ }
     {
         let flat = self.prefixes;
-        address::isatap(locators::rows(flat), self.prefix_count, a)
+        address::isatap(address::prefixes::rows(flat), self.prefix_count, a)
     }
 
     fn some_locator_forbidden(self) -> bool

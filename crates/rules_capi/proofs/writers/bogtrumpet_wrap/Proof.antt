@@ -1,7 +1,7 @@
--- `rules_capi::bogtrumpet_wrap` meets its contract: the answer of the call as a number, and its output. Assumes nothing.
+-- `rules_capi::writers::bogtrumpet_wrap` meets its contract: the answer of the call as a number, and its output. Assumes nothing.
 use native.Mathlib.Omega.{arith}
-use Rattle.rules_capi.proofs.bogtrumpet_wrap.Statement.{statement}
-use Rattle.rules_capi.proofs.bogtrumpet_wrap.Tie as tie
+use Rattle.rules_capi.proofs.writers.bogtrumpet_wrap.Statement.{statement}
+use Rattle.rules_capi.proofs.writers.bogtrumpet_wrap.Tie as tie
 
 returns : tie.Need-returns
 returns c = let w = c .before .before .before .wrap .ensures in (rw (c .length-or-zero .ensures, w .0), w .1)

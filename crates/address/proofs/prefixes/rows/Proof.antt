@@ -1,8 +1,8 @@
--- `settings::locators::rows` meets its contract: each row is read at its place. Assumes nothing.
+-- `address::prefixes::rows` meets its contract: each row is read at its place. Assumes nothing.
 use native.Mathlib.Omega.{arith}
-use Rattle.settings.specs.Locators.{rowsOf}
-use Rattle.settings.proofs.locators.rows.Statement.{statement}
-use Rattle.settings.proofs.locators.rows.Tie as tie
+use Rattle.address.specs.Prefixes.{rowsOf}
+use Rattle.address.proofs.prefixes.rows.Statement.{statement}
+use Rattle.address.proofs.prefixes.rows.Tie as tie
 
 returns : tie.Need-returns
 unfolding rowsOf
