@@ -38,7 +38,8 @@ pub fn tail(d: &[u8], k: usize) -> &[u8]
     &d[start..]
 }
 
-fn pair(a: u8, b: u8) -> u16
+// Two bytes as a number, the first the higher.
+pub fn pair(a: u8, b: u8) -> u16
     ensures { λ r. ⌜ r ≡ a * 256 + b ⌝ }
 {
     (a as u16) * 256 + (b as u16)

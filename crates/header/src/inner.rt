@@ -1,7 +1,9 @@
 // The inner IPv6 header, read and judged.
 use crate::fields;
 ghost use mathlib.Core.Path.{_≡_};
+ghost use Prim.Native.Nat.{_≤_};
 ghost use lib.ListN.{length};
+ghost use Rattle.header.specs.Fields.{addressAt};
 ghost use Rattle.header.specs.Inner.{innerOf, isInnerMalformed, isPacketMalformed, innerPacketOf, mayDrawError};
 
 // The fields of an IPv6 header.
@@ -17,18 +19,61 @@ pub struct Inner {
 pub fn inner_header(p: &[u8]) -> Inner
     ensures { λ r. ⌜ r ≡ innerOf (now (p .entry)) ⌝ }
 {
-    let first = fields::byte(p, 0);
-    let payload = fields::word(p, 4);
-    let next = fields::byte(p, 6);
-    let hop = fields::byte(p, 7);
-    let source = fields::address(p, 8);
+    if p.len() < 40 {
+        short_header(p)
+    } else {
+        full_header(p)
+    }
+}
+
+// One test of the length stands for all of its reads.
+fn full_header(p: &[u8]) -> Inner
+    requires { ⌜ 40 ≤ length (now p) ⌝ }
+    ensures { λ r. ⌜ r ≡ innerOf (now (p .entry)) ⌝ }
+{
+    let payload = fields::pair(p[4], p[5]);
+    let source = source(p);
     Inner {
-        version: first / 16,
+        version: p[0] / 16,
         length: 40 + payload as usize,
-        next,
-        hop,
+        next: p[6],
+        hop: p[7],
         source,
     }
+}
+
+fn source(p: &[u8]) -> [u8; 16]
+    requires { ⌜ 40 ≤ length (now p) ⌝ }
+    ensures { λ r. ⌜ r ≡ addressAt (now (p .entry)) 8 ⌝ }
+{
+    [
+        p[8],
+        p[9],
+        p[10],
+        p[11],
+        p[12],
+        p[13],
+        p[14],
+        p[15],
+        p[16],
+        p[17],
+        p[18],
+        p[19],
+        p[20],
+        p[21],
+        p[22],
+        p[23],
+    ]
+}
+
+// What is not there reads as 0. The compiler sees that a header under 40 bytes is refused whatever its fields are.
+fn short_header(p: &[u8]) -> Inner
+    requires { ⌜ length (now p) ≤ 40 ⌝ }
+    ensures { λ r. ⌜ r ≡ innerOf (now (p .entry)) ⌝ }
+{
+    let mut padded = [0; 40];
+    bytes::copy(p, &mut padded);
+    full_header(&padded)
 }
 
 // Number 8 as in receiving, where n bytes remain for the packet: bytes behind it are passed over.
