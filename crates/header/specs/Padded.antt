@@ -1,10 +1,10 @@
--- A header that is cut off reads as one with zeros behind it. Assumes nothing.
+-- Bytes that are cut off read as they do with zeros behind them. Assumes nothing.
 use Prim.Native.Nat.{ℕ, zero, suc, _+_}
 use mathlib.Core.Path.{_≡_, refl, _∙_}
 use mathlib.Core.List.{List, [], _∷_, _++_}
 use lib.ListN.{getD, drop, replicate}
 use lib.Seq.{getD-drop}
-use Rattle.header.specs.Fields.{wordAt, quadAt, addressAt}
+use Rattle.header.specs.Fields.{wordAt, quadAt, bytesFrom, addressAt}
 use Rattle.header.specs.Outer.{outerOf}
 use Rattle.header.specs.Inner.{innerOf}
 
@@ -22,6 +22,9 @@ module _ (n k : ℕ) where
   padded-reads [] i = getD-drop k (replicate n 0) i 0 ∙ zeros-read n (k + i)
   padded-reads (x ∷ d) zero = refl
   padded-reads (x ∷ d) (suc i) = padded-reads d i
+
+  pub address-padded : (t : List ℕ) → bytesFrom 16 0 (padded n k t) ≡ bytesFrom 16 0 t
+  address-padded t = simp padded-reads
 
   pub outer-padded : (d : List ℕ) → outerOf (padded n k d) ≡ outerOf d
   unfolding outerOf wordAt quadAt

@@ -3,7 +3,6 @@ use crate::fields;
 ghost use mathlib.Core.Path.{_≡_};
 ghost use Prim.Native.Nat.{_≤_};
 ghost use lib.ListN.{length};
-ghost use Rattle.header.specs.Fields.{addressAt};
 ghost use Rattle.header.specs.Inner.{innerOf, isInnerMalformed, isPacketMalformed, innerPacketOf, mayDrawError};
 
 // The fields of an IPv6 header.
@@ -32,7 +31,7 @@ fn full_header(p: &[u8]) -> Inner
     ensures { λ r. ⌜ r ≡ innerOf (now (p .entry)) ⌝ }
 {
     let payload = fields::pair(p[4], p[5]);
-    let source = source(p);
+    let source = fields::address(p, 8);
     Inner {
         version: p[0] / 16,
         length: 40 + payload as usize,
@@ -40,30 +39,6 @@ fn full_header(p: &[u8]) -> Inner
         hop: p[7],
         source,
     }
-}
-
-fn source(p: &[u8]) -> [u8; 16]
-    requires { ⌜ 40 ≤ length (now p) ⌝ }
-    ensures { λ r. ⌜ r ≡ addressAt (now (p .entry)) 8 ⌝ }
-{
-    [
-        p[8],
-        p[9],
-        p[10],
-        p[11],
-        p[12],
-        p[13],
-        p[14],
-        p[15],
-        p[16],
-        p[17],
-        p[18],
-        p[19],
-        p[20],
-        p[21],
-        p[22],
-        p[23],
-    ]
 }
 
 // What is not there reads as 0. The compiler sees that a header under 40 bytes is refused whatever its fields are.

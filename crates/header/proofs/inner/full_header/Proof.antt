@@ -7,7 +7,7 @@ use Rattle.header.proofs.inner.full_header.Tie as tie
 
 returns : tie.Need-returns
 unfolding innerOf wordAt
-returns c = rw (c .before .before .before .source .ensures, c .before .before .before .before .pair .ensures)
+returns c = rw (c .before .before .before .address .ensures, c .before .before .before .before .pair .ensures)
 
 pub full-header-spec : {M : Type 1} → statement M
 full-header-spec =
