@@ -181,8 +181,8 @@ fn time_wraps(random: &mut Random) {
         let (mut rattle, mut rust) = (vec![0; 65535], vec![0; 65535]);
         row(
             &format!("wrap {length}"),
-            || _ = black_box(wrap_rattle(black_box(h), black_box(&packet), black_box(&mut rattle))),
-            || _ = black_box(wrap_rust(black_box(h), black_box(&packet), black_box(&mut rust))),
+            || _ = black_box(wrap_rattle(*black_box(&h), black_box(&packet), black_box(&mut rattle))),
+            || _ = black_box(wrap_rust(*black_box(&h), black_box(&packet), black_box(&mut rust))),
         );
     }
 }
