@@ -20,8 +20,20 @@ pub fn place(src: &[u8], dst: &mut [u8], at: usize)
     write(src, &mut dst[at..]);
 }
 
-// Writes src over the front of dst, block after block.
+// Writes src over the front of dst: one block as such, without the loop's turn.
 fn write(src: &[u8], dst: &mut [u8])
+    requires { ⌜ length (now src) ≤ length (now dst) ⌝ }
+    ensures { λ _. ⌜ now (dst .exit) ≡ written (now (src .entry)) (now (dst .entry)) ⌝ }
+{
+    if src.len() <= BLOCK {
+        write_block(src, dst);
+        return;
+    }
+    write_blocks(src, dst);
+}
+
+// The same, block after block.
+fn write_blocks(src: &[u8], dst: &mut [u8])
     requires { ⌜ length (now src) ≤ length (now dst) ⌝ }
     ensures { λ _. ⌜ now (dst .exit) ≡ written (now (src .entry)) (now (dst .entry)) ⌝ }
 {
