@@ -4,7 +4,7 @@ ghost use mathlib.Core.Path.{_≡_};
 ghost use Prim.Native.Nat.{_≤_};
 ghost use Rattle.paths.specs.Kept.{inForce};
 ghost use Rattle.paths.specs.Table.{noReports, keptIn, tableAfter};
-ghost use Rattle.tables_capi.specs.Many.{sizesToward, tableAfterMany};
+ghost use Rattle.loops_capi.specs.Tables.{sizesToward, tableAfterMany};
 
 // struct bogtrumpet_paths { uint32_t neighbours[64]; uint16_t sizes[64]; uint32_t times[64]; size_t count; };
 // struct bogtrumpet_paths bogtrumpet_path_table(void);
@@ -16,10 +16,15 @@ pub extern "C" fn bogtrumpet_path_table() -> PathTable
     PathTable::new()
 }
 
-// uint16_t bogtrumpet_path_size(struct bogtrumpet_paths table, uint16_t link, uint32_t neighbour, uint32_t now);
+// uint16_t bogtrumpet_table_size(struct bogtrumpet_paths table, uint16_t link, uint32_t neighbour, uint32_t now);
 // The size in force toward a neighbour: paths::in_force of paths::PathTable::kept.
 #[no_mangle]
-pub extern "C" fn bogtrumpet_path_size(table: PathTable, link: u16, neighbour: u32, now: u32) -> u16
+pub extern "C" fn bogtrumpet_table_size(
+    table: PathTable,
+    link: u16,
+    neighbour: u32,
+    now: u32,
+) -> u16
     ensures { λ r. ⌜ r ≡ inForce link (keptIn table neighbour now) ⌝ }
 {
     paths::in_force(link, table.kept(neighbour, now))

@@ -3,9 +3,9 @@ use mathlib.Core.Path.{_≡_, refl}
 use Prim.Native.Nat.{_≤_, _-_}
 use native.Mathlib.Numerals.{add-one}
 use native.Mathlib.Omega.{arith}
-use Rattle.tables_capi.specs.Many.{tableAfterMany}
-use Rattle.tables_capi.proofs.bogtrumpet_path_accepted_many.Statement.{statement}
-use Rattle.tables_capi.proofs.bogtrumpet_path_accepted_many.Tie as tie
+use Rattle.loops_capi.specs.Tables.{tableAfterMany}
+use Rattle.loops_capi.proofs.tables.bogtrumpet_path_accepted_many.Statement.{statement}
+use Rattle.loops_capi.proofs.tables.bogtrumpet_path_accepted_many.Tie as tie
 
 abbrev Inv-loop : tie.InvT-loop
 Inv-loop first count size now next₀ i₀ next i = (i ≤ count) × (next ≡ tableAfterMany next₀ first size now i)

@@ -3,9 +3,9 @@ use mathlib.Core.Path.{_≡_}
 use Prim.Native.Nat.{_≤_, _*_, _-_}
 use native.Mathlib.Numerals.{add-one}
 use native.Mathlib.Omega.{arith}
-use Rattle.tables_capi.specs.Many.{sizesToward}
-use Rattle.tables_capi.proofs.bogtrumpet_path_sizes.Statement.{statement}
-use Rattle.tables_capi.proofs.bogtrumpet_path_sizes.Tie as tie
+use Rattle.loops_capi.specs.Tables.{sizesToward}
+use Rattle.loops_capi.proofs.tables.bogtrumpet_path_sizes.Statement.{statement}
+use Rattle.loops_capi.proofs.tables.bogtrumpet_path_sizes.Tie as tie
 
 abbrev Inv-loop : tie.InvT-loop
 Inv-loop table link first count now sum₀ i₀ sum i = (i ≤ count) × (sum ≤ 65535 * i) × (sum ≡ sizesToward table link first now i)
