@@ -13,9 +13,11 @@ use Rattle.sending.proofs.next_hop_not_isatap.Tie as tie
 returns : tie.Need-returns
 unfolding isNotIsatap embeddedTo
 returns c =
-    let hop = c .before .before .before .args .«next_hop» in
+    let hop = c .before .before .before .args .next-hop in
     let both : isLinkLocal hop && isIdentifier hop ≡ true = rw (← c .before .before .link-local-prefixed .ensures, ← c .before .identifier .ensures) (c .if1 .taken) in
-    rw (link-local-embeds _ _ hop (and-left _ _ both) (and-right _ _ both))
+    let local = and-left (isLinkLocal hop) (isIdentifier hop) both in
+    let identified = and-right (isLinkLocal hop) (isIdentifier hop) both in
+    rw (link-local-embeds _ _ hop local identified)
 
 returns-2 : tie.Need-returns-2
 returns-2 c = rw (c .not-isatap .ensures, c .before .embedded .ensures)
