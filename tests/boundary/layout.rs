@@ -1,0 +1,51 @@
+//! The Rust module's structs have their fields where the C header has them.
+
+use crate::bogtrumpet::*;
+use crate::check::same;
+use std::mem::offset_of;
+
+extern "C" {
+    static bogtrumpet_layout: [usize; 0];
+    static bogtrumpet_layout_length: usize;
+}
+
+macro_rules! places {
+    ($($name:ident: $($field:ident)*;)*) => {
+        vec![$(
+            $((concat!(stringify!($name), ".", stringify!($field)), offset_of!($name, $field)),)*
+            (concat!("size of ", stringify!($name)), size_of::<$name>()),
+        )*]
+    };
+}
+
+pub fn compare() {
+    // SAFETY: through.c's table has that length.
+    let header = unsafe { std::slice::from_raw_parts((&raw const bogtrumpet_layout).cast(), bogtrumpet_layout_length) };
+    let module: Vec<(&str, usize)> = places! {
+        Address: bytes;
+        Locator: address interface;
+        Settings: locators locator_count prefixes prefix_count routers router_count link_size ttl interval identification reporting;
+        Router: address due;
+        RouterList: routers count;
+        Service: settings routers identification;
+        Paths: neighbours sizes times count;
+        Node: service paths latest;
+        Addresses: routers count;
+        Setup: number node;
+        Received: number offset length;
+        Sent: number size length node;
+        Reported: number neighbour size node;
+        Replaced: number node;
+        Asked: number router node;
+        Heard: number router node;
+        Prefixes: bytes count;
+        Embedded: found address;
+        OuterRead: number protocol header total source destination;
+        Outer: identification dont_fragment ttl protocol source destination;
+    };
+    let call = || "the places of fields in the module and in the header".into();
+    same("count of places", &module.len(), &header.len(), &call);
+    for ((name, place), in_header) in module.iter().zip(header) {
+        same(name, place, in_header, &call);
+    }
+}

@@ -1,0 +1,460 @@
+//! Random lists of calls on one node: mostly valid, often nearly so.
+
+use crate::check::Check;
+use crate::nodes::{self, Nodes};
+use crate::packets::{self, put, put16, put32, EDGES};
+use crate::plain::rules::link_local;
+use crate::plain::{Address, Locator, Settings};
+use crate::random::Random;
+use crate::stateless;
+
+const LINK_LOCAL: [u8; 8] = [0xfe, 0x80, 0, 0, 0, 0, 0, 0];
+const PLATEAUS: [u16; 11] = [65535, 32000, 17914, 8166, 4352, 2002, 1492, 1006, 508, 296, 68];
+const LINK_SIZES: [u16; 14] = [576, 577, 1279, 1280, 1299, 1300, 1301, 1302, 1492, 1500, 1501, 4352, 9215, 9216];
+
+/// A node and those around it.
+struct World {
+    nodes: Nodes,
+    settings: Settings,
+    neighbours: Vec<u32>,
+    routers: Vec<u32>,
+    /// Seconds that pass between two calls, at most.
+    pace: usize,
+}
+
+/// Makes one node and about `calls` calls on it.
+pub fn list(check: &mut Check, calls: usize) {
+    let random = &mut check.random;
+    let mut settings = settings(random);
+    nodes::defaults(check, &settings);
+    if check.random.once_in(2) {
+        let mut broken = settings;
+        break_settings(&mut check.random, &mut broken);
+        Nodes::new(check, &broken);
+    }
+    if check.random.once_in(8) {
+        settings = settings.defaults();
+    }
+    let Some(nodes) = Nodes::new(check, &settings) else { return };
+    let random = &mut check.random;
+    let count = random.one_of(&[2, 10, 40, 63, 64, 65, 66, 80, 130]);
+    let neighbours = (0..count).map(|i| 0x0a01_0000 + i as u32).collect();
+    let routers = (0..20).map(|i| 0x0a02_0000 + i).chain(settings.routers).collect();
+    let pace = random.one_of(&[0, 1, 1, 3, 10, 100, 700]);
+    let mut world = World { nodes, settings, neighbours, routers, pace };
+    // A list has its own habits, so that tables fill in some and age in others.
+    let mut weights = [0; 6];
+    weights.iter_mut().for_each(|weight| *weight = random.one_of(&[1, 4, 16]));
+    if random.once_in(6) {
+        let start = random.one_of(&[u32::MAX - 3000, u32::MAX - 600, 1 << 31]);
+        world.nodes.ask(check, 0, start, 48);
+    }
+    for _ in 0..calls {
+        call(check, &mut world, &weights);
+    }
+    for &neighbour in &world.neighbours {
+        world.nodes.path_size(check, neighbour);
+    }
+}
+
+fn call(check: &mut Check, world: &mut World, weights: &[usize; 6]) {
+    let mut choice = check.random.below(weights.iter().sum());
+    let mut kind = 0;
+    while choice >= weights[kind] {
+        choice -= weights[kind];
+        kind += 1;
+    }
+    match kind {
+        0 => receive(check, world),
+        1 => send(check, world),
+        2 => report(check, world),
+        3 => replace(check, world),
+        4 => ask(check, world),
+        _ => hear(check, world),
+    }
+    let neighbour = any_address(&mut check.random, world);
+    world.nodes.path_size(check, neighbour);
+    if check.random.once_in(250) {
+        for &neighbour in &world.neighbours {
+            world.nodes.path_size(check, neighbour);
+        }
+    }
+}
+
+/// Settings within the rules. What stands behind the counts would break them.
+fn settings(random: &mut Random) -> Settings {
+    let mut settings = Settings {
+        locator_count: random.between(1, 8),
+        prefix_count: random.between(0, 8),
+        router_count: random.between(0, 16),
+        link_size: random.between(576, 9216) as u16,
+        ttl: random.between(1, 255) as u8,
+        interval: random.one_of(&[1, 2, 60, 120, 599, 600, 1800, 3599, 3600]),
+        identification: random.one_of(&[0, 1, 65533, 65534, 65535, 300]),
+        ..Settings::default()
+    };
+    if random.once_in(2) {
+        settings.link_size = random.one_of(&LINK_SIZES);
+    }
+    for (place, locator) in settings.locators.iter_mut().enumerate() {
+        // Two places have an address in common, on two interfaces.
+        *locator = Locator { address: 0x0a00_0000 + (place as u32 + 2) / 2, interface: place as u8 % 2 * 255 };
+        if place >= settings.locator_count {
+            locator.address = random.one_of(&EDGES);
+        }
+    }
+    for (place, prefix) in settings.prefixes.iter_mut().enumerate() {
+        *prefix = [0x20, 0x01, 0x0d, 0xb8, 0, 0, 0, place as u8];
+        if random.once_in(4) {
+            *prefix = random.bytes();
+        }
+    }
+    for (place, router) in settings.routers.iter_mut().enumerate() {
+        *router = if place < settings.router_count { 0x0a02_0000 + place as u32 * 3 } else { random.one_of(&EDGES) };
+    }
+    settings.reporting = match random.below(4) {
+        0 => link_local(settings.locators[0].address),
+        1 => [0, 0, 0, 0, 0, 0, 0, 0, 0, 0, 0, 0, 0, 0, 0, 1],
+        _ => random.bytes(),
+    };
+    if settings.reporting[0] == 0xff {
+        settings.reporting[0] = 0xfe;
+    }
+    settings
+}
+
+/// Changes one thing, in most cases to what the rules refuse.
+pub fn break_settings(random: &mut Random, settings: &mut Settings) {
+    let many = random.one_of(&[9, 17, 255, 1 << 32, usize::MAX]);
+    let locator = random.below(settings.locator_count);
+    let router = random.below(settings.router_count.max(1));
+    match random.below(16) {
+        0 => settings.locator_count = 0,
+        1 => settings.locator_count = many,
+        2 => settings.prefix_count = many,
+        3 => settings.router_count = many.max(17),
+        4 => settings.locators[locator].address = random.one_of(&EDGES),
+        5 => settings.locators[locator] = settings.locators[0],
+        6 => settings.locators[locator].interface ^= random.one_of(&[255, 1]),
+        7 => settings.routers[router] = random.one_of(&EDGES),
+        8 => settings.routers[router] = settings.routers[0],
+        9 => settings.routers[router] = settings.locators[locator].address,
+        10 => settings.link_size = random.one_of(&[0, 575, 576, 9216, 9217, 65535]),
+        11 => settings.ttl = random.one_of(&[0, 0, 1, 255]),
+        12 => settings.interval = random.one_of(&[0, 1, 3600, 3601, 65535]),
+        13 => settings.reporting = [0; 16],
+        14 => settings.reporting[random.one_of(&[0, 0, 1, 15])] = 0xff,
+        _ => settings.locator_count = random.between(1, 8),
+    }
+}
+
+/// The time of the next call: a little later, at an edge of a report's age or of a router's due time, or earlier.
+fn time(random: &mut Random, world: &World) -> u32 {
+    let latest = world.nodes.plain.latest();
+    let reports = world.nodes.plain.reports();
+    let routers = world.nodes.plain.routers();
+    match random.below(24) {
+        0 => latest.wrapping_sub(random.one_of(&[1, 2, 600, 1 << 31])).min(latest),
+        1 => random.one_of(&[0, latest]),
+        2 if !reports.is_empty() => {
+            let report = random.one_of(reports);
+            later(latest, u64::from(report.time) + random.between(598, 601) as u64, 1200)
+        }
+        3 if !routers.is_empty() => {
+            let due = random.one_of(routers).due;
+            later(latest, (due + random.below(3) as u64).saturating_sub(1), 5000)
+        }
+        4 if random.once_in(400) => u32::MAX - random.below(3) as u32,
+        5 if random.once_in(40) => latest.saturating_add(random.one_of(&[599, 600, 601, 3600])),
+        _ => latest.saturating_add(random.between(0, world.pace) as u32),
+    }
+}
+
+/// The time, if it is not much later than the latest.
+fn later(latest: u32, time: u64, most: u64) -> u32 {
+    let limit = u64::from(latest) + most;
+    if time > limit {
+        latest
+    } else {
+        time.min(u32::MAX.into()) as u32
+    }
+}
+
+fn any_address(random: &mut Random, world: &World) -> u32 {
+    match random.below(20) {
+        0 => random.next() as u32,
+        1 => random.one_of(&EDGES),
+        2 => random.one_of(&world.settings.locators).address,
+        3..=5 => random.one_of(&world.routers),
+        _ => random.one_of(&world.neighbours),
+    }
+}
+
+/// An ISATAP address that embeds the IPv4 address, in most cases.
+fn embedding(random: &mut Random, settings: &Settings, embedded: u32) -> Address {
+    let prefix = match random.below(12) {
+        0..=5 => LINK_LOCAL,
+        6..=10 if settings.prefix_count > 0 => settings.prefixes[random.below(settings.prefix_count)],
+        _ => random.one_of(&settings.prefixes),
+    };
+    let mut address = packets::address(&prefix, random.one_of(&[0, 2]), embedded);
+    match random.below(24) {
+        0 => address[8] = random.one_of(&[1, 3, 0xfc, 0xfe, 0x82]),
+        1 => address[random.between(8, 11)] ^= 1 << random.below(8),
+        2 => address[random.below(8)] ^= 1 << random.below(8),
+        3 => address = other_source(random),
+        _ => (),
+    }
+    address
+}
+
+/// A source that is no ISATAP address: bad ones and their neighbours.
+fn other_source(random: &mut Random) -> Address {
+    let mut source = [0; 16];
+    match random.below(6) {
+        0 => source[15] = random.below(3) as u8,
+        1 => put32(&mut source, 12, random.one_of(&EDGES)),
+        2 => {
+            put32(&mut source, 12, random.one_of(&EDGES));
+            source[random.below(12)] = random.one_of(&[0, 1, 0x80]);
+        }
+        3 => {
+            source = random.bytes();
+            source[0] = random.one_of(&[0xff, 0xfe]);
+        }
+        4 => source = packets::address(&LINK_LOCAL, 0, random.next() as u32),
+        _ => source = random.bytes(),
+    }
+    source
+}
+
+/// The length of a packet: short, at a size that document 01 names, or long.
+fn length(random: &mut Random) -> usize {
+    match random.below(64) {
+        0 => random.between(1279, 1301),
+        1 => random.one_of(&[1480, 1481, 576, 9196, 9197, 9216]),
+        2 if random.once_in(16) => random.one_of(&[65515, 65516, 65535, 65534]),
+        _ => random.between(40, 100),
+    }
+}
+
+fn receive(check: &mut Check, world: &mut World) {
+    let random = &mut check.random;
+    let source = any_address(random, world);
+    let inner_source =
+        if random.once_in(6) { other_source(random) } else { embedding(random, &world.settings, source) };
+    let inner_length = length(random).min(65515);
+    let next_header = random.next() as u8;
+    let mut inner = packets::packet(random, inner_length, next_header, &inner_source);
+    match random.below(16) {
+        0 => inner[0] = random.next() as u8,
+        1 => put16(&mut inner, 4, (inner_length as u16).wrapping_sub(random.between(38, 42) as u16)),
+        2 => inner.truncate(random.between(0, inner_length)),
+        _ => (),
+    }
+    let locator = world.settings.locators[random.below(world.settings.locator_count)];
+    let destination = if random.once_in(20) { any_address(random, world) } else { locator.address };
+    let interface = if random.once_in(12) { random.one_of(&[0, 255, 1]) } else { locator.interface };
+    let words = if random.once_in(3) { random.between(0, 10) } else { 0 };
+    let words = if inner.len() > 65000 { 0 } else { words };
+    let padding = if random.once_in(3) { random.between(0, 60) } else { 0 };
+    let mut datagram = packets::datagram(random, (source, destination), words, &inner, padding);
+    if random.once_in(3) {
+        damage_datagram(random, &mut datagram);
+    }
+    world.nodes.receive(check, &datagram, interface);
+    stateless::read_outer(check, &datagram);
+    stateless::unwrap(check, &datagram);
+}
+
+fn damage_datagram(random: &mut Random, datagram: &mut Vec<u8>) {
+    let total = datagram.len() as u16;
+    match random.below(8) {
+        0 => datagram[9] = random.one_of(&[4, 40, 42, 58]),
+        1 => put16(datagram, 6, random.one_of(&[0x2000, 1, 0x1000, 0x1fff, 0x6000, 0x4001, 0x0100])),
+        2 => put16(datagram, 2, total.wrapping_add(random.between(0, 4) as u16).wrapping_sub(2)),
+        3 => put16(datagram, 2, random.one_of(&[0, 19, 20, 21, 59, 60, 61])),
+        4 => datagram[0] = 0x40 | random.below(16) as u8,
+        5 => datagram[0] = random.next() as u8,
+        _ => packets::damage(random, datagram),
+    }
+    if !random.once_in(4) {
+        packets::repair_outer(datagram);
+    }
+}
+
+fn send(check: &mut Check, world: &mut World) {
+    let random = &mut check.random;
+    let end = any_address(random, world);
+    let next_hop = embedding(random, &world.settings, end);
+    let limit = usize::from(world.nodes.plain.path_size(end)).saturating_sub(20).max(1280);
+    let mut length = length(random);
+    if random.once_in(3) {
+        length = limit + random.below(4) - 1;
+    }
+    let source = if random.once_in(4) { other_source(random) } else { random.bytes() };
+    let next_header = random.one_of(&[58, 58, 59, 6, 0, 44]);
+    let mut packet = packets::packet(random, length, next_header, &source);
+    put(&mut packet, 40, &[random.one_of(&[0, 1, 2, 127, 128, 129, 135, 136, 137, 138, 255])]);
+    if random.once_in(10) {
+        match random.below(4) {
+            0 => packet[0] = random.next() as u8,
+            1 => put16(&mut packet, 4, (length - 40).wrapping_add(random.between(0, 2)).wrapping_sub(1) as u16),
+            _ => packets::damage(random, &mut packet),
+        }
+    }
+    let written = if length > limit { 1280 } else { length + 20 };
+    let room = match random.below(12) {
+        0 => written - 1,
+        1 => random.one_of(&[0, 1, 1279, 1280]),
+        2 => written + random.between(1, 300),
+        _ => written,
+    };
+    let locator = locator_number(random, world);
+    let time = time(random, world);
+    world.nodes.send(check, &packet, next_hop, locator, time, room);
+}
+
+fn locator_number(random: &mut Random, world: &World) -> usize {
+    let count = world.settings.locator_count;
+    match random.below(24) {
+        0 => random.one_of(&[count, count + 1, 8, 255, 256, 1 << 32, usize::MAX]),
+        1 => random.below(10),
+        _ => random.below(count),
+    }
+}
+
+fn report(check: &mut Check, world: &mut World) {
+    let random = &mut check.random;
+    let neighbour = any_address(random, world);
+    let in_force = world.nodes.plain.path_size(neighbour);
+    let quoted = match random.below(4) {
+        0 => random.one_of(&PLATEAUS).wrapping_add(random.below(3) as u16).wrapping_sub(1),
+        1 => random.one_of(&[0, 20, 67, 68, 69, 70]),
+        _ => in_force.saturating_add(random.below(40) as u16),
+    };
+    let size = match random.below(16) {
+        0 => random.one_of(&[1, 66, 67, 68, 69, 1280, 1300, 1301, 65535]),
+        1 | 2 => 0,
+        3 => in_force.wrapping_add(random.below(3) as u16).wrapping_sub(1),
+        4 => random.next() as u16,
+        _ => in_force.saturating_sub(random.between(1, 30) as u16),
+    };
+    let locator = world.settings.locators[random.below(world.settings.locator_count)].address;
+    let source = if random.once_in(30) { any_address(random, world) } else { locator };
+    let words = if random.once_in(4) { random.between(0, 10) } else { 0 };
+    let rest = random.one_of(&[0, 0, 8, 1, 7, 20, 548]);
+    let mut message = packets::size_report(random, size, quoted, (source, neighbour), words, rest);
+    if random.once_in(8) {
+        damage_report(random, &mut message);
+    }
+    let time = time(random, world);
+    world.nodes.report(check, &message, time);
+}
+
+fn damage_report(random: &mut Random, message: &mut Vec<u8>) {
+    match random.below(6) {
+        0 => message[random.below(2)] = random.below(12) as u8,
+        1 => message[8] = 0x40 | random.below(16) as u8,
+        2 => message[8] = random.next() as u8,
+        3 => message[17] = random.one_of(&[4, 40, 42]),
+        _ => packets::damage(random, message),
+    }
+    if !random.once_in(4) {
+        packets::repair_report(message);
+    }
+}
+
+fn replace(check: &mut Check, world: &mut World) {
+    let random = &mut check.random;
+    let mut list = world.routers.clone();
+    for place in (1..list.len()).rev() {
+        list.swap(place, random.below(place + 1));
+    }
+    let mut seen = Vec::new();
+    list.retain(|router| !EDGES.contains(router) && !seen.contains(router) && (seen.push(*router), true).1);
+    list.truncate(random.between(0, 16));
+    if random.once_in(4) {
+        match random.below(4) {
+            0 => list.resize(random.one_of(&[17, 18, 40]), 0x0a03_0000),
+            1 => list.push(any_address(random, world)),
+            2 => list.extend(list.first().copied()),
+            _ => list.push(random.one_of(&EDGES)),
+        }
+    }
+    let time = time(random, world);
+    world.nodes.replace_routers(check, &list, time);
+}
+
+fn ask(check: &mut Check, world: &mut World) {
+    let random = &mut check.random;
+    let room = if random.once_in(6) { random.one_of(&[0, 1, 47, 49, 100]) } else { 48 };
+    let locator = locator_number(random, world);
+    let time = time(random, world);
+    world.nodes.ask(check, locator, time, room);
+}
+
+fn hear(check: &mut Check, world: &mut World) {
+    let random = &mut check.random;
+    let router = match world.nodes.plain.routers() {
+        routers if !routers.is_empty() && !random.once_in(8) => random.one_of(routers).address,
+        _ => any_address(random, world),
+    };
+    let source = if random.once_in(12) {
+        embedding(random, &world.settings, router)
+    } else {
+        packets::address(&LINK_LOCAL, random.one_of(&[0, 2]), router)
+    };
+    let mut options = Vec::new();
+    for _ in 0..random.one_of(&[0, 1, 1, 2, 3, 6]) {
+        options.extend(option(random, world.settings.interval));
+    }
+    let router_lifetime = lifetime(random, world.settings.interval).min(65535) as u16;
+    let mut packet = packets::advertisement(random, &source, router_lifetime, &options);
+    if random.once_in(4) {
+        damage_advertisement(random, &mut packet);
+    }
+    let time = time(random, world);
+    world.nodes.hear(check, &packet, time);
+}
+
+fn option(random: &mut Random, interval: u16) -> Vec<u8> {
+    let (kind, units) = match random.below(8) {
+        0..=2 => (3, 4),
+        3..=5 => (24, random.between(1, 3) as u8),
+        6 => (random.one_of(&[3, 24]), random.between(1, 6) as u8),
+        _ => (random.next() as u8, random.between(1, 4) as u8),
+    };
+    let lifetime = lifetime(random, interval);
+    packets::option(random, kind, units, lifetime)
+}
+
+/// A lifetime: often one that does not count, or one whose half is about the interval.
+fn lifetime(random: &mut Random, interval: u16) -> u32 {
+    match random.below(8) {
+        0 | 1 => 0,
+        2 => u32::MAX,
+        3 => random.one_of(&[1, 2, 3, 7200, 7201, 0xfffe, 0xffff, 0x1_0000, u32::MAX - 1]),
+        4 => 2 * u32::from(interval) + random.below(5) as u32,
+        5 => random.next() as u32,
+        _ => random.below(20_000) as u32,
+    }
+}
+
+fn damage_advertisement(random: &mut Random, packet: &mut Vec<u8>) {
+    let payload = packet.len() as u16 - 40;
+    match random.below(10) {
+        0 => packet[6] = random.one_of(&[0, 57, 59]),
+        1 => packet[7] = random.one_of(&[0, 64, 254]),
+        2 => packet[40] = random.one_of(&[133, 135, 2]),
+        3 => packet[41] = 1,
+        4 => put16(packet, 4, payload.wrapping_sub(random.between(0, 24) as u16)),
+        5 => put16(packet, 4, payload + random.below(9) as u16),
+        6 if packet.len() > 57 => packet[57] = random.below(8) as u8,
+        7 => packet.extend([0; 3]),
+        _ => packets::damage(random, packet),
+    }
+    if !random.once_in(5) {
+        packets::repair_icmpv6(packet);
+    }
+}

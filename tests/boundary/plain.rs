@@ -1,0 +1,409 @@
+//! One tunnel end in plain Rust, written from document 01 alone: the second implementation that the proved library is compared
+//! with, and the baseline of the benchmarks. No heap; each call changes the node in place.
+
+#[path = "plain_rules.rs"]
+pub mod rules;
+
+use rules::{address_at, forbidden, isatap, u16_at, u32_at, Outer, OUTER_HEADER, TUNNELLED};
+pub use rules::{Address, Refusal};
+use std::ops::Range;
+
+pub const LOCATORS: usize = 8;
+pub const PREFIXES: usize = 8;
+pub const ROUTERS: usize = 16;
+pub const NEIGHBOURS: usize = 64;
+/// Seconds after which a size report is no longer in force.
+const REPORT_AGE: u32 = 600;
+/// The smallest size of an IPv6 link, which no tunnel goes below.
+const LEAST: usize = 1280;
+/// When to ask a router again whose advertisement has no lifetime that counts.
+const RENEWAL: u32 = 3600;
+const PLATEAUS: [u16; 11] = [65535, 32000, 17914, 8166, 4352, 2002, 1492, 1006, 508, 296, 68];
+
+#[derive(Clone, Copy, Debug, Default, PartialEq, Eq)]
+pub struct Locator {
+    pub address: u32,
+    pub interface: u8,
+}
+
+/// What an operator sets; a count above its array's length is refused with the rest.
+#[derive(Clone, Copy, Debug, Default, PartialEq, Eq)]
+pub struct Settings {
+    pub locators: [Locator; LOCATORS],
+    pub locator_count: usize,
+    pub prefixes: [[u8; 8]; PREFIXES],
+    pub prefix_count: usize,
+    pub routers: [u32; ROUTERS],
+    pub router_count: usize,
+    pub link_size: u16,
+    pub ttl: u8,
+    pub interval: u16,
+    pub identification: u16,
+    pub reporting: Address,
+}
+
+impl Settings {
+    pub const LINK_SIZE: u16 = 1500;
+    pub const TTL: u8 = 64;
+    pub const INTERVAL: u16 = 120;
+    pub const IDENTIFICATION: u16 = 1;
+
+    /// The same locators, prefixes and routers, and the defaults for the rest.
+    pub fn defaults(self) -> Settings {
+        Settings {
+            link_size: Settings::LINK_SIZE,
+            ttl: Settings::TTL,
+            interval: Settings::INTERVAL,
+            identification: Settings::IDENTIFICATION,
+            reporting: rules::link_local(self.locators[0].address),
+            ..self
+        }
+    }
+
+    fn locators(&self) -> &[Locator] {
+        &self.locators[..self.locator_count]
+    }
+
+    fn prefixes(&self) -> &[[u8; 8]] {
+        &self.prefixes[..self.prefix_count]
+    }
+
+    /// Whether a locator, on whatever interface, has the address.
+    fn is_own(&self, address: u32) -> bool {
+        self.locators().iter().any(|locator| locator.address == address)
+    }
+
+    fn allowed(&self) -> bool {
+        let (Some(locators), Some(routers)) =
+            (self.locators.get(..self.locator_count), self.routers.get(..self.router_count))
+        else {
+            return false;
+        };
+        !locators.is_empty()
+            && self.prefix_count <= PREFIXES
+            && !locators.iter().any(|locator| forbidden(locator.address))
+            && distinct(locators)
+            && self.routers_allowed(routers)
+            && (576..=9216).contains(&self.link_size)
+            && self.ttl != 0
+            && (1..=3600).contains(&self.interval)
+            && !rules::no_host(&self.reporting)
+    }
+
+    fn routers_allowed(&self, routers: &[u32]) -> bool {
+        routers.len() <= ROUTERS
+            && !routers.iter().any(|&router| forbidden(router) || self.is_own(router))
+            && distinct(routers)
+    }
+}
+
+fn distinct<T: PartialEq>(items: &[T]) -> bool {
+    (1..items.len()).all(|i| !items[..i].contains(&items[i]))
+}
+
+#[derive(Clone, Copy, Debug, Default, PartialEq, Eq)]
+pub struct Router {
+    pub address: u32,
+    /// Exact, so it may lie past the last 32-bit second.
+    pub due: u64,
+}
+
+/// The routers in force.
+#[derive(Clone, Copy, Debug, Default, PartialEq, Eq)]
+pub struct RouterList {
+    routers: [Router; ROUTERS],
+    count: usize,
+}
+
+impl RouterList {
+    pub fn as_slice(&self) -> &[Router] {
+        &self.routers[..self.count]
+    }
+
+    fn find(&self, address: u32) -> Option<&Router> {
+        self.as_slice().iter().find(|router| router.address == address)
+    }
+
+    fn find_mut(&mut self, address: u32) -> Option<&mut Router> {
+        self.routers[..self.count].iter_mut().find(|router| router.address == address)
+    }
+
+    /// The list of these addresses: a router of this list keeps its due time, a new one is due at `now`.
+    fn replaced(&self, addresses: &[u32], now: u32) -> RouterList {
+        let mut next = RouterList { count: addresses.len(), ..RouterList::default() };
+        for (place, &address) in next.routers.iter_mut().zip(addresses) {
+            let due = self.find(address).map_or(u64::from(now), |router| router.due);
+            *place = Router { address, due };
+        }
+        next
+    }
+
+    /// The router with the earliest due time that is not in the future, the lowest place on a tie.
+    fn due_first(&mut self, now: u32) -> Option<&mut Router> {
+        self.routers[..self.count]
+            .iter_mut()
+            .filter(|router| router.due <= u64::from(now))
+            .min_by_key(|router| router.due)
+    }
+}
+
+/// An accepted size report.
+#[derive(Clone, Copy, Debug, Default, PartialEq, Eq)]
+pub struct Report {
+    pub neighbour: u32,
+    pub size: u16,
+    pub time: u32,
+}
+
+/// The last accepted report of each of the newest 64 neighbours, newest first.
+#[derive(Clone, Copy, Debug, PartialEq, Eq)]
+pub struct PathTable {
+    reports: [Report; NEIGHBOURS],
+    count: usize,
+}
+
+impl PathTable {
+    fn new() -> PathTable {
+        PathTable { reports: [Report { neighbour: 0, size: 0, time: 0 }; NEIGHBOURS], count: 0 }
+    }
+
+    pub fn as_slice(&self) -> &[Report] {
+        &self.reports[..self.count]
+    }
+
+    fn place(&self, neighbour: u32) -> Option<usize> {
+        self.as_slice().iter().position(|report| report.neighbour == neighbour)
+    }
+
+    /// The reported size toward the neighbour that is in force.
+    fn size(&self, neighbour: u32, now: u32) -> Option<u16> {
+        let report = &self.reports[self.place(neighbour)?];
+        (now - report.time < REPORT_AGE).then_some(report.size)
+    }
+
+    /// Puts the report first. The neighbour's old one goes, or else the oldest if the table is full.
+    fn accept(&mut self, report: Report) {
+        let vacated = match self.place(report.neighbour) {
+            Some(place) => place,
+            None if self.count == NEIGHBOURS => NEIGHBOURS - 1,
+            None => {
+                self.count += 1;
+                self.count - 1
+            }
+        };
+        self.reports.copy_within(..vacated, 1);
+        self.reports[0] = report;
+    }
+}
+
+/// What sending answers when it does not refuse; `TooBig` is number 14.
+#[derive(Clone, Copy, Debug, PartialEq, Eq)]
+pub enum Sent {
+    Wrapped { length: usize },
+    TooBig { size: u16, length: usize },
+}
+
+/// One tunnel end.
+#[derive(Clone, Copy, Debug, PartialEq, Eq)]
+pub struct Node {
+    settings: Settings,
+    routers: RouterList,
+    identification: u16,
+    paths: PathTable,
+    latest: u32,
+}
+
+impl Node {
+    /// A node with these settings, all routers due at 0; 1.
+    pub fn new(settings: &Settings) -> Result<Node, Refusal> {
+        if !settings.allowed() {
+            return Err(Refusal::Settings);
+        }
+        Ok(Node {
+            settings: *settings,
+            routers: RouterList::default().replaced(&settings.routers[..settings.router_count], 0),
+            identification: settings.identification,
+            paths: PathTable::new(),
+            latest: 0,
+        })
+    }
+
+    /// Where in the datagram the inner packet stands; 2 to 10.
+    pub fn receive(&self, datagram: &[u8], interface: u8) -> Result<Range<usize>, Refusal> {
+        let outer = rules::read_outer(datagram)?;
+        let ours = Locator { address: outer.destination, interface };
+        if !self.settings.locators().contains(&ours) {
+            return Err(Refusal::NotOurs);
+        }
+        if forbidden(outer.source) {
+            return Err(Refusal::OuterSource);
+        }
+        let start = usize::from(outer.header);
+        let inner = &datagram[start..usize::from(outer.total)];
+        let length = rules::inner_length(inner)?;
+        let source = address_at(inner, 8);
+        if rules::bad_source(&source) {
+            return Err(Refusal::InnerSource);
+        }
+        let embedded = isatap(self.settings.prefixes(), &source) == Some(outer.source);
+        if !embedded && self.routers.find(outer.source).is_none() {
+            return Err(Refusal::SourcesDiffer);
+        }
+        Ok(start..start + length)
+    }
+
+    /// The part of the datagram that holds the inner packet, empty where it is refused.
+    pub fn received_part<'d>(&self, datagram: &'d [u8], interface: u8) -> &'d [u8] {
+        self.receive(datagram, interface).map_or(&[], |part| &datagram[part])
+    }
+
+    /// Wraps the packet for the next hop, or answers Too Big; 8, 11, 12, 13, 23, 15.
+    pub fn send(
+        &mut self,
+        packet: &[u8],
+        next_hop: &Address,
+        locator: usize,
+        time: u32,
+        out: &mut [u8],
+    ) -> Result<Sent, Refusal> {
+        self.raise(time);
+        if rules::inner_length(packet)? != packet.len() {
+            return Err(Refusal::InnerMalformed);
+        }
+        let source = self.locator(locator)?;
+        let end = isatap(self.settings.prefixes(), next_hop).ok_or(Refusal::NextHop)?;
+        if forbidden(end) || self.settings.is_own(end) {
+            return Err(Refusal::TunnelEnd);
+        }
+        let passed = usize::from(self.path_size(end)) - OUTER_HEADER;
+        let limit = passed.max(LEAST);
+        if packet.len() > limit {
+            return self.answer_too_big(limit as u16, packet, out);
+        }
+        let outer = Outer {
+            identification: self.identification,
+            dont_fragment: passed > LEAST,
+            ttl: self.settings.ttl,
+            protocol: TUNNELLED,
+            source,
+            destination: end,
+        };
+        let length = rules::wrap(&outer, packet, out)?;
+        self.identification = self.identification.wrapping_add(1);
+        Ok(Sent::Wrapped { length })
+    }
+
+    fn answer_too_big(&self, size: u16, packet: &[u8], out: &mut [u8]) -> Result<Sent, Refusal> {
+        let length =
+            if rules::unanswered(packet) { 0 } else { rules::too_big(&self.settings.reporting, size, packet, out)? };
+        Ok(Sent::TooBig { size, length })
+    }
+
+    /// Takes an ICMPv4 message in, and gives the neighbour and its size; 16 to 19.
+    pub fn report(&mut self, message: &[u8], time: u32) -> Result<(u32, u16), Refusal> {
+        self.raise(time);
+        let quote = quoted_header(message)?;
+        let (protocol, source, neighbour) = (quote[9], u32_at(quote, 12), u32_at(quote, 16));
+        if protocol != TUNNELLED
+            || !self.settings.is_own(source)
+            || forbidden(neighbour)
+            || self.settings.is_own(neighbour)
+        {
+            return Err(Refusal::ForeignQuote);
+        }
+        let size = match u16_at(message, 6) {
+            0 => plateau_below(u16_at(quote, 2)).ok_or(Refusal::UnusableSize)?,
+            1..=67 => return Err(Refusal::UnusableSize),
+            size => size,
+        };
+        if size >= self.path_size(neighbour) {
+            return Err(Refusal::SizeNotBelow);
+        }
+        self.paths.accept(Report { neighbour, size, time: self.latest });
+        Ok((neighbour, size))
+    }
+
+    /// Replaces the router list; 1.
+    pub fn replace_routers(&mut self, routers: &[u32], time: u32) -> Result<(), Refusal> {
+        self.raise(time);
+        if !self.settings.routers_allowed(routers) {
+            return Err(Refusal::Settings);
+        }
+        self.routers = self.routers.replaced(routers, self.latest);
+        Ok(())
+    }
+
+    /// Writes a solicitation to the router that is due first, and names it; 11, 22, 15.
+    pub fn ask(&mut self, locator: usize, time: u32, out: &mut [u8]) -> Result<u32, Refusal> {
+        self.raise(time);
+        let source = self.locator(locator)?;
+        let router = self.routers.due_first(self.latest).ok_or(Refusal::NoneDue)?;
+        rules::solicitation(source, router.address, out)?;
+        router.due = u64::from(self.latest) + u64::from(self.settings.interval);
+        Ok(router.address)
+    }
+
+    /// Takes a router advertisement in, and names the router; 8, 20, 21.
+    pub fn hear(&mut self, packet: &[u8], time: u32) -> Result<u32, Refusal> {
+        self.raise(time);
+        let packet = &packet[..rules::inner_length(packet)?];
+        let lifetime = rules::advertised_lifetime(packet)?;
+        let advertiser = isatap(&[], &address_at(packet, 8)).ok_or(Refusal::Unlisted)?;
+        let router = self.routers.find_mut(advertiser).ok_or(Refusal::Unlisted)?;
+        let wait = lifetime.map_or(RENEWAL, |lifetime| (lifetime / 2).max(u32::from(self.settings.interval)));
+        router.due = u64::from(self.latest) + u64::from(wait);
+        Ok(advertiser)
+    }
+
+    /// The size in force toward the neighbour at the latest time.
+    pub fn path_size(&self, neighbour: u32) -> u16 {
+        self.paths.size(neighbour, self.latest).unwrap_or(self.settings.link_size)
+    }
+
+    pub fn settings(&self) -> &Settings {
+        &self.settings
+    }
+
+    pub fn routers(&self) -> &[Router] {
+        self.routers.as_slice()
+    }
+
+    pub fn reports(&self) -> &[Report] {
+        self.paths.as_slice()
+    }
+
+    pub fn identification(&self) -> u16 {
+        self.identification
+    }
+
+    pub fn latest(&self) -> u32 {
+        self.latest
+    }
+
+    fn raise(&mut self, time: u32) {
+        self.latest = self.latest.max(time);
+    }
+
+    /// The address of the locator of that number; 11.
+    fn locator(&self, number: usize) -> Result<u32, Refusal> {
+        self.settings.locators().get(number).map(|locator| locator.address).ok_or(Refusal::LocatorNumber)
+    }
+}
+
+/// The quoted header of a size report and what follows it; 16.
+fn quoted_header(message: &[u8]) -> Result<&[u8], Refusal> {
+    if message.len() < 28 || message[..2] != [3, 4] || !rules::checksum_right(message) {
+        return Err(Refusal::NoReport);
+    }
+    let quote = &message[8..];
+    let header = usize::from(quote[0] & 0xf) * 4;
+    if quote[0] >> 4 != 4 || header < OUTER_HEADER || header > quote.len() {
+        return Err(Refusal::NoReport);
+    }
+    Ok(quote)
+}
+
+/// The largest plateau of RFC 1191 below the length.
+fn plateau_below(length: u16) -> Option<u16> {
+    PLATEAUS.into_iter().find(|&plateau| plateau < length)
+}

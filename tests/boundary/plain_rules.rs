@@ -1,0 +1,305 @@
+//! Document 01's rules without state in plain Rust: checksums, addresses, headers and messages.
+
+use std::ops::Range;
+
+/// An IPv6 address.
+pub type Address = [u8; 16];
+
+/// The numbers given back. 14, Too Big, carries values: it is an answer of sending.
+#[derive(Clone, Copy, Debug, PartialEq, Eq)]
+#[repr(u8)]
+pub enum Refusal {
+    Settings = 1,
+    OuterMalformed = 2,
+    OuterChecksum = 3,
+    Protocol = 4,
+    Piece = 5,
+    NotOurs = 6,
+    OuterSource = 7,
+    InnerMalformed = 8,
+    InnerSource = 9,
+    SourcesDiffer = 10,
+    LocatorNumber = 11,
+    NextHop = 12,
+    TunnelEnd = 13,
+    Room = 15,
+    NoReport = 16,
+    ForeignQuote = 17,
+    UnusableSize = 18,
+    SizeNotBelow = 19,
+    NoAdvertisement = 20,
+    Unlisted = 21,
+    NoneDue = 22,
+    TooLong = 23,
+}
+
+pub const OUTER_HEADER: usize = 20;
+pub const INNER_HEADER: usize = 40;
+pub const TUNNELLED: u8 = 41;
+const ICMPV6: u8 = 58;
+const LINK_LOCAL: [u8; 8] = [0xfe, 0x80, 0, 0, 0, 0, 0, 0];
+const UNSPECIFIED: Address = [0; 16];
+const LOOPBACK: Address = [0, 0, 0, 0, 0, 0, 0, 0, 0, 0, 0, 0, 0, 0, 0, 1];
+/// The most of a packet that a Too Big quotes.
+const QUOTED: usize = 1232;
+
+/// The 16-bit field at `at`.
+pub fn u16_at(bytes: &[u8], at: usize) -> u16 {
+    u16::from_be_bytes([bytes[at], bytes[at + 1]])
+}
+
+/// The 32-bit field at `at`.
+pub fn u32_at(bytes: &[u8], at: usize) -> u32 {
+    u32::from_be_bytes([bytes[at], bytes[at + 1], bytes[at + 2], bytes[at + 3]])
+}
+
+/// The address at `at`.
+pub fn address_at(bytes: &[u8], at: usize) -> Address {
+    let mut address = [0; 16];
+    address.copy_from_slice(&bytes[at..at + 16]);
+    address
+}
+
+/// The RFC 1071 sum of `bytes`, continued from the two words of `start`; a last odd byte is the high half of a word.
+pub fn checksum(start: u32, bytes: &[u8]) -> u16 {
+    let mut sum = u64::from(start >> 16) + u64::from(start & 0xffff);
+    // 32 bits hold the words of 64 KiB.
+    for block in bytes.chunks(1 << 16) {
+        let words = block.chunks_exact(2);
+        let odd = words.remainder().first().map_or(0, |&last| u32::from(last) << 8);
+        let words: u32 = words.map(|word| u32::from(u16::from_be_bytes([word[0], word[1]]))).sum();
+        sum += u64::from(words) + u64::from(odd);
+    }
+    while sum > 0xffff {
+        sum = (sum >> 16) + (sum & 0xffff);
+    }
+    sum as u16
+}
+
+/// Whether the sum that includes the checksum field is FFFF.
+pub fn checksum_right(bytes: &[u8]) -> bool {
+    checksum(0, bytes) == 0xffff
+}
+
+/// Whether the checksum of the ICMPv6 message in an IPv6 packet without extension headers is right.
+pub fn icmpv6_right(packet: &[u8]) -> bool {
+    icmpv6_sum(packet) == 0xffff
+}
+
+/// The sum over pseudo-header (RFC 4443 2.3) and message: the addresses stand just before the message.
+fn icmpv6_sum(packet: &[u8]) -> u16 {
+    let length = (packet.len() - INNER_HEADER) as u32;
+    let pseudo = checksum(length, &[0, ICMPV6]);
+    checksum(u32::from(pseudo), &packet[8..])
+}
+
+/// 0.0.0.0, 127.0.0.0/8, 224.0.0.0/4, 255.255.255.255.
+pub fn forbidden(address: u32) -> bool {
+    address == 0 || address >> 24 == 127 || address >> 28 == 0xe || address == u32::MAX
+}
+
+pub fn is_multicast(address: &Address) -> bool {
+    address[0] == 0xff
+}
+
+/// Multicast or `::`: no reporting address, and no source to send a message to.
+pub fn no_host(address: &Address) -> bool {
+    is_multicast(address) || *address == UNSPECIFIED
+}
+
+pub fn is_link_local(address: &Address) -> bool {
+    address[..8] == LINK_LOCAL
+}
+
+/// The IPv4 address that an ISATAP address embeds: an on-link prefix, 00 or 02, 00, 5E, FE, the address.
+pub fn isatap(prefixes: &[[u8; 8]], address: &Address) -> Option<u32> {
+    let on_link = is_link_local(address) || prefixes.iter().any(|prefix| *prefix == address[..8]);
+    let identifier = matches!(address[8..12], [0x00 | 0x02, 0x00, 0x5e, 0xfe]);
+    (on_link && identifier).then(|| u32_at(address, 12))
+}
+
+/// The link-local ISATAP address of an IPv4 address, as we form it.
+pub fn link_local(address: u32) -> Address {
+    let mut formed = [0; 16];
+    formed[..8].copy_from_slice(&LINK_LOCAL);
+    formed[8..12].copy_from_slice(&[0x00, 0x00, 0x5e, 0xfe]);
+    formed[12..].copy_from_slice(&address.to_be_bytes());
+    formed
+}
+
+/// ff00::/8, `::`, `::1`, or 96 zero bits followed by a forbidden IPv4 address.
+pub fn bad_source(address: &Address) -> bool {
+    let compatible = address[..12] == [0; 12];
+    is_multicast(address)
+        || *address == UNSPECIFIED
+        || *address == LOOPBACK
+        || compatible && forbidden(u32_at(address, 12))
+}
+
+/// An outer header as read.
+#[derive(Clone, Copy, Debug, PartialEq, Eq)]
+pub struct OuterRead {
+    pub header: u16,
+    pub total: u16,
+    pub protocol: u8,
+    pub source: u32,
+    pub destination: u32,
+}
+
+/// The outer header; 2, 3, 4, 5.
+pub fn read_outer(datagram: &[u8]) -> Result<OuterRead, Refusal> {
+    if datagram.len() < OUTER_HEADER || datagram[0] >> 4 != 4 {
+        return Err(Refusal::OuterMalformed);
+    }
+    let header = usize::from(datagram[0] & 0xf) * 4;
+    let total = usize::from(u16_at(datagram, 2));
+    if header < OUTER_HEADER || header > datagram.len() || total < header || total > datagram.len() {
+        return Err(Refusal::OuterMalformed);
+    }
+    if !checksum_right(&datagram[..header]) {
+        return Err(Refusal::OuterChecksum);
+    }
+    let protocol = datagram[9];
+    if protocol != TUNNELLED {
+        return Err(Refusal::Protocol);
+    }
+    // More-fragments and the 13 bits of the offset; don't-fragment and the reserved bit make no piece.
+    if u16_at(datagram, 6) & 0x3fff != 0 {
+        return Err(Refusal::Piece);
+    }
+    Ok(OuterRead {
+        header: header as u16,
+        total: total as u16,
+        protocol,
+        source: u32_at(datagram, 12),
+        destination: u32_at(datagram, 16),
+    })
+}
+
+/// The length of the IPv6 packet at the start of `bytes`; 8.
+pub fn inner_length(bytes: &[u8]) -> Result<usize, Refusal> {
+    if bytes.len() < INNER_HEADER || bytes[0] >> 4 != 6 {
+        return Err(Refusal::InnerMalformed);
+    }
+    let length = INNER_HEADER + usize::from(u16_at(bytes, 4));
+    if length > bytes.len() {
+        return Err(Refusal::InnerMalformed);
+    }
+    Ok(length)
+}
+
+/// Where the inner packet of a datagram stands; 2 to 5 and 8.
+pub fn unwrap(datagram: &[u8]) -> Result<Range<usize>, Refusal> {
+    let outer = read_outer(datagram)?;
+    let start = usize::from(outer.header);
+    let length = inner_length(&datagram[start..usize::from(outer.total)])?;
+    Ok(start..start + length)
+}
+
+/// What the outer header that we write is made of, lengths and checksum aside.
+#[derive(Clone, Copy, Debug, PartialEq, Eq)]
+pub struct Outer {
+    pub identification: u16,
+    pub dont_fragment: bool,
+    pub ttl: u8,
+    pub protocol: u8,
+    pub source: u32,
+    pub destination: u32,
+}
+
+/// Writes the packet behind its outer header and gives the length; 23, 15.
+pub fn wrap(outer: &Outer, packet: &[u8], out: &mut [u8]) -> Result<usize, Refusal> {
+    let length = OUTER_HEADER + packet.len();
+    let total = u16::try_from(length).map_err(|_| Refusal::TooLong)?;
+    let out = out.get_mut(..length).ok_or(Refusal::Room)?;
+    let (header, rest) = out.split_at_mut(OUTER_HEADER);
+    header[0] = 0x45;
+    header[1] = 0;
+    header[2..4].copy_from_slice(&total.to_be_bytes());
+    header[4..6].copy_from_slice(&outer.identification.to_be_bytes());
+    header[6] = if outer.dont_fragment { 0x40 } else { 0 };
+    header[7] = 0;
+    header[8] = outer.ttl;
+    header[9] = outer.protocol;
+    header[10..12].fill(0);
+    header[12..16].copy_from_slice(&outer.source.to_be_bytes());
+    header[16..20].copy_from_slice(&outer.destination.to_be_bytes());
+    let sum = checksum(0, header);
+    header[10..12].copy_from_slice(&(!sum).to_be_bytes());
+    rest.copy_from_slice(packet);
+    Ok(length)
+}
+
+/// Whether a packet that is too big is answered by no message: its source is no host, or it is an ICMPv6 error or redirect.
+pub fn unanswered(packet: &[u8]) -> bool {
+    let error = packet[6] == ICMPV6 && packet.len() > INNER_HEADER && (packet[40] < 128 || packet[40] == 137);
+    error || no_host(&address_at(packet, 8))
+}
+
+/// Writes an IPv6 header before an ICMPv6 message that stands in `out` from byte 40 on, and the message's checksum.
+fn finish_message(out: &mut [u8], hop_limit: u8, source: &Address, destination: &Address) {
+    let length = (out.len() - INNER_HEADER) as u16;
+    out[..4].copy_from_slice(&[0x60, 0, 0, 0]);
+    out[4..6].copy_from_slice(&length.to_be_bytes());
+    out[6] = ICMPV6;
+    out[7] = hop_limit;
+    out[8..24].copy_from_slice(source);
+    out[24..40].copy_from_slice(destination);
+    out[42..44].fill(0);
+    let sum = icmpv6_sum(out);
+    out[42..44].copy_from_slice(&(!sum).to_be_bytes());
+}
+
+/// Writes the Packet Too Big that answers a packet and gives its length; 8 (under 40 bytes), 15.
+pub fn too_big(reporting: &Address, size: u16, packet: &[u8], out: &mut [u8]) -> Result<usize, Refusal> {
+    if packet.len() < INNER_HEADER {
+        return Err(Refusal::InnerMalformed);
+    }
+    let quote = &packet[..packet.len().min(QUOTED)];
+    let length = INNER_HEADER + 8 + quote.len();
+    let out = out.get_mut(..length).ok_or(Refusal::Room)?;
+    out[40..44].copy_from_slice(&[2, 0, 0, 0]);
+    out[44..48].copy_from_slice(&u32::from(size).to_be_bytes());
+    out[48..].copy_from_slice(quote);
+    finish_message(out, 64, reporting, &address_at(packet, 8));
+    Ok(length)
+}
+
+/// Writes a router solicitation from our link-local address to the router's and gives its length; 15.
+pub fn solicitation(locator: u32, router: u32, out: &mut [u8]) -> Result<usize, Refusal> {
+    let out = out.get_mut(..48).ok_or(Refusal::Room)?;
+    out[40..48].copy_from_slice(&[133, 0, 0, 0, 0, 0, 0, 0]);
+    finish_message(out, 255, &link_local(locator), &link_local(router));
+    Ok(48)
+}
+
+/// The lifetime to renew a router by: the smallest that counts of an advertisement, `None` if none does; 20.
+pub fn advertised_lifetime(packet: &[u8]) -> Result<Option<u32>, Refusal> {
+    let refused = Err(Refusal::NoAdvertisement);
+    let message = &packet[INNER_HEADER..];
+    if packet[6] != ICMPV6 || packet[7] != 255 || !is_link_local(&address_at(packet, 8)) {
+        return refused;
+    }
+    if message.len() < 16 || message[0] != 134 || message[1] != 0 || !icmpv6_right(packet) {
+        return refused;
+    }
+    let mut smallest = counted(u32::from(u16_at(message, 6)));
+    let mut options = &message[16..];
+    while !options.is_empty() {
+        if options.len() < 2 || options[1] == 0 || usize::from(options[1]) * 8 > options.len() {
+            return refused;
+        }
+        let (option, rest) = options.split_at(usize::from(options[1]) * 8);
+        if matches!((option[0], option[1]), (3, 4) | (24, 1..=3)) {
+            let lifetime = counted(u32_at(option, 4));
+            smallest = smallest.into_iter().chain(lifetime).min();
+        }
+        options = rest;
+    }
+    Ok(smallest)
+}
+
+/// A lifetime, unless it is one of those that do not count.
+fn counted(lifetime: u32) -> Option<u32> {
+    (lifetime != 0 && lifetime != u32::MAX).then_some(lifetime)
+}

@@ -1,0 +1,90 @@
+//! How often each call was made and each answer met.
+
+/// A kind of call and the answers that it must have given at the end: document 01's numbers (0: not refused) for calls that have
+/// them, else 0 and 1 for no and yes.
+struct Kind {
+    name: &'static str,
+    answers: &'static [usize],
+}
+
+/// Too Big with no message: counted apart from 14.
+pub const TOO_BIG_SILENT: usize = 24;
+const ANSWERS: usize = 25;
+
+macro_rules! kinds {
+    ($($constant:ident $name:literal $answers:expr;)*) => {
+        #[derive(Clone, Copy)]
+        pub enum Call { $($constant),* }
+        const KINDS: &[Kind] = &[$(Kind { name: $name, answers: &$answers }),*];
+    };
+}
+
+kinds! {
+    Defaults "defaults" [0];
+    New "new" [0, 1];
+    Receive "receive" [0, 2, 3, 4, 5, 6, 7, 8, 9, 10];
+    Send "send" [0, 8, 11, 12, 13, 14, TOO_BIG_SILENT, 15];
+    Report "report" [0, 16, 17, 18, 19];
+    Replace "replace_routers" [0, 1];
+    Ask "ask" [0, 11, 22, 15];
+    Hear "hear" [0, 8, 20, 21];
+    PathSize "path_size" [0, 1];
+    Checksum "checksum" [0];
+    ChecksumRight "checksum_right" [0, 1];
+    Forbidden "forbidden" [0, 1];
+    Isatap "isatap" [0, 1];
+    LinkLocal "link_local" [0];
+    BadSource "bad_source" [0, 1];
+    ReadOuter "read_outer" [0, 2, 3, 4, 5];
+    Unwrap "unwrap" [0, 2, 3, 4, 5, 8];
+    Wrap "wrap" [0, 15, 23];
+    TooBig "too_big" [0, 8, 15];
+    Solicitation "solicitation" [0, 15];
+    AnyNode "on any node" [0, 1, 11, 14, 15, 17, 19, 21, 22];
+}
+
+pub struct Totals {
+    counts: Vec<[u64; ANSWERS]>,
+    pub calls: u64,
+}
+
+impl Totals {
+    pub fn new() -> Totals {
+        Totals { counts: vec![[0; ANSWERS]; KINDS.len()], calls: 0 }
+    }
+
+    pub fn count(&mut self, call: Call, answer: usize) {
+        self.counts[call as usize][answer] += 1;
+        self.calls += 1;
+    }
+
+    /// One line: the calls by kind, and in brackets the answers by number.
+    pub fn line(&self) -> String {
+        let kinds: Vec<String> = KINDS.iter().zip(&self.counts).map(|(kind, counts)| kind_line(kind, counts)).collect();
+        format!("{} calls the same: {}", self.calls, kinds.join(", "))
+    }
+
+    /// The answers that should have been met and were not.
+    pub fn missing(&self) -> Vec<String> {
+        let mut missing = Vec::new();
+        for (kind, counts) in KINDS.iter().zip(&self.counts) {
+            let unmet = kind.answers.iter().filter(|&&answer| counts[answer] == 0);
+            missing.extend(unmet.map(|&answer| format!("{} {}", kind.name, answer_name(answer))));
+        }
+        missing
+    }
+}
+
+fn kind_line(kind: &Kind, counts: &[u64; ANSWERS]) -> String {
+    let met = counts.iter().enumerate().filter(|(_, &count)| count > 0);
+    let answers: Vec<String> = met.map(|(answer, count)| format!("{}: {count}", answer_name(answer))).collect();
+    format!("{} {} ({})", kind.name, counts.iter().sum::<u64>(), answers.join(" "))
+}
+
+fn answer_name(answer: usize) -> String {
+    if answer == TOO_BIG_SILENT {
+        "14 silent".into()
+    } else {
+        answer.to_string()
+    }
+}
