@@ -1,6 +1,6 @@
 -- Numbers that are put together of bytes are the same exactly if their bytes are, so that one test of numbers is four or eight of bytes.
 -- Assumes nothing.
-use Prim.Native.Nat.{ℕ, _<_}
+use Prim.Native.Nat.{ℕ, suc, _<_}
 use mathlib.Core.Path.{_≡_, refl, sym}
 use mathlib.Core.Bool.{Bool, true, false, _&&_, _||_, or-self, or-false, and-or-distrib-right}
 use mathlib.Core.List.{List}
@@ -68,12 +68,13 @@ either-first true true a b c = or-self (a && b && c)
 either-first true false a b c = or-false (a && b && c)
 either-first false t a b c = refl
 
+-- the number of four bytes of a list, from place i on
+abbrev pub quadAt : List ℕ → ℕ → ℕ
+quadAt a i = quadOf (getD a i 0) (getD a (suc i) 0) (getD a (suc (suc i)) 0) (getD a (suc (suc (suc i))) 0)
+
 module _ (a : List ℕ) (byte : (i : ℕ) → Fits w8 (getD a i 0)) where
   -- two numbers of four bytes are the eight bytes of a prefix
-  pub under-quads : (p : List ℕ) → ((i : ℕ) → Fits w8 (getD p i 0))
-      → (eqb (quadOf (getD p 0 0) (getD p 1 0) (getD p 2 0) (getD p 3 0)) (quadOf (getD a 0 0) (getD a 1 0) (getD a 2 0) (getD a 3 0))
-      && eqb (quadOf (getD p 4 0) (getD p 5 0) (getD p 6 0) (getD p 7 0)) (quadOf (getD a 4 0) (getD a 5 0) (getD a 6 0) (getD a 7 0)))
-      ≡ isUnder a p
+  pub under-quads : (p : List ℕ) → ((i : ℕ) → Fits w8 (getD p i 0)) → (eqb (quadAt p 0) (quadAt a 0) && eqb (quadAt p 4) (quadAt a 4)) ≡ isUnder a p
   unfolding isUnder
   under-quads p p-byte =
       rw (
@@ -82,65 +83,58 @@ module _ (a : List ℕ) (byte : (i : ℕ) → Fits w8 (getD a i 0)) where
         groups,
       )
 
+  quad-is : (i b c d e : ℕ) → c < 256 → d < 256 → e < 256
+      → eqb (quadAt a i) (quadOf b c d e) ≡ (eqb (getD a i 0) b && eqb (getD a (suc i) 0) c && eqb (getD a (suc (suc i)) 0) d && eqb (getD a (suc (suc (suc i))) 0) e)
+  quad-is i b c d e =
+      quad-same _ _ _ _ b c d e (byte (suc i) .fits) (byte (suc (suc i)) .fits) (byte (suc (suc (suc i))) .fits)
+
   -- 00-00-5E-FE or 02-00-5E-FE as one number
-  pub identifier-quad :
-      (eqb (quadOf (getD a 8 0) (getD a 9 0) (getD a 10 0) (getD a 11 0)) 24318 || eqb (quadOf (getD a 8 0) (getD a 9 0) (getD a 10 0) (getD a 11 0)) 33578750)
-      ≡ isIdentifier a
+  pub identifier-quad : (eqb (quadAt a 8) (quadOf 0 0 94 254) || eqb (quadAt a 8) (quadOf 2 0 94 254)) ≡ isIdentifier a
   unfolding isIdentifier
   identifier-quad =
       rw (
-        quad-same (getD a 8 0) (getD a 9 0) (getD a 10 0) (getD a 11 0) 0 0 94 254 (byte 9 .fits) (byte 10 .fits) (byte 11 .fits) (omega arith) (omega arith) (omega arith),
-        quad-same (getD a 8 0) (getD a 9 0) (getD a 10 0) (getD a 11 0) 2 0 94 254 (byte 9 .fits) (byte 10 .fits) (byte 11 .fits) (omega arith) (omega arith) (omega arith),
+        quad-is 8 0 0 94 254 (omega arith) (omega arith) (omega arith),
+        quad-is 8 2 0 94 254 (omega arith) (omega arith) (omega arith),
         either-first,
       )
 
   -- three numbers are 96 bits
-  pub zero-quads :
-      (eqb (quadOf (getD a 0 0) (getD a 1 0) (getD a 2 0) (getD a 3 0)) 0
-      && eqb (quadOf (getD a 4 0) (getD a 5 0) (getD a 6 0) (getD a 7 0)) 0
-      && eqb (quadOf (getD a 8 0) (getD a 9 0) (getD a 10 0) (getD a 11 0)) 0)
-      ≡ areZero 12 a
+  pub zero-quads : (eqb (quadAt a 0) 0 && eqb (quadAt a 4) 0 && eqb (quadAt a 8) 0) ≡ areZero 12 a
   zero-quads =
       rw (
-        quad-same (getD a 0 0) (getD a 1 0) (getD a 2 0) (getD a 3 0) 0 0 0 0 (byte 1 .fits) (byte 2 .fits) (byte 3 .fits) (omega arith) (omega arith) (omega arith),
-        quad-same (getD a 4 0) (getD a 5 0) (getD a 6 0) (getD a 7 0) 0 0 0 0 (byte 5 .fits) (byte 6 .fits) (byte 7 .fits) (omega arith) (omega arith) (omega arith),
-        quad-same (getD a 8 0) (getD a 9 0) (getD a 10 0) (getD a 11 0) 0 0 0 0 (byte 9 .fits) (byte 10 .fits) (byte 11 .fits) (omega arith) (omega arith) (omega arith),
-        groups,
-        groups,
-      )
+        quad-is 0 0 0 0 0 (omega arith) (omega arith) (omega arith),
+        quad-is 4 0 0 0 0 (omega arith) (omega arith) (omega arith),
+        quad-is 8 0 0 0 0 (omega arith) (omega arith) (omega arith),
+      ) (simp groups)
 
-  quad-fits : (i j k l : ℕ) → quadOf (getD a i 0) (getD a j 0) (getD a k 0) (getD a l 0) < 4294967296
-  quad-fits i j k l = omega (arith, byte i .fits, byte j .fits, byte k .fits, byte l .fits)
+  quad-fits : (i : ℕ) → quadAt a i < 4294967296
+  quad-fits i = omega (arith, byte i .fits, byte (suc i) .fits, byte (suc (suc i)) .fits, byte (suc (suc (suc i))) .fits)
 
   last-fits : lastQuad a < 4294967296
   unfolding lastQuad
-  last-fits = quad-fits 12 13 14 15
+  last-fits = quad-fits 12
 
   -- fe80::/64 as one number
-  pub prefix-wide :
-      eqb (wideOf (quadOf (getD a 0 0) (getD a 1 0) (getD a 2 0) (getD a 3 0)) (quadOf (getD a 4 0) (getD a 5 0) (getD a 6 0) (getD a 7 0))) 18338657682652659712
-      ≡ isLinkLocal a
+  pub prefix-wide : eqb (wideOf (quadAt a 0) (quadAt a 4)) (wideOf (quadOf 254 128 0 0) 0) ≡ isLinkLocal a
   unfolding isUnder
   prefix-wide =
       rw (
-        wide-same (quadOf (getD a 0 0) (getD a 1 0) (getD a 2 0) (getD a 3 0)) (quadOf (getD a 4 0) (getD a 5 0) (getD a 6 0) (getD a 7 0)) 4269801472 0
-            (quad-fits 4 5 6 7) (omega arith),
-        swapped (quadOf (getD a 0 0) (getD a 1 0) (getD a 2 0) (getD a 3 0)) 4269801472,
-        swapped (quadOf (getD a 4 0) (getD a 5 0) (getD a 6 0) (getD a 7 0)) 0,
-        quad-same 254 128 0 0 (getD a 0 0) (getD a 1 0) (getD a 2 0) (getD a 3 0) (omega arith) (omega arith) (omega arith) (byte 1 .fits) (byte 2 .fits) (byte 3 .fits),
-        quad-same 0 0 0 0 (getD a 4 0) (getD a 5 0) (getD a 6 0) (getD a 7 0) (omega arith) (omega arith) (omega arith) (byte 5 .fits) (byte 6 .fits) (byte 7 .fits),
+        wide-same (quadAt a 0) (quadAt a 4) (quadOf 254 128 0 0) 0 (quad-fits 4) (omega arith),
+        swapped (quadAt a 0) (quadOf 254 128 0 0),
+        swapped (quadAt a 4) 0,
+        quad-same 254 128 0 0 _ _ _ _ (omega arith) (omega arith) (omega arith) (byte 1 .fits) (byte 2 .fits) (byte 3 .fits),
+        quad-same 0 0 0 0 _ _ _ _ (omega arith) (omega arith) (omega arith) (byte 5 .fits) (byte 6 .fits) (byte 7 .fits),
         groups,
       )
 
   -- the identifier and the embedded address as one number
   pub identifier-wide : (v : ℕ) → v < 4294967296
-      → (eqb (wideOf (quadOf (getD a 8 0) (getD a 9 0) (getD a 10 0) (getD a 11 0)) (lastQuad a)) (wideOf 24318 v)
-      || eqb (wideOf (quadOf (getD a 8 0) (getD a 9 0) (getD a 10 0) (getD a 11 0)) (lastQuad a)) (wideOf 33578750 v))
+      → (eqb (wideOf (quadAt a 8) (lastQuad a)) (wideOf (quadOf 0 0 94 254) v) || eqb (wideOf (quadAt a 8) (lastQuad a)) (wideOf (quadOf 2 0 94 254) v))
       ≡ (isIdentifier a && eqb (lastQuad a) v)
   identifier-wide v h =
       rw (
-        wide-same (quadOf (getD a 8 0) (getD a 9 0) (getD a 10 0) (getD a 11 0)) (lastQuad a) 24318 v last-fits h,
-        wide-same (quadOf (getD a 8 0) (getD a 9 0) (getD a 10 0) (getD a 11 0)) (lastQuad a) 33578750 v last-fits h,
+        wide-same (quadAt a 8) (lastQuad a) (quadOf 0 0 94 254) v last-fits h,
+        wide-same (quadAt a 8) (lastQuad a) (quadOf 2 0 94 254) v last-fits h,
         ← and-or-distrib-right,
         identifier-quad,
       )
