@@ -4,7 +4,7 @@ use native.Mathlib.Omega.{arith}
 use mathlib.Core.Path.{sym, _∙_}
 use Rattle.address.specs.Laws.{link-local-embeds, plain-embeds-nothing}
 use Rattle.settings.specs.Settings.{embeddedTo}
-use Rattle.settings.specs.Locators.{rowsOf}
+use Rattle.address.specs.Prefixes.{rowsOf}
 use Rattle.settings.proofs.Settings.embedded.Statement.{statement}
 use Rattle.settings.proofs.Settings.embedded.Tie as tie
 
