@@ -1,0 +1,14 @@
+-- `lent_capi::send_step` meets its contract: what `capi::bogtrumpet_send` answers, and what it changes of the node. Assumes nothing.
+use native.Mathlib.Omega.{arith}
+use Rattle.lent_capi.specs.Steps.{sendStep}
+use Rattle.lent_capi.proofs.send_step.Statement.{statement}
+use Rattle.lent_capi.proofs.send_step.Tie as tie
+
+returns : tie.Need-returns
+unfolding sendStep
+returns c =
+    let sent = c .before .before .before .before .bogtrumpet-send in
+    (rw (sent .ensures .0), sent .ensures .1)
+
+pub send-step-spec : {M : Type 1} → statement M
+send-step-spec = tie.close (tie.spec (omega arith) (omega arith) returns)
