@@ -1,171 +1,119 @@
-//! The proved path table beside the same table in straightforward Rust: three arrays, the newest report first.
-use crate::{row, row_of, Random};
+//! The rows of the path table with 64 neighbours: lookups, and updates by accepted reports. Each takes and gives the table alone.
+
+use crate::bogtrumpet::{Node, Paths};
+use crate::check::Check;
+use crate::measure::{Row, Turns};
+use crate::plain::{PathTable, Report, NEIGHBOURS};
+use crate::random::Random;
+use crate::{calls, lent_node};
 use std::hint::black_box;
-
-const NEIGHBOURS: usize = 64;
-const LIFETIME: u64 = 600;
-
-/// The table as both have it: place by place whose report it is, its size and its time; the first `count` are in use.
-#[repr(C)]
-#[derive(Clone, Copy, Debug, PartialEq)]
-struct PathTable {
-    neighbours: [u32; NEIGHBOURS],
-    sizes: [u16; NEIGHBOURS],
-    times: [u32; NEIGHBOURS],
-    count: usize,
-}
 
 // The functions are total: any table and any numbers will do.
 unsafe extern "C" {
-    safe fn bogtrumpet_path_table() -> PathTable;
-    safe fn bogtrumpet_table_size(table: PathTable, link: u16, neighbour: u32, now: u32) -> u16;
-    safe fn bogtrumpet_path_accepted(table: PathTable, neighbour: u32, size: u16, now: u32) -> PathTable;
-    safe fn bogtrumpet_path_sizes(table: PathTable, link: u16, first: u32, count: u32, now: u32) -> u64;
-    safe fn bogtrumpet_path_accepted_many(table: PathTable, first: u32, count: u32, size: u16, now: u32) -> PathTable;
-}
-
-/// The table as one writes it in Rust.
-impl PathTable {
-    fn place(&self, neighbour: u32) -> Option<usize> {
-        let count = self.count.min(NEIGHBOURS);
-        self.neighbours[..count].iter().position(|&n| n == neighbour)
-    }
-
-    fn size(&self, link: u16, neighbour: u32, now: u32) -> u16 {
-        match self.place(neighbour) {
-            Some(p) if (now as u64) < self.times[p] as u64 + LIFETIME => self.sizes[p],
-            _ => link,
-        }
-    }
-
-    fn accept(&mut self, neighbour: u32, size: u16, now: u32) {
-        let count = self.count.min(NEIGHBOURS);
-        let last = self.place(neighbour).unwrap_or(count).min(NEIGHBOURS - 1);
-        self.neighbours.copy_within(..last, 1);
-        self.sizes.copy_within(..last, 1);
-        self.times.copy_within(..last, 1);
-        self.neighbours[0] = neighbour;
-        self.sizes[0] = size;
-        self.times[0] = now;
-        self.count = count.max(last + 1);
-    }
-}
-
-#[inline(never)]
-extern "C" fn path_size_rust(table: PathTable, link: u16, neighbour: u32, now: u32) -> u16 {
-    table.size(link, neighbour, now)
-}
-
-#[inline(never)]
-extern "C" fn path_accepted_rust(mut table: PathTable, neighbour: u32, size: u16, now: u32) -> PathTable {
-    table.accept(neighbour, size, now);
-    table
-}
-
-#[inline(never)]
-extern "C" fn path_sizes_rust(table: PathTable, link: u16, first: u32, count: u32, now: u32) -> u64 {
-    (0..count).map(|i| table.size(link, first.wrapping_add(i), now) as u64).sum()
-}
-
-#[inline(never)]
-extern "C" fn path_accepted_many_rust(mut table: PathTable, first: u32, count: u32, size: u16, now: u32) -> PathTable {
-    for i in 0..count {
-        table.accept(first.wrapping_add(i), size, now);
-    }
-    table
-}
-
-/// Any table, also one that no tunnel end makes: neighbours twice, ages about the lifetime, a count that may be too large.
-fn any_table(random: &mut Random, now: u32) -> PathTable {
-    let mut table = bogtrumpet_path_table();
-    for p in 0..NEIGHBOURS {
-        table.neighbours[p] = (random.next() % 90) as u32;
-        table.sizes[p] = random.next() as u16;
-        table.times[p] = now.wrapping_sub((random.next() % 1200) as u32);
-    }
-    table.count = (random.next() % 70) as usize;
-    table
-}
-
-/// Sizes toward kept and other neighbours, and whole tables after reports.
-pub fn compare(random: &mut Random) {
-    for turn in 0..20_000 {
-        let now = if turn % 4 == 0 { u32::MAX - turn } else { 1000 + turn };
-        let table = any_table(random, now);
-        let (neighbour, size, link) = ((random.next() % 90) as u32, random.next() as u16, random.next() as u16);
-        let first = neighbour.wrapping_sub(40);
-        let count = (random.next() % 100) as u32;
-        let check = |what: &str, same: bool| {
-            assert!(same, "{what} {neighbour} at {now}, {count} of them from {first}: {table:?}");
-        };
-        check(
-            "size toward",
-            bogtrumpet_table_size(table, link, neighbour, now) == path_size_rust(table, link, neighbour, now),
-        );
-        check(
-            "report of",
-            bogtrumpet_path_accepted(table, neighbour, size, now) == path_accepted_rust(table, neighbour, size, now),
-        );
-        check(
-            "sizes toward",
-            bogtrumpet_path_sizes(table, link, first, count, now) == path_sizes_rust(table, link, first, count, now),
-        );
-        check(
-            "reports of",
-            bogtrumpet_path_accepted_many(table, first, count, size, now)
-                == path_accepted_many_rust(table, first, count, size, now),
-        );
-    }
+    safe fn bogtrumpet_path_table() -> Paths;
+    safe fn bogtrumpet_table_size(table: Paths, link: u16, neighbour: u32, now: u32) -> u16;
+    safe fn bogtrumpet_path_accepted(table: Paths, neighbour: u32, size: u16, now: u32) -> Paths;
+    safe fn bogtrumpet_path_sizes(table: Paths, link: u16, first: u32, count: u32, now: u32) -> u64;
+    safe fn bogtrumpet_path_accepted_many(table: Paths, first: u32, count: u32, size: u16, now: u32) -> Paths;
 }
 
 const LINK: u16 = 1500;
+const SIZE: u16 = 1400;
 const NOW: u32 = 1000;
-/// A full table keeps the neighbours from KEPT on; those from OTHER on are kept by none.
+/// A full table keeps the 64 neighbours from KEPT on; those from OTHER on are kept by none.
 const KEPT: u32 = 0x0a00_0001;
 const OTHER: u32 = 0x0b00_0001;
+const COUNT: u32 = NEIGHBOURS as u32;
 
-fn full() -> PathTable {
-    bogtrumpet_path_accepted_many(bogtrumpet_path_table(), KEPT, NEIGHBOURS as u32, 1400, NOW)
+#[inline(never)]
+fn plain_size(table: &PathTable, link: u16, neighbour: u32, now: u32) -> u16 {
+    table.size(neighbour, now).unwrap_or(link)
 }
 
-/// Calls in a loop of the program itself: nanoseconds a lookup or an update. Found: each of the 64 once.
-/// Lookups in an empty table have no row here: both compilers make that loop one product.
-pub fn time_inside() {
-    let sizes = |name: &str, table: PathTable, first: u32, count: u32| {
-        row_of(
-            name,
-            count,
-            || _ = black_box(bogtrumpet_path_sizes(*black_box(&table), LINK, first, count, NOW)),
-            || _ = black_box(path_sizes_rust(*black_box(&table), LINK, first, count, NOW)),
-        )
-    };
-    sizes("path lookup 64 found", full(), KEPT, NEIGHBOURS as u32);
-    sizes("path lookup 64 not found", full(), OTHER, 1024);
-    let table = full();
-    row_of(
-        "path update 64",
-        1024,
-        || _ = black_box(&bogtrumpet_path_accepted_many(*black_box(&table), OTHER, 1024, 1300, NOW)),
-        || _ = black_box(&path_accepted_many_rust(*black_box(&table), OTHER, 1024, 1300, NOW)),
-    );
+#[inline(never)]
+fn plain_accept(table: &mut PathTable, neighbour: u32, size: u16, now: u32) {
+    table.accept(Report { neighbour, size, time: now });
 }
 
-/// One call across C for each: both take the table by value, and an update gives it back so.
-pub fn time_across() {
-    let size = |name: &str, table: PathTable, neighbour: u32| {
-        row(
-            name,
-            || _ = black_box(bogtrumpet_table_size(*black_box(&table), LINK, black_box(neighbour), NOW)),
-            || _ = black_box(path_size_rust(*black_box(&table), LINK, black_box(neighbour), NOW)),
-        )
-    };
-    size("path lookup 64 found", full(), KEPT + 32);
-    size("path lookup 64 not found", full(), OTHER);
-    size("path lookup 0", bogtrumpet_path_table(), OTHER);
-    let table = full();
-    row(
-        "path update 64",
-        || _ = black_box(&bogtrumpet_path_accepted(*black_box(&table), black_box(OTHER), 1300, NOW)),
-        || _ = black_box(&path_accepted_rust(*black_box(&table), black_box(OTHER), 1300, NOW)),
-    );
+fn full() -> (PathTable, Paths) {
+    let mut plain = PathTable::new();
+    (KEPT..KEPT + COUNT).for_each(|neighbour| plain_accept(&mut plain, neighbour, SIZE, NOW));
+    (plain, bogtrumpet_path_accepted_many(bogtrumpet_path_table(), KEPT, COUNT, SIZE, NOW))
+}
+
+fn same(plain: &PathTable, table: &Paths) -> bool {
+    let report =
+        |place| Report { neighbour: table.neighbours[place], size: table.sizes[place], time: table.times[place] };
+    plain.as_slice().iter().copied().eq((0..table.count).map(report))
+}
+
+/// Random reports, a table after each, and the sizes in force: from empty tables to full ones.
+fn compare(random: &mut Random) {
+    for _ in 0..200 {
+        let (mut plain, mut table, mut now) = (PathTable::new(), bogtrumpet_path_table(), 0);
+        for _ in 0..200 {
+            let (neighbour, asked, size) = (random.below(90) as u32, random.below(90) as u32, random.next() as u16);
+            let (first, count) = (random.below(90) as u32, random.below(70) as u32);
+            now += random.below(30) as u32;
+            plain_accept(&mut plain, neighbour, size, now);
+            table = bogtrumpet_path_accepted(table, neighbour, size, now);
+            assert!(same(&plain, &table), "report of {neighbour} at {now}: {plain:?}");
+            let expected = plain_size(&plain, LINK, asked, now);
+            assert_eq!(expected, bogtrumpet_table_size(table, LINK, asked, now), "size toward {asked}: {plain:?}");
+            let sum: u64 = (first..first + count).map(|asked| u64::from(plain_size(&plain, LINK, asked, now))).sum();
+            let sizes = bogtrumpet_path_sizes(table, LINK, first, count, now);
+            assert_eq!(sum, sizes, "sizes toward {count} from {first} at {now}: {plain:?}");
+        }
+    }
+}
+
+/// Turns of a lookup or an update, which is given a number of its own in each of every 64 turns.
+pub fn turns<T: Copy + 'static>(start: T, one: impl Fn(&mut T, u32) + 'static) -> Option<Turns> {
+    Some(Box::new(move |turns| {
+        let mut table = start;
+        for turn in 0..turns {
+            one(&mut table, turn % COUNT);
+        }
+        black_box(&table);
+    }))
+}
+
+/// The sizes toward 64 neighbours in turn.
+fn lookup(name: &str, mut node: Node, first: u32) -> Row {
+    let (plain, table) = full();
+    (node.paths, node.latest, node.service.settings.link_size) = (table, NOW, LINK);
+    let by_reference =
+        turns(plain, move |table, place| _ = black_box(plain_size(black_box(table), LINK, first + place, NOW)));
+    let by_value = turns(table, move |table, place| {
+        black_box(bogtrumpet_table_size(*black_box(table), LINK, first + place, NOW));
+    });
+    let inside: Turns = Box::new(move |turns| {
+        for _ in 0..turns / COUNT {
+            black_box(bogtrumpet_path_sizes(*black_box(&table), LINK, first, COUNT, NOW));
+        }
+    });
+    Row { name: name.into(), ways: [by_reference, by_value, Some(inside), lent_node::path_sizes(node, first)] }
+}
+
+/// Reports of neighbours that the table does not keep: each moves all rows.
+fn update() -> Row {
+    let (plain, table) = full();
+    let by_reference = turns((plain, OTHER), move |state, _| {
+        plain_accept(black_box(&mut state.0), state.1, SIZE, NOW);
+        state.1 += 1;
+    });
+    let by_value = turns((table, OTHER), move |state, _| {
+        state.0 = bogtrumpet_path_accepted(*black_box(&state.0), state.1, SIZE, NOW);
+        state.1 += 1;
+    });
+    let inside: Turns = Box::new(move |turns| {
+        black_box(bogtrumpet_path_accepted_many(*black_box(&table), OTHER, turns, SIZE, NOW));
+    });
+    Row { name: "path update".into(), ways: [by_reference, by_value, Some(inside), None] }
+}
+
+pub fn rows(check: &mut Check) -> Vec<Row> {
+    compare(&mut check.random);
+    let node = calls::nodes(check, 0).library;
+    vec![lookup("path lookup, found", node, KEPT), lookup("path lookup, not found", node, OTHER), update()]
 }

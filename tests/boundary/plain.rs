@@ -163,7 +163,7 @@ pub struct PathTable {
 }
 
 impl PathTable {
-    fn new() -> PathTable {
+    pub fn new() -> PathTable {
         PathTable { reports: [Report { neighbour: 0, size: 0, time: 0 }; NEIGHBOURS], count: 0 }
     }
 
@@ -176,13 +176,13 @@ impl PathTable {
     }
 
     /// The reported size toward the neighbour that is in force.
-    fn size(&self, neighbour: u32, now: u32) -> Option<u16> {
+    pub fn size(&self, neighbour: u32, now: u32) -> Option<u16> {
         let report = &self.reports[self.place(neighbour)?];
         (now - report.time < REPORT_AGE).then_some(report.size)
     }
 
     /// Puts the report first. The neighbour's old one goes, or else the oldest if the table is full.
-    fn accept(&mut self, report: Report) {
+    pub fn accept(&mut self, report: Report) {
         let vacated = match self.place(report.neighbour) {
             Some(place) => place,
             None if self.count == NEIGHBOURS => NEIGHBOURS - 1,

@@ -1,0 +1,225 @@
+//! The rows of a node's calls: what each is given, turn by turn, and the number that it must give.
+
+use crate::check::Check;
+use crate::measure::Row;
+use crate::nodes::Nodes;
+use crate::packets::{address, advertisement, datagram, option, packet, put, put16, put32, repair_outer, size_report};
+use crate::plain::rules::link_local;
+use crate::plain::{Address, Locator, Settings};
+use crate::ways::{self, Turn};
+use crate::{inside, lent_node};
+
+pub const INTERFACE: u8 = 1;
+pub const LOCATOR: usize = 0;
+/// Bytes of output that a call is lent.
+pub const ROOM: usize = 2048;
+/// The time of the first turn.
+pub const START: u32 = 1000;
+
+const OWN: u32 = 0x0a01_0001;
+const PREFIXES: [[u8; 8]; 2] = [[0x20, 1, 0xd, 0xb8, 0, 0, 0, 1], [0x20, 1, 0xd, 0xb8, 0, 0, 0, 2]];
+const ROUTERS: [u32; 4] = [0x0a02_0001, 0x0a02_0002, 0x0a02_0003, 0x0a02_0004];
+/// The neighbours that a full path table keeps, and others.
+const KEPT: u32 = 0x0a03_0000;
+const OTHER: u32 = 0x0a04_0000;
+const NEXT_HOP: u32 = KEPT + 32;
+const LINK_SIZE: u16 = 9000;
+const REPORTED: u16 = 1500;
+
+pub enum Call {
+    Receive,
+    Send,
+    Report,
+    Ask,
+    Hear,
+}
+
+/// One call, made with its inputs in turn.
+pub struct Work {
+    pub name: String,
+    pub call: Call,
+    /// What every turn must give.
+    number: u8,
+    pub nodes: Nodes,
+    /// The inputs, one behind the other, and each.
+    pub all: &'static [u8],
+    pub inputs: [&'static [u8]; 4],
+    pub next_hop: Address,
+    /// Seconds from turn to turn.
+    pub step: u32,
+}
+
+impl Work {
+    /// What a turn is given.
+    pub fn turn<'a>(&'a self, turn: u32, out: &'a mut [u8]) -> Turn<'a> {
+        let (input, time) = (self.inputs[turn as usize % 4], START + turn * self.step);
+        Turn { input, next_hop: &self.next_hop, interface: INTERFACE, locator: LOCATOR, time, out }
+    }
+}
+
+/// A work whose four inputs have the same length.
+fn work(name: String, call: Call, number: u8, nodes: Nodes, input: impl FnMut(u32) -> Vec<u8>) -> Work {
+    let all = (0..4).flat_map(input).collect::<Vec<u8>>().leak();
+    let size = all.len() / 4;
+    let inputs = [0, 1, 2, 3].map(|place| &all[place * size..][..size]);
+    Work { name, call, number, nodes, all, inputs, next_hop: link_local(NEXT_HOP), step: 0 }
+}
+
+/// A tunnel end with two locators, two prefixes and four routers, and `kept` neighbours in its path table.
+pub fn nodes(check: &mut Check, kept: u32) -> Nodes {
+    let mut settings = Settings { locator_count: 2, prefix_count: 2, router_count: 4, ..Settings::default() };
+    settings.locators[0] = Locator { address: OWN, interface: INTERFACE };
+    settings.locators[1] = Locator { address: OWN + 1, interface: INTERFACE + 1 };
+    settings.prefixes[..2].copy_from_slice(&PREFIXES);
+    settings.routers[..4].copy_from_slice(&ROUTERS);
+    let settings = Settings { link_size: LINK_SIZE, interval: 1, ..settings.defaults() };
+    let mut nodes = Nodes::new(check, &settings).expect("settings that are allowed");
+    for neighbour in KEPT..KEPT + kept {
+        let message = size_report(&mut check.random, REPORTED, 0, (OWN, neighbour), 0, 8);
+        assert_eq!(nodes.report(check, &message, START), 0);
+    }
+    nodes
+}
+
+/// Four sources that pass: by fe80::/64, by either prefix, and a listed router's.
+fn passing(turn: u32) -> (u32, Address) {
+    let neighbour = OTHER + turn;
+    match turn {
+        0 => (neighbour, link_local(neighbour)),
+        1 | 2 => (neighbour, address(&PREFIXES[turn as usize - 1], 0, neighbour)),
+        _ => (ROUTERS[2], address(&[0x20, 2, 0, 0, 0, 0, 0, 0], 0, 1)),
+    }
+}
+
+/// A datagram that is delivered.
+fn delivered(check: &mut Check, turn: u32, length: usize) -> Vec<u8> {
+    let (neighbour, source) = passing(turn);
+    let inner = packet(&mut check.random, length, 17, &source);
+    datagram(&mut check.random, (neighbour, OWN), 0, &inner, 0)
+}
+
+/// The same with one thing wrong, so that it is refused by the number.
+fn refused(check: &mut Check, turn: u32, number: u8) -> Vec<u8> {
+    let mut d = delivered(check, turn, 64);
+    match number {
+        2 => put16(&mut d, 2, 85),
+        3 => d[8] ^= 1,
+        4 => d[9] = 17,
+        5 => put16(&mut d, 6, 0x2000),
+        6 => put32(&mut d, 16, OWN + 1),
+        7 => put32(&mut d, 12, 0x7f00_0001 + turn),
+        8 => put16(&mut d, 24, 25),
+        9 => put(&mut d, 28, &[0xff, 2]),
+        _ => put32(&mut d, 12, OTHER + 10 + turn),
+    }
+    if number != 3 {
+        repair_outer(&mut d);
+    }
+    d
+}
+
+fn receives(check: &mut Check) -> Vec<Work> {
+    let mut works = Vec::new();
+    for length in [64, 1280] {
+        let nodes = nodes(check, 0);
+        works.push(work(format!("receive {length}"), Call::Receive, 0, nodes, |turn| delivered(check, turn, length)));
+    }
+    for number in 2..=10 {
+        let nodes = nodes(check, 0);
+        let name = format!("receive, refused by {number}");
+        works.push(work(name, Call::Receive, number, nodes, |turn| refused(check, turn, number)));
+    }
+    works
+}
+
+/// Four packets to a next hop that a full path table keeps.
+fn send(check: &mut Check, length: usize, kept: u32) -> Work {
+    let nodes = nodes(check, kept);
+    let source = link_local(OWN);
+    let name = format!("send {length}, {kept} kept");
+    work(name, Call::Send, 0, nodes, |_| packet(&mut check.random, length, 17, &source))
+}
+
+fn sends(check: &mut Check) -> Vec<Work> {
+    let mut works = Vec::new();
+    for length in [64, 576, 1280, 1480] {
+        works.extend([send(check, length, 0), send(check, length, 64)]);
+    }
+    let mut too_big = send(check, 1500, 64);
+    too_big.name = "send 1500, Too Big".into();
+    too_big.number = 14;
+    works.push(too_big);
+    works
+}
+
+/// Reports about four neighbours that the path table keeps, which would all be too old if it were not for the refusal.
+fn reports(check: &mut Check) -> Vec<Work> {
+    let mut works = Vec::new();
+    for (number, size, own) in [(0, 1400, OWN), (16, 1400, OWN), (17, 1400, OTHER), (18, 67, OWN), (19, 9000, OWN)] {
+        let nodes = nodes(check, 64);
+        let name = if number == 0 { "report".into() } else { format!("report, refused by {number}") };
+        let mut work = work(name, Call::Report, number, nodes, |turn| {
+            let mut message = size_report(&mut check.random, size, 1500, (own, KEPT + 15 * turn), 0, 8);
+            message[2] ^= u8::from(number == 16);
+            message
+        });
+        work.step = 150;
+        works.push(work);
+    }
+    works
+}
+
+/// Interval 1, so a router is due in every second.
+fn ask(check: &mut Check) -> Work {
+    let mut ask = work("ask".into(), Call::Ask, 0, nodes(check, 0), |_| Vec::new());
+    ask.step = 1;
+    ask
+}
+
+fn hears(check: &mut Check) -> Vec<Work> {
+    let mut works = Vec::new();
+    for number in [0, 20, 21] {
+        let nodes = nodes(check, 0);
+        let name = if number == 0 { "advertisement".into() } else { format!("advertisement, refused by {number}") };
+        works.push(work(name, Call::Hear, number, nodes, |turn| {
+            let router = if number == 21 { OTHER + turn } else { ROUTERS[turn as usize] };
+            let options = [option(&mut check.random, 3, 4, 3600), option(&mut check.random, 1, 1, 0)].concat();
+            let mut packet = advertisement(&mut check.random, &link_local(router), 1800, &options);
+            packet[42] ^= u8::from(number == 20);
+            packet
+        }));
+    }
+    works
+}
+
+/// Makes the calls of some turns on both nodes: answers, outputs and next states must be the same, and the number the row's.
+fn compare(check: &mut Check, work: &Work) {
+    let mut nodes = Nodes { library: work.nodes.library, plain: work.nodes.plain };
+    for turn in 0..256 {
+        let Turn { input, next_hop, interface, locator, time, .. } = work.turn(turn, &mut []);
+        let number = match work.call {
+            Call::Receive => nodes.receive(check, input, interface),
+            Call::Send => nodes.send(check, input, *next_hop, locator, time, ROOM),
+            Call::Report => nodes.report(check, input, time),
+            Call::Ask => nodes.ask(check, locator, time, ROOM),
+            Call::Hear => nodes.hear(check, input, time),
+        };
+        assert_eq!(number, work.number, "{}, turn {turn}", work.name);
+    }
+}
+
+pub fn rows(check: &mut Check) -> Vec<Row> {
+    let mut works = receives(check);
+    works.extend(sends(check));
+    works.extend(reports(check));
+    works.push(ask(check));
+    works.extend(hears(check));
+    let row = |work: Work| {
+        compare(check, &work);
+        let work: &'static Work = Box::leak(Box::new(work));
+        let ways =
+            [Some(ways::plain(work)), Some(ways::by_value(work)), Some(inside::inside(work)), lent_node::lent(work)];
+        Row { name: work.name.clone(), ways }
+    };
+    works.into_iter().map(row).collect()
+}

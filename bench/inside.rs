@@ -1,0 +1,114 @@
+//! The library's own loops: many calls in one, so that the crossing from C and the node's copies there count once.
+
+use crate::bogtrumpet::{Address, Node};
+use crate::calls::{Call, Work, INTERFACE, LOCATOR, ROOM, START};
+use crate::measure::Turns;
+use crate::nodes::number;
+use crate::plain::Sent;
+use crate::ways::Turn;
+use std::hint::black_box;
+
+// Each gives the sum of what its calls answer: a refused one its number, another its length, size or router.
+unsafe extern "C" {
+    fn bogtrumpet_receive_many(
+        node: Node,
+        all: *const u8,
+        length: usize,
+        size: usize,
+        interface: u8,
+        count: u32,
+    ) -> u64;
+    fn bogtrumpet_send_many(
+        node: Node,
+        all: *const u8,
+        length: usize,
+        size: usize,
+        next_hop: Address,
+        locator: usize,
+        time: u32,
+        out: *mut u8,
+        room: usize,
+        count: u32,
+    ) -> u64;
+    fn bogtrumpet_report_many(
+        node: Node,
+        all: *const u8,
+        length: usize,
+        size: usize,
+        time: u32,
+        step: u32,
+        count: u32,
+    ) -> u64;
+    fn bogtrumpet_ask_many(
+        node: Node,
+        locator: usize,
+        time: u32,
+        step: u32,
+        out: *mut u8,
+        room: usize,
+        count: u32,
+    ) -> u64;
+    fn bogtrumpet_hear_many(node: Node, all: *const u8, length: usize, size: usize, time: u32, count: u32) -> u64;
+    fn bogtrumpet_checksum_many(start: u32, all: *const u8, length: usize, size: usize, count: u32) -> u64;
+}
+
+/// The sum of so many checksums, of four parts in turn.
+pub fn checksums(all: &[u8], count: u32) -> u64 {
+    // SAFETY: pointers and lengths are those of slices; so below.
+    unsafe { bogtrumpet_checksum_many(0, all.as_ptr(), all.len(), all.len() / 4, count) }
+}
+
+/// The sum of what so many calls answer.
+fn many(work: &Work, out: &mut [u8], count: u32) -> u64 {
+    let (node, all, length) = (work.nodes.library, work.all.as_ptr(), work.all.len());
+    let (size, next_hop, step) = (length / 4, Address { bytes: work.next_hop }, work.step);
+    let (output, room) = (out.as_mut_ptr(), out.len());
+    unsafe {
+        match work.call {
+            Call::Receive => bogtrumpet_receive_many(node, all, length, size, INTERFACE, count),
+            Call::Send => bogtrumpet_send_many(node, all, length, size, next_hop, LOCATOR, START, output, room, count),
+            Call::Report => bogtrumpet_report_many(node, all, length, size, START, step, count),
+            Call::Ask => bogtrumpet_ask_many(node, LOCATOR, START, step, output, room, count),
+            Call::Hear => bogtrumpet_hear_many(node, all, length, size, START, count),
+        }
+    }
+}
+
+/// The same of plain Rust.
+fn plain_many(work: &Work, out: &mut [u8], count: u32) -> u64 {
+    let mut node = work.nodes.plain;
+    let mut sum = 0;
+    for turn in 0..count {
+        let Turn { input, next_hop, interface, locator, time, out } = work.turn(turn, out);
+        let answer = match work.call {
+            Call::Receive => node.receive(input, interface).map(|part| part.len() as u64),
+            Call::Send => node.send(input, next_hop, locator, time, out).map(|sent| match sent {
+                Sent::Wrapped { length } => length as u64,
+                Sent::TooBig { size, .. } => size.into(),
+            }),
+            Call::Report => node.report(input, time).map(|(_, size)| size.into()),
+            Call::Ask => node.ask(locator, time, out).map(u64::from),
+            Call::Hear => node.hear(input, time).map(u64::from),
+        };
+        sum += answer.unwrap_or_else(|_| number(&answer).into());
+    }
+    sum
+}
+
+/// Sums and outputs of some turns must be the same.
+fn compare(work: &Work) {
+    for count in [0, 1, 2, 3, 255, 256] {
+        let (mut plain, mut library) = ([0x55; ROOM], [0x55; ROOM]);
+        assert_eq!(plain_many(work, &mut plain, count), many(work, &mut library, count), "{} {count} times", work.name);
+        assert!(plain == library, "{} {count} times: outputs", work.name);
+    }
+}
+
+pub fn inside(work: &'static Work) -> Turns {
+    compare(work);
+    let mut out = vec![0; ROOM];
+    Box::new(move |turns| {
+        black_box(many(black_box(work), &mut out, turns));
+        black_box(&out);
+    })
+}

@@ -1,0 +1,98 @@
+//! The rows of the rules without state: checksums, and wrapping in an outer header.
+
+use crate::bogtrumpet;
+use crate::inside;
+use crate::measure::{Row, Turns};
+use crate::plain::rules::{self, Outer, Refusal};
+use crate::random::Random;
+use std::hint::black_box;
+
+/// Longer than any datagram.
+const ROOM: usize = 65536;
+
+/// Four inputs of the length, one behind the other.
+fn inputs(random: &mut Random, length: usize) -> &'static [u8] {
+    let mut inputs = vec![0; 4 * length];
+    random.fill(&mut inputs);
+    inputs.leak()
+}
+
+fn each(inputs: &[u8]) -> [&[u8]; 4] {
+    let length = inputs.len() / 4;
+    [0, 1, 2, 3].map(|place| &inputs[place * length..][..length])
+}
+
+/// Turns of the work, the inputs in turn.
+fn turns(inputs: &'static [u8], work: impl Fn(&[u8], &mut [u8]) + 'static) -> Option<Turns> {
+    let inputs = each(inputs);
+    let mut out = vec![0; ROOM];
+    Some(Box::new(move |turns| {
+        for (_, input) in (0..turns).zip(black_box(&inputs).iter().cycle()) {
+            work(input, &mut out);
+        }
+        black_box(&out);
+    }))
+}
+
+#[inline(never)]
+fn plain_checksum(start: u32, bytes: &[u8]) -> u16 {
+    rules::checksum(start, bytes)
+}
+
+fn checksum(random: &mut Random, length: usize) -> Row {
+    let inputs = inputs(random, length);
+    for input in each(inputs) {
+        assert_eq!(plain_checksum(0, input), bogtrumpet::checksum(0, input), "checksum of {length} bytes");
+    }
+    let sum: u64 = each(inputs).iter().map(|input| u64::from(plain_checksum(0, input))).sum();
+    assert_eq!(sum, inside::checksums(inputs, 4), "checksums of {length} bytes");
+    let plain = turns(inputs, |input, _| _ = black_box(plain_checksum(black_box(0), input)));
+    let by_value = turns(inputs, |input, _| _ = black_box(bogtrumpet::checksum(black_box(0), input)));
+    let inside: Turns = Box::new(|turns| _ = black_box(inside::checksums(black_box(inputs), turns)));
+    Row { name: format!("checksum {length}"), ways: [plain, by_value, Some(inside), None] }
+}
+
+#[inline(never)]
+fn plain_wrap(outer: &Outer, packet: &[u8], out: &mut [u8]) -> Result<usize, Refusal> {
+    rules::wrap(outer, packet, out)
+}
+
+const OUTER: Outer = Outer {
+    identification: 0x1234,
+    dont_fragment: true,
+    ttl: 64,
+    protocol: 41,
+    source: 0x0a01_0001,
+    destination: 0x0a03_0001,
+};
+
+fn library_outer(outer: &Outer) -> bogtrumpet::Outer {
+    bogtrumpet::Outer {
+        identification: outer.identification,
+        dont_fragment: outer.dont_fragment,
+        ttl: outer.ttl,
+        protocol: outer.protocol,
+        source: outer.source,
+        destination: outer.destination,
+    }
+}
+
+fn wrap(random: &mut Random, length: usize) -> Row {
+    let inputs = inputs(random, length);
+    for input in each(inputs) {
+        let (mut plain, mut library) = (vec![0x55; ROOM], vec![0x55; ROOM]);
+        let written = bogtrumpet::wrap(library_outer(&OUTER), input, &mut library);
+        assert_eq!(plain_wrap(&OUTER, input, &mut plain), Ok(written), "{length} bytes wrapped");
+        assert!(plain == library, "{length} bytes wrapped");
+    }
+    let outer = library_outer(&OUTER);
+    let plain = turns(inputs, |input, out| _ = black_box(plain_wrap(black_box(&OUTER), input, out)));
+    let by_value = turns(inputs, move |input, out| _ = black_box(bogtrumpet::wrap(*black_box(&outer), input, out)));
+    Row { name: format!("wrap {length}"), ways: [plain, by_value, None, None] }
+}
+
+pub fn rows(random: &mut Random) -> Vec<Row> {
+    let mut rows: Vec<Row> = [20, 1500, 65535].map(|length| checksum(random, length)).into();
+    rows.extend([20, 64, 1280, 1480, 65515].map(|length| wrap(random, length)));
+    rows
+}
