@@ -16,6 +16,10 @@ isForbidden a = eqb a 0 || eqb (a / 16777216) 127 || eqb (a / 268435456) 14 || e
 abbrev pub quadOf : ℕ → ℕ → ℕ → ℕ → ℕ
 quadOf a b c d = a * 16777216 + b * 65536 + c * 256 + d
 
+-- two numbers of 32 bits as one of 64, the first the higher
+abbrev pub wideOf : ℕ → ℕ → ℕ
+wideOf high low = high * 4294967296 + low
+
 -- the last 32 bits of an IPv6 address
 unfoldable pub lastQuad : List ℕ → ℕ
 lastQuad a = quadOf (getD a 12 0) (getD a 13 0) (getD a 14 0) (getD a 15 0)
@@ -49,6 +53,10 @@ isIdentifier a =
 -- document 01, "Receiving": an ISATAP address has an on-link prefix, the identifier, and then the IPv4 address
 unfoldable pub embeddedIn : List (List ℕ) → ℕ → List ℕ → Embedded
 embeddedIn prefixes count a = cond (isOnLink prefixes count a && isIdentifier a) (Ipv4 (lastQuad a)) Nothing
+
+-- document 01, "Receiving": an ISATAP address with the link-local prefix, which embeds v
+unfoldable pub isLinkLocalIsatap : List ℕ → ℕ → Bool
+isLinkLocalIsatap a v = isLinkLocal a && (isIdentifier a && eqb (lastQuad a) v)
 
 -- document 01, "Receiving": those we form have 00
 abbrev pub firstIdentifierByte : ℕ

@@ -1,10 +1,16 @@
 // Addresses: IPv4 addresses as 32-bit numbers, IPv6 addresses as 16 bytes.
-// Tests are joined by `|` and `&`, which evaluate both sides: the code has no branch, and reads as its definition does.
+// Tests are joined by `|` and `&`, which evaluate both sides and leave no branch; bytes are compared four or eight at a time, as one number.
 pub mod prefixes;
 
 ghost use mathlib.Core.Path.{_≡_};
 ghost use Prim.Native.Nat.{min};
-ghost use Rattle.address.specs.Address.{isForbidden, quadOf, lastQuad, isUnder, isLinkLocal, isOnLink, isIdentifier, embeddedIn, linkLocalOf, areZero, isMulticastOrUnspecified, isBadSourceWith, isBadSource};
+ghost use Rattle.address.specs.Address.{isForbidden, quadOf, wideOf, lastQuad, isUnder, isLinkLocal, isOnLink, isIdentifier, embeddedIn, isLinkLocalIsatap, linkLocalOf, areZero, isMulticastOrUnspecified, isBadSourceWith, isBadSource};
+
+// What stands before the embedded address: 00-00-5E-FE,
+const IDENTIFIER_00: u32 = 0x00005efe;
+
+// or 02-00-5E-FE.
+const IDENTIFIER_02: u32 = 0x02005efe;
 
 // The first identifier byte of an address that we form.
 const FIRST_IDENTIFIER_BYTE: u8 = 0;
@@ -29,6 +35,13 @@ pub fn quad(a: u8, b: u8, c: u8, d: u8) -> u32
     (a as u32) * 16777216 + (b as u32) * 65536 + (c as u32) * 256 + (d as u32)
 }
 
+// Two 32-bit numbers as one of 64 bits, the first the higher.
+fn wide(high: u32, low: u32) -> u64
+    ensures { λ r. ⌜ r ≡ wideOf high low ⌝ }
+{
+    (high as u64) * 4294967296 + (low as u64)
+}
+
 // The last 32 bits of an IPv6 address.
 pub fn last_quad(a: [u8; 16]) -> u32
     ensures { λ r. ⌜ r ≡ lastQuad a ⌝ }
@@ -40,14 +53,8 @@ pub fn last_quad(a: [u8; 16]) -> u32
 fn under(a: [u8; 16], p: [u8; 8]) -> bool
     ensures { λ r. ⌜ r ≡ isUnder a p ⌝ }
 {
-    (p[0] == a[0])
-        & (p[1] == a[1])
-        & (p[2] == a[2])
-        & (p[3] == a[3])
-        & (p[4] == a[4])
-        & (p[5] == a[5])
-        & (p[6] == a[6])
-        & (p[7] == a[7])
+    (quad(p[0], p[1], p[2], p[3]) == quad(a[0], a[1], a[2], a[3]))
+        & (quad(p[4], p[5], p[6], p[7]) == quad(a[4], a[5], a[6], a[7]))
 }
 
 // Whether the address is in fe80::/64.
@@ -67,32 +74,48 @@ fn least(a: usize, b: usize) -> usize
 pub fn on_link(prefixes: [[u8; 8]; 8], count: usize, a: [u8; 16]) -> bool
     ensures { λ r. ⌜ r ≡ isOnLink prefixes count a ⌝ }
 {
-    let mut found = link_local_prefixed(a);
+    if link_local_prefixed(a) {
+        return true;
+    }
     let n = least(count, 8);
     let mut i: usize = 0;
     while i < n {
-        found = found | under(a, prefixes[i]);
+        if under(a, prefixes[i]) {
+            return true;
+        }
         i += 1;
     }
-    found
+    false
 }
 
 // Whether an ISATAP identifier stands behind the prefix.
-fn identifier(a: [u8; 16]) -> bool
+pub fn identifier(a: [u8; 16]) -> bool
     ensures { λ r. ⌜ r ≡ isIdentifier a ⌝ }
 {
-    ((a[8] == 0) | (a[8] == 2)) & (a[9] == 0) & (a[10] == 0x5e) & (a[11] == 0xfe)
+    let id = quad(a[8], a[9], a[10], a[11]);
+    (id == IDENTIFIER_00) | (id == IDENTIFIER_02)
 }
 
 // The IPv4 address of an ISATAP address.
 pub fn isatap(prefixes: [[u8; 8]; 8], count: usize, a: [u8; 16]) -> Embedded
     ensures { λ r. ⌜ r ≡ embeddedIn prefixes count a ⌝ }
 {
-    if on_link(prefixes, count, a) & identifier(a) {
-        Embedded::Ipv4(last_quad(a))
-    } else {
-        Embedded::Nothing
+    if identifier(a) {
+        if on_link(prefixes, count, a) {
+            return Embedded::Ipv4(last_quad(a));
+        }
     }
+    Embedded::Nothing
+}
+
+// Whether the address is a link-local ISATAP address that embeds v.
+pub fn link_local_isatap(a: [u8; 16], v: u32) -> bool
+    ensures { λ r. ⌜ r ≡ isLinkLocalIsatap a v ⌝ }
+{
+    let prefix = wide(quad(a[0], a[1], a[2], a[3]), quad(a[4], a[5], a[6], a[7]));
+    let id = wide(quad(a[8], a[9], a[10], a[11]), last_quad(a));
+    (prefix == 0xfe80000000000000)
+        & ((id == wide(IDENTIFIER_00, v)) | (id == wide(IDENTIFIER_02, v)))
 }
 
 // The link-local ISATAP address of an IPv4 address.
@@ -123,18 +146,9 @@ pub fn link_local(a: u32) -> [u8; 16]
 fn zero_96(a: [u8; 16]) -> bool
     ensures { λ r. ⌜ r ≡ areZero 12 a ⌝ }
 {
-    (a[0] == 0)
-        & (a[1] == 0)
-        & (a[2] == 0)
-        & (a[3] == 0)
-        & (a[4] == 0)
-        & (a[5] == 0)
-        & (a[6] == 0)
-        & (a[7] == 0)
-        & (a[8] == 0)
-        & (a[9] == 0)
-        & (a[10] == 0)
-        & (a[11] == 0)
+    (quad(a[0], a[1], a[2], a[3]) == 0)
+        & (quad(a[4], a[5], a[6], a[7]) == 0)
+        & (quad(a[8], a[9], a[10], a[11]) == 0)
 }
 
 // Whether nothing may be sent to the address: multicast, or `::`.

@@ -3,6 +3,7 @@ pub mod Outer
 pub mod OuterLaws
 pub mod Inner
 pub mod InnerLaws
+pub mod Padded
 pub mod Wrap
 pub mod WriterLaws
 pub mod Right

@@ -1,8 +1,8 @@
 // Big-endian fields: of a slice, read at any place, where a byte past the end reads as 0; and the bytes of a number.
 ghost use mathlib.Core.Path.{_≡_};
-ghost use Prim.Native.Nat.{_+_, _*_, _/_, _%_, min};
-ghost use lib.ListN.{getD, drop};
-ghost use Rattle.header.specs.Fields.{wordAt, quadAt, addressAt};
+ghost use Prim.Native.Nat.{_+_, _*_, _/_, _%_, _≤_, min};
+ghost use lib.ListN.{getD, drop, length};
+ghost use Rattle.header.specs.Fields.{wordAt, quadAt, bytesFrom, addressAt};
 
 pub fn byte(d: &[u8], i: usize) -> u8
     ensures { λ r. ⌜ r ≡ getD (now (d .entry)) i 0 ⌝ }
@@ -38,7 +38,8 @@ pub fn tail(d: &[u8], k: usize) -> &[u8]
     &d[start..]
 }
 
-fn pair(a: u8, b: u8) -> u16
+// Two bytes as a number, the first the higher.
+pub fn pair(a: u8, b: u8) -> u16
     ensures { λ r. ⌜ r ≡ a * 256 + b ⌝ }
 {
     (a as u16) * 256 + (b as u16)
@@ -65,22 +66,44 @@ pub fn address(d: &[u8], k: usize) -> [u8; 16]
     ensures { λ r. ⌜ r ≡ addressAt (now (d .entry)) k ⌝ }
 {
     let t = tail(d, k);
+    if t.len() < 16 {
+        short_address(t)
+    } else {
+        full_address(t)
+    }
+}
+
+// One test of the length stands for all of the reads.
+fn full_address(t: &[u8]) -> [u8; 16]
+    requires { ⌜ 16 ≤ length (now t) ⌝ }
+    ensures { λ r. ⌜ r ≡ bytesFrom 16 0 (now (t .entry)) ⌝ }
+{
     [
-        byte(t, 0),
-        byte(t, 1),
-        byte(t, 2),
-        byte(t, 3),
-        byte(t, 4),
-        byte(t, 5),
-        byte(t, 6),
-        byte(t, 7),
-        byte(t, 8),
-        byte(t, 9),
-        byte(t, 10),
-        byte(t, 11),
-        byte(t, 12),
-        byte(t, 13),
-        byte(t, 14),
-        byte(t, 15),
+        t[0],
+        t[1],
+        t[2],
+        t[3],
+        t[4],
+        t[5],
+        t[6],
+        t[7],
+        t[8],
+        t[9],
+        t[10],
+        t[11],
+        t[12],
+        t[13],
+        t[14],
+        t[15],
     ]
+}
+
+// The same of fewer bytes, with zeros behind them.
+fn short_address(t: &[u8]) -> [u8; 16]
+    requires { ⌜ length (now t) ≤ 16 ⌝ }
+    ensures { λ r. ⌜ r ≡ bytesFrom 16 0 (now (t .entry)) ⌝ }
+{
+    let mut padded = [0; 16];
+    bytes::copy(t, &mut padded);
+    full_address(&padded)
 }

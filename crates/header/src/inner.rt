@@ -1,6 +1,7 @@
 // The inner IPv6 header, read and judged.
 use crate::fields;
 ghost use mathlib.Core.Path.{_≡_};
+ghost use Prim.Native.Nat.{_≤_};
 ghost use lib.ListN.{length};
 ghost use Rattle.header.specs.Inner.{innerOf, isInnerMalformed, isPacketMalformed, innerPacketOf, mayDrawError};
 
@@ -17,18 +18,37 @@ pub struct Inner {
 pub fn inner_header(p: &[u8]) -> Inner
     ensures { λ r. ⌜ r ≡ innerOf (now (p .entry)) ⌝ }
 {
-    let first = fields::byte(p, 0);
-    let payload = fields::word(p, 4);
-    let next = fields::byte(p, 6);
-    let hop = fields::byte(p, 7);
+    if p.len() < 40 {
+        short_header(p)
+    } else {
+        full_header(p)
+    }
+}
+
+// One test of the length stands for all of its reads.
+fn full_header(p: &[u8]) -> Inner
+    requires { ⌜ 40 ≤ length (now p) ⌝ }
+    ensures { λ r. ⌜ r ≡ innerOf (now (p .entry)) ⌝ }
+{
+    let payload = fields::pair(p[4], p[5]);
     let source = fields::address(p, 8);
     Inner {
-        version: first / 16,
+        version: p[0] / 16,
         length: 40 + payload as usize,
-        next,
-        hop,
+        next: p[6],
+        hop: p[7],
         source,
     }
+}
+
+// What is not there reads as 0. The compiler sees that a header under 40 bytes is refused whatever its fields are.
+fn short_header(p: &[u8]) -> Inner
+    requires { ⌜ length (now p) ≤ 40 ⌝ }
+    ensures { λ r. ⌜ r ≡ innerOf (now (p .entry)) ⌝ }
+{
+    let mut padded = [0; 40];
+    bytes::copy(p, &mut padded);
+    full_header(&padded)
 }
 
 // Number 8 as in receiving, where n bytes remain for the packet: bytes behind it are passed over.

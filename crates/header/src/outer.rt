@@ -3,6 +3,8 @@ use crate::fields;
 use refusals::Check;
 use refusals::Refusal;
 ghost use mathlib.Core.Path.{_≡_};
+ghost use Prim.Native.Nat.{_≤_};
+ghost use lib.ListN.{length};
 ghost use Rattle.header.specs.Outer.{outerOf, isOuterMalformed, isSumWrong, outerCheck, outerGiven, outerReadOf, payloadOf, quoteOf, isQuoteMalformed};
 
 // The fields of an IPv4 header, lengths in bytes.
@@ -37,21 +39,42 @@ impl OuterRead {
 pub fn outer_header(d: &[u8]) -> Outer
     ensures { λ r. ⌜ r ≡ outerOf (now (d .entry)) ⌝ }
 {
-    let first = fields::byte(d, 0);
-    let total = fields::word(d, 2);
-    let flags = fields::word(d, 6);
-    let protocol = fields::byte(d, 9);
-    let source = fields::quad(d, 12);
-    let destination = fields::quad(d, 16);
+    if d.len() < 20 {
+        short_header(d)
+    } else {
+        full_header(d)
+    }
+}
+
+// One test of the length stands for all of its reads.
+fn full_header(d: &[u8]) -> Outer
+    requires { ⌜ 20 ≤ length (now d) ⌝ }
+    ensures { λ r. ⌜ r ≡ outerOf (now (d .entry)) ⌝ }
+{
+    let first = d[0];
+    let total = fields::pair(d[2], d[3]);
+    let flags = fields::pair(d[6], d[7]);
+    let source = address::quad(d[12], d[13], d[14], d[15]);
+    let destination = address::quad(d[16], d[17], d[18], d[19]);
     Outer {
         version: first / 16,
         header: (first % 16) as usize * 4,
         total: total as usize,
         fragment: flags % 16384,
-        protocol,
+        protocol: d[9],
         source,
         destination,
     }
+}
+
+// What is not there reads as 0. The compiler sees that a header under 20 bytes is refused whatever its fields are.
+fn short_header(d: &[u8]) -> Outer
+    requires { ⌜ length (now d) ≤ 20 ⌝ }
+    ensures { λ r. ⌜ r ≡ outerOf (now (d .entry)) ⌝ }
+{
+    let mut padded = [0; 20];
+    bytes::copy(d, &mut padded);
+    full_header(&padded)
 }
 
 // Number 2, of a datagram of n bytes.

@@ -4,9 +4,10 @@ use lent::place;
 use refusals::Refusal;
 ghost use mathlib.Core.Path.{_≡_};
 ghost use mathlib.Core.Bool.{cond};
+ghost use mathlib.Core.List.{[]};
 ghost use lib.ListN.{length};
 ghost use Rattle.checksum.specs.Sum.{onesSum};
-ghost use Rattle.header.specs.Wrap.{outerWith, outerBytes, writtenGiven, wrapAnswer, wrapOutput};
+ghost use Rattle.header.specs.Wrap.{be16, be32, outerWith, outerBytes, writtenGiven, wrapAnswer, wrapOutput};
 
 // The fields of the outer header that the caller chooses, laid out as in C.
 #[repr(C)]
@@ -56,14 +57,40 @@ pub fn wrap(h: OuterFields, packet: &[u8], out: &mut [u8]) -> Written
     Written::Length(total)
 }
 
-// The 20 bytes of an outer header of the total length, with their checksum.
+// The 20 bytes of an outer header of the total length, with their checksum. A number of several bytes is put in its place as
+// one array: so the compiler makes one store of it.
 pub fn outer_bytes(total: u16, h: OuterFields) -> [u8; 20]
     ensures { λ r. ⌜ r ≡ outerBytes total h ⌝ }
 {
-    let mut b = unsummed(total, h);
+    let flags = flags(h.dont_fragment);
     let sum = checksum::complement(header_sum(total, h));
-    b[10] = fields::high(sum);
-    b[11] = fields::low(sum);
+    let mut b = [
+        0x45,
+        0,
+        0,
+        0,
+        0,
+        0,
+        flags,
+        0,
+        h.ttl,
+        h.protocol,
+        0,
+        0,
+        0,
+        0,
+        0,
+        0,
+        0,
+        0,
+        0,
+        0,
+    ];
+    place(&be16(total), &mut b, 2);
+    place(&be16(h.identification), &mut b, 4);
+    place(&be16(sum), &mut b, 10);
+    place(&be32(h.source), &mut b, 12);
+    place(&be32(h.destination), &mut b, 16);
     b
 }
 
@@ -79,32 +106,22 @@ fn header_sum(total: u16, h: OuterFields) -> u16
     checksum::sum_of_words(numbers + bytes + source + destination)
 }
 
-// The same with 0 for the checksum.
-fn unsummed(total: u16, h: OuterFields) -> [u8; 20]
-    ensures { λ r. ⌜ r ≡ outerWith total h 0 ⌝ }
+// The two bytes of a 16-bit number.
+fn be16(x: u16) -> [u8; 2]
+    ensures { λ r. ⌜ r ≡ be16 x [] ⌝ }
 {
-    let flags = flags(h.dont_fragment);
+    [fields::high(x), fields::low(x)]
+}
+
+// The four bytes of a 32-bit number.
+fn be32(x: u32) -> [u8; 4]
+    ensures { λ r. ⌜ r ≡ be32 x [] ⌝ }
+{
     [
-        0x45,
-        0,
-        (total / 256) as u8,
-        (total % 256) as u8,
-        (h.identification / 256) as u8,
-        (h.identification % 256) as u8,
-        flags,
-        0,
-        h.ttl,
-        h.protocol,
-        0,
-        0,
-        (h.source / 16777216) as u8,
-        (h.source / 65536 % 256) as u8,
-        (h.source / 256 % 256) as u8,
-        (h.source % 256) as u8,
-        (h.destination / 16777216) as u8,
-        (h.destination / 65536 % 256) as u8,
-        (h.destination / 256 % 256) as u8,
-        (h.destination % 256) as u8,
+        (x / 16777216) as u8,
+        (x / 65536 % 256) as u8,
+        (x / 256 % 256) as u8,
+        (x % 256) as u8,
     ]
 }
 

@@ -4,8 +4,8 @@ ghost use Prim.Native.Nat.{_≤_, min};
 ghost use lib.ListN.{length};
 ghost use Rattle.lent.specs.Written.{written, placed};
 
-// The bytes that are moved at a time.
-const BLOCK: usize = 2048;
+// The bytes that are moved at a time: no datagram has more.
+const BLOCK: usize = 65536;
 
 // Writes src into dst from the index at on; where it does not fit, nothing is written.
 pub fn place(src: &[u8], dst: &mut [u8], at: usize)
@@ -20,8 +20,20 @@ pub fn place(src: &[u8], dst: &mut [u8], at: usize)
     write(src, &mut dst[at..]);
 }
 
-// Writes src over the front of dst, block after block.
+// Writes src over the front of dst. What is one block needs no loop: a caller that knows so has one move of memory.
 fn write(src: &[u8], dst: &mut [u8])
+    requires { ⌜ length (now src) ≤ length (now dst) ⌝ }
+    ensures { λ _. ⌜ now (dst .exit) ≡ written (now (src .entry)) (now (dst .entry)) ⌝ }
+{
+    if src.len() <= BLOCK {
+        write_block(src, dst);
+        return;
+    }
+    write_blocks(src, dst);
+}
+
+// The same, block after block.
+fn write_blocks(src: &[u8], dst: &mut [u8])
     requires { ⌜ length (now src) ≤ length (now dst) ⌝ }
     ensures { λ _. ⌜ now (dst .exit) ≡ written (now (src .entry)) (now (dst .entry)) ⌝ }
 {
@@ -36,7 +48,7 @@ fn write(src: &[u8], dst: &mut [u8])
 // The same of one block. It goes by way of an array, which neither slice overlaps: so the compiler sees that both loops are
 // moves of memory, and makes one of them.
 fn write_block(src: &[u8], dst: &mut [u8])
-    requires { ⌜ length (now src) ≤ 2048 ⌝ }
+    requires { ⌜ length (now src) ≤ 65536 ⌝ }
     requires { ⌜ length (now src) ≤ length (now dst) ⌝ }
     ensures { λ _. ⌜ now (dst .exit) ≡ written (now (src .entry)) (now (dst .entry)) ⌝ }
 {

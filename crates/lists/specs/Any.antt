@@ -1,7 +1,7 @@
 -- Whether some element of a list passes a test, or two elements of it are the same; and how a loop finds out. Assumes nothing.
 use Prim.Native.Nat.{ℕ, _+_, _≤_, _<_, min}
 use mathlib.Core.Path.{_≡_, sym, ap, _∙_}
-use mathlib.Core.Bool.{Bool, false, _||_, or-assoc, or-false}
+use mathlib.Core.Bool.{Bool, true, false, _||_, or-assoc, or-false}
 use mathlib.Core.List.{List, [], _∷_}
 use native.Mathlib.Omega.{arith}
 use native.Mathlib.Numerals.{add-one}
@@ -45,7 +45,14 @@ module _ {A : Type 0} where
     any-turn p found =
         or-assoc found (p (getD xs i d)) (anyOf p (drop (i + 1) (take n xs))) ∙ ap (λ (l : List A). found || anyOf p l) (sym front-from)
 
-    -- the same for two elements
+    -- a turn of a loop that leaves at the first element that passes: this one passes, or what is left to ask is behind it
+    pub any-here : (p : A → Bool) → p (getD xs i d) ≡ true → anyOf p (drop i (take n xs)) ≡ true
+    any-here p h = rw (front-from, h)
+
+    pub any-later : (p : A → Bool) → p (getD xs i d) ≡ false → anyOf p (drop i (take n xs)) ≡ anyOf p (drop (i + 1) (take n xs))
+    any-later p h = rw (front-from, h)
+
+    -- the same as `any-turn` for two elements
     pub twice-turn : (same : A → A → Bool) (found : Bool)
         → (found || anyOf (same (getD xs i d)) (drop (i + 1) (take n xs)) || twice same (drop (i + 1) (take n xs)))
         ≡ (found || twice same (drop i (take n xs)))

@@ -1,6 +1,6 @@
--- What tests that are joined by `||` and all fail say of each. Assumes nothing.
-use mathlib.Core.Path.{_≡_}
-use mathlib.Core.Bool.{Bool, true, false, _||_}
+-- What tests that are joined say of each: by `||` where all fail, by `&&` where all pass. Assumes nothing.
+use mathlib.Core.Path.{_≡_, refl}
+use mathlib.Core.Bool.{Bool, true, false, _||_, _&&_}
 
 pub or-left : (a b : Bool) → (a || b) ≡ false → a ≡ false
 or-left true b h = h
@@ -9,6 +9,14 @@ or-left false b h = cc
 pub or-right : (a b : Bool) → (a || b) ≡ false → b ≡ false
 or-right true b h = cc
 or-right false b h = h
+
+pub and-left : (a b : Bool) → (a && b) ≡ true → a ≡ true
+and-left true b h = refl
+and-left false b h = cc
+
+pub and-right : (a b : Bool) → (a && b) ≡ true → b ≡ true
+and-right true b h = h
+and-right false b h = cc
 
 module _ (a b c : Bool) (h : (a || b || c) ≡ false) where
   pub or-three : (a ≡ false) × (b ≡ false) × (c ≡ false)

@@ -29,7 +29,7 @@ pub fn too_big(reporting: [u8; 16], size: u16, packet: &[u8], out: &mut [u8]) ->
     if out.len() < 48 + quoted {
         return Written::Refused(Refusal::OutputShort);
     }
-    let to = fields::address(packet, 8);
+    let to = &packet[8..24];
     let front = [2, 0, 0, 0, 0, 0, fields::high(size), fields::low(size)];
     write_message(64, reporting, to, front, &packet[..quoted], out);
     Written::Length(48 + quoted)
@@ -44,15 +44,16 @@ pub fn solicitation(from: [u8; 16], to: [u8; 16], out: &mut [u8]) -> Written
         return Written::Refused(Refusal::OutputShort);
     }
     let front = [133u8, 0, 0, 0, 0, 0, 0, 0];
-    write_message(255, from, to, front, &front[..0], out);
+    write_message(255, from, &to, front, &front[..0], out);
     Written::Length(SOLICITATION)
 }
 
 // Writes an ICMPv6 packet whose message is front, with 0 for the checksum, and then rest; the checksum is put in.
-fn write_message(hop: u8, from: [u8; 16], to: [u8; 16], front: [u8; 8], rest: &[u8], out: &mut [u8])
+fn write_message(hop: u8, from: [u8; 16], to: &[u8], front: [u8; 8], rest: &[u8], out: &mut [u8])
+    requires { ⌜ length (now to) ≡ 16 ⌝ }
     requires { ⌜ length (now rest) ≤ 1232 ⌝ }
     requires { ⌜ 48 + length (now rest) ≤ length (now out) ⌝ }
-    ensures { λ _. ⌜ now (out .exit) ≡ written (sealed (ipv6Header (8 + length (now (rest .entry))) hop from to ++ (front ++ now (rest .entry)))) (now (out .entry)) ⌝ }
+    ensures { λ _. ⌜ now (out .exit) ≡ written (sealed (ipv6Header (8 + length (now (rest .entry))) hop from (now (to .entry)) ++ (front ++ now (rest .entry)))) (now (out .entry)) ⌝ }
 {
     write_ipv6_header((8 + rest.len()) as u16, hop, from, to, out);
     place(&front, out, 40);
@@ -61,14 +62,15 @@ fn write_message(hop: u8, from: [u8; 16], to: [u8; 16], front: [u8; 8], rest: &[
 }
 
 // Writes the IPv6 header of n bytes of ICMPv6.
-fn write_ipv6_header(n: u16, hop: u8, from: [u8; 16], to: [u8; 16], out: &mut [u8])
+fn write_ipv6_header(n: u16, hop: u8, from: [u8; 16], to: &[u8], out: &mut [u8])
+    requires { ⌜ length (now to) ≡ 16 ⌝ }
     requires { ⌜ 40 ≤ length (now out) ⌝ }
-    ensures { λ _. ⌜ now (out .exit) ≡ written (ipv6Header n hop from to) (now (out .entry)) ⌝ }
+    ensures { λ _. ⌜ now (out .exit) ≡ written (ipv6Header n hop from (now (to .entry))) (now (out .entry)) ⌝ }
 {
     let front = [0x60, 0, 0, 0, (n / 256) as u8, (n % 256) as u8, 58, hop];
     place(&front, out, 0);
     place(&from, out, 8);
-    place(&to, out, 24);
+    place(to, out, 24);
 }
 
 // Puts the checksum into the ICMPv6 packet of n bytes at the front of out, where it is 0: one pass from the source address

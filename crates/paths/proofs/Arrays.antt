@@ -72,3 +72,8 @@ module _ {t : PathTable} {v n p : ℕ} (c : Scanned t v n p) (now : ℕ) where
       let e : q ≡ min (placeIn v (held t)) (mostNeighbours - 1) = omega (arith, in-use, reads .1) in
       let f : m ≡ max (length (held t)) (suc q) = omega (arith, reads .0) in
       cc
+
+-- an empty table keeps nothing
+pub kept-in-none : (t : PathTable) (v now : ℕ) → t .count ≡ 0 → Nothing ≡ keptIn t v now
+unfolding keptIn
+kept-in-none t v now empty = rw empty

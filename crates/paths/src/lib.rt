@@ -51,10 +51,13 @@ impl PathTable {
         }
     }
 
-    // The size kept toward a neighbour at a time. No row of the table is copied that is not read.
+    // The size kept toward a neighbour at a time. No row of the table is copied that is not read, and none of an empty one.
     pub fn kept(self, neighbour: u32, now: u32) -> Kept
         ensures { λ r. ⌜ r ≡ keptIn self neighbour now ⌝ }
     {
+        if self.count == 0 {
+            return Kept::Nothing;
+        }
         let count = least(self.count, NEIGHBOURS);
         let neighbours = self.neighbours;
         let p = place(&neighbours, count, neighbour);

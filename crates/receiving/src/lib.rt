@@ -9,8 +9,10 @@ use refusals::Refusal;
 use routers::RouterList;
 use settings::Settings;
 ghost use mathlib.Core.Path.{_≡_};
-ghost use Rattle.routers.specs.Routers.{live};
-ghost use Rattle.receiving.specs.Receive.{embeds, arrivalCheck, innerCheck, opened, arrived, receivedOf, partOf, receivedGiven};
+ghost use lib.ListN.{length};
+ghost use Rattle.header.specs.Inner.{innerOf};
+ghost use Rattle.routers.specs.Routers.{live, listed};
+ghost use Rattle.receiving.specs.Receive.{embeds, isSourceRight, arrivalCheck, innerCheck, opened, arrived, receivedOf, partOf, receivedGiven};
 
 // The place of the inner packet in the datagram, or the number.
 pub enum Received {
@@ -57,32 +59,51 @@ fn check_arrival(settings: Settings, interface: u8, o: Outer) -> Check
     Check::Pass
 }
 
-// Numbers 8, 9 and 10, where n bytes remain for the inner packet.
-fn check_inner(settings: Settings, listed: bool, source: u32, n: usize, i: Inner) -> Check
-    ensures { λ r. ⌜ r ≡ innerCheck settings listed source n i ⌝ }
+// Whether the source of the inner packet at the start of p is right for the outer one. The router list is read only where
+// the address does not embed it.
+fn source_right(settings: Settings, routers: RouterList, source: u32, p: &[u8]) -> bool
+    ensures { λ r. ⌜ r ≡ isSourceRight settings (listed source (live routers)) source (innerOf (now (p .entry)) .source) ⌝ }
 {
-    if inner::inner_malformed(n, i) {
+    if embeds_it(settings, fields::address(p, 8), source) {
+        return true;
+    }
+    routers.lists(source)
+}
+
+// Numbers 8, 9 and 10, where p remains for the inner packet. Most senders have a link-local ISATAP address: that is right, and
+// no bad source, whatever prefixes and routers there are.
+fn check_inner(settings: Settings, routers: RouterList, source: u32, p: &[u8], i: Inner) -> Check
+    requires { ⌜ i ≡ innerOf (now p) ⌝ }
+    ensures { λ r. ⌜ r ≡ innerCheck settings (listed source (live routers)) source (length (now (p .entry))) i ⌝ }
+{
+    if inner::inner_malformed(p.len(), i) {
         return Check::Stop(Refusal::InnerMalformed);
     }
     let a = i.source;
+    if address::link_local_isatap(a, source) {
+        return Check::Pass;
+    }
     let forbidden = settings.forbidden_to(address::last_quad(a));
     if address::bad_source_with(forbidden, a) {
         return Check::Stop(Refusal::InnerSourceBad);
     }
-    if !(embeds_it(settings, a, source) | listed) {
+    if !source_right(settings, routers, source, p) {
         return Check::Stop(Refusal::OuterSourceWrong);
     }
     Check::Pass
 }
 
-// What comes of a datagram whose outer header and arrival are right.
+// What comes of a datagram whose outer header and arrival are right. The length is asked first, so that the header is then
+// read without asking it again.
 fn open(settings: Settings, routers: RouterList, d: &[u8], o: Outer) -> Received
     ensures { λ r. ⌜ r ≡ opened settings (live routers) (now (d .entry)) o ⌝ }
 {
     let payload = outer::payload(d, o);
+    if payload.len() < 40 {
+        return Received::Refused(Refusal::InnerMalformed);
+    }
     let i = inner::inner_header(payload);
-    let listed = routers.lists(o.source);
-    let check = check_inner(settings, listed, o.source, payload.len(), i);
+    let check = check_inner(settings, routers, o.source, payload, i);
     match check {
         Check::Pass => Received::Delivered {
             offset: o.header,
@@ -107,6 +128,9 @@ fn arrive(settings: Settings, routers: RouterList, d: &[u8], interface: u8, o: O
 pub fn receive(settings: Settings, routers: RouterList, d: &[u8], interface: u8) -> Received
     ensures { λ r. ⌜ r ≡ receivedOf settings (live routers) (now (d .entry)) interface ⌝ }
 {
+    if d.len() < 20 {
+        return Received::Refused(Refusal::OuterMalformed);
+    }
     let o = outer::outer_header(d);
     let check = outer::check_outer(d.len(), d, o);
     match check {

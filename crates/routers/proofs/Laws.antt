@@ -2,7 +2,7 @@
 -- Assumes nothing.
 use mathlib.Core.Path.{_≡_, refl, sym, ap, _∙_}
 use mathlib.Core.List.{List, [], _∷_, _++_, map, append-nil}
-use mathlib.Core.Bool.{Bool, not, _&&_, _||_, or-assoc, and-assoc}
+use mathlib.Core.Bool.{Bool, true, false, not, _&&_, _||_, or-assoc, and-assoc}
 use Prim.Native.Nat.{ℕ, zero, suc, _+_, _<_, _≤_}
 use native.Mathlib.Numerals.{add-one}
 use native.Mathlib.Nat.{le-of-suc-le-suc, not-suc-le-zero}
@@ -30,6 +30,16 @@ module _ {A : Type 0} (n i : ℕ) (xs : List A) where
       → (found || any p (drop i (take n xs))) ≡ (found || p (getD xs i z) || any p (drop (i + 1) (take n xs)))
   unfolding any
   any-step z h p found = rw (rest z h, or-assoc)
+
+  -- the same for a loop that leaves at the first element that passes
+  pub any-here : (z : A) → i < length (take n xs) → (p : A → Bool) → p (getD xs i z) ≡ true → any p (drop i (take n xs)) ≡ true
+  unfolding any
+  any-here z h p e = rw (rest z h, e)
+
+  pub any-later : (z : A) → i < length (take n xs) → (p : A → Bool) → p (getD xs i z) ≡ false
+      → any p (drop i (take n xs)) ≡ any p (drop (i + 1) (take n xs))
+  unfolding any
+  any-later z h p e = rw (rest z h, e)
 
 module _ (n i : ℕ) (rs : List Router) (within : i < length (take n rs)) where
   pub earliest-step : (r : Router) → earliest r (drop i (take n rs)) ≡ earliest (earlier r (getD rs i noRouter)) (drop (i + 1) (take n rs))

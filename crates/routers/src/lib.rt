@@ -95,13 +95,14 @@ impl RouterList {
         ensures { λ r. ⌜ r ≡ listed address (live self) ⌝ }
     {
         let n = self.size();
-        let mut found = false;
         let mut i = 0;
         while i < n {
-            found = found | (self.routers[i].address == address);
+            if self.routers[i].address == address {
+                return true;
+            }
             i += 1;
         }
-        found
+        false
     }
 
     // The router with the earliest due time that is not in the future, lowest place on a tie.

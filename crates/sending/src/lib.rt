@@ -13,6 +13,7 @@ ghost use mathlib.Core.Path.{_≡_};
 ghost use lib.ListN.{length};
 ghost use Rattle.header.specs.Inner.{innerOf, isPacketMalformed};
 ghost use Rattle.messages.specs.Icmp.{tooBigLength};
+ghost use Rattle.settings.specs.Settings.{embeddedTo};
 ghost use Rattle.sending.specs.Plan.{sourceOf, addressOf, isNoLocator, isNotIsatap, sendCheck, bigPlan, wrapPlan, sizedPlan, planOf};
 ghost use Rattle.sending.specs.Sending.{fieldsFor, planSent, planOutput, sentOf, sentOutput, sendGiven};
 
@@ -95,7 +96,7 @@ fn no_locator(source: Found) -> bool
     }
 }
 
-// Number 12.
+// Number 12, of what the next hop embeds.
 fn not_isatap(embedded: Embedded) -> bool
     ensures { λ r. ⌜ r ≡ isNotIsatap embedded ⌝ }
 {
@@ -103,6 +104,16 @@ fn not_isatap(embedded: Embedded) -> bool
         Embedded::Ipv4(_) => false,
         Embedded::Nothing => true,
     }
+}
+
+// Number 12. A link-local ISATAP address is one whatever prefixes there are.
+fn next_hop_not_isatap(settings: Settings, next_hop: [u8; 16]) -> bool
+    ensures { λ r. ⌜ r ≡ isNotIsatap (embeddedTo settings «next_hop») ⌝ }
+{
+    if address::link_local_prefixed(next_hop) & address::identifier(next_hop) {
+        return false;
+    }
+    not_isatap(settings.embedded(next_hop))
 }
 
 // Numbers 8, 11, 12 and 13.
@@ -115,7 +126,7 @@ fn send_check(settings: Settings, packet: &[u8], next_hop: [u8; 16], locator: us
     if no_locator(source_of(settings, locator)) {
         return Check::Stop(Refusal::NoLocator);
     }
-    if not_isatap(settings.embedded(next_hop)) {
+    if next_hop_not_isatap(settings, next_hop) {
         return Check::Stop(Refusal::NextHopNotIsatap);
     }
     if settings.bad_end(address::last_quad(next_hop)) {

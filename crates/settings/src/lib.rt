@@ -94,12 +94,18 @@ impl Settings {
         self.forbidden_to(a) | self.ours(a)
     }
 
-    // The IPv4 address of an ISATAP address under an on-link prefix.
+    // The IPv4 address of an ISATAP address under an on-link prefix. The prefixes are read only where they decide.
     pub fn embedded(self, a: [u8; 16]) -> address::Embedded
         ensures { λ r. ⌜ r ≡ embeddedTo self a ⌝ }
     {
-        let flat = self.prefixes;
-        address::isatap(address::prefixes::rows(flat), self.prefix_count, a)
+        if address::identifier(a) {
+            if address::link_local_prefixed(a) {
+                return address::Embedded::Ipv4(address::last_quad(a));
+            }
+            let flat = self.prefixes;
+            return address::isatap(address::prefixes::rows(flat), self.prefix_count, a);
+        }
+        address::Embedded::Nothing
     }
 
     fn some_locator_forbidden(self) -> bool

@@ -40,14 +40,15 @@ pub fn has_address(all: [Locator; 8], count: usize, a: u32) -> bool
     ensures { λ r. ⌜ r ≡ anyOf (isAt a) (take count all) ⌝ }
 {
     let n = least(count, 8);
-    let mut found = false;
     let mut i: usize = 0;
     while i < n {
         let l = all[i];
-        found = found | (l.address == a);
+        if l.address == a {
+            return true;
+        }
         i += 1;
     }
-    found
+    false
 }
 
 // Whether one of the first `count` locators, from `from` on, has the address on the interface.
@@ -55,14 +56,15 @@ pub fn has_locator(all: [Locator; 8], from: usize, count: usize, a: u32, interfa
     ensures { λ r. ⌜ r ≡ anyOf (isLocator a interface) (drop from (take count all)) ⌝ }
 {
     let n = least(count, 8);
-    let mut found = false;
     let mut i: usize = from;
     while i < n {
         let l = all[i];
-        found = found | ((l.address == a) & (l.interface == interface));
+        if (l.address == a) & (l.interface == interface) {
+            return true;
+        }
         i += 1;
     }
-    found
+    false
 }
 
 // Whether a pair of address and interface stands twice among the first `count` locators.

@@ -1,5 +1,6 @@
 -- `address::isatap` meets its contract: both tests decide, and the address is read out. Assumes nothing.
 use borrow.Author.Needs.{needs}
+use mathlib.Core.Bool.{and-false}
 use Rattle.address.specs.Address.{embeddedIn}
 use Rattle.address.proofs.isatap.Statement.{statement}
 use Rattle.address.proofs.isatap.Tie as tie
@@ -7,18 +8,19 @@ use Rattle.address.proofs.isatap.Tie as tie
 returns : tie.Need-returns
 unfolding embeddedIn
 returns c =
-    simp (
-      ← c .before .before .before .on-link .ensures,
-      ← c .before .before .identifier .ensures,
-      c .before .if1 .taken,
-      ← c .last-quad .ensures,
-    )
+    let o = c .before .before in
+    let i = o .before .before in
+    simp (← o .on-link .ensures, c .before .if2 .taken, ← i .identifier .ensures, o .before .if1 .taken, ← c .last-quad .ensures)
 
 returns-2 : tie.Need-returns-2
 unfolding embeddedIn
-returns-2 c = simp (← c .before .before .on-link .ensures, ← c .before .identifier .ensures, c .if1 .left)
+returns-2 c = simp (← c .before .on-link .ensures, c .if2 .left)
+
+returns-3 : tie.Need-returns-3
+unfolding embeddedIn
+returns-3 c = simp (← c .before .identifier .ensures, c .if1 .left, and-false)
 
 pub isatap-spec : {M : Type 1} → statement M
 isatap-spec =
     tie.close
-    (tie.spec (search needs) (search needs) (search needs) returns returns-2)
+    (tie.spec (search needs) (search needs) (search needs) returns returns-2 returns-3)

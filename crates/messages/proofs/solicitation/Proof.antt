@@ -18,12 +18,12 @@ returns c = let stop = solicitation-short (length (c .before .before .args .out 
 returns-2 : tie.Need-returns-2
 unfolding solicitationAnswer solicitationOutput solicitationOf
 returns-2 c =
-    let a = c .before .before .before .before .before .before .before .args in
+    let a = c .before .before .before .before .before .before .before .before .args in
     let pass = solicitation-pass (length (a .out .now)) (omega arith) in
-    let packet = sealed-packet 255 (a .from) (a .to) 133 0 (0 ∷ (0 ∷ (0 ∷ (0 ∷ [])))) (omega arith) (omega arith) in
+    let packet = sealed-packet 255 (a .from) (a .t2) 133 0 (0 ∷ (0 ∷ (0 ∷ (0 ∷ [])))) (omega arith) (omega arith) in
     (rw pass, rw pass (c .before .before .write-message .ensures ∙ ap (λ (p : List ℕ). written p (a .out .now)) packet))
 
 pub solicitation-spec : {M : Type 1} → statement M
 solicitation-spec =
     tie.close
-    (tie.spec returns (omega arith) (omega arith) (omega arith) (omega arith) returns-2)
+    (tie.spec returns (omega arith) (omega arith) (omega arith) (omega arith) (omega arith) returns-2)

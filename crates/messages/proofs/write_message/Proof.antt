@@ -13,11 +13,12 @@ use Rattle.messages.proofs.write_message.Tie as tie
 
 returns : tie.Need-returns
 returns c =
-    let a = c .before .before .before .before .before .before .before .before .before .before .before .before .before .before .before .before .before .before .before .args in
+    let a = c .before .before .before .before .before .before .before .before .before .before .before .before .before .before .before .before .before .before .before .before .args in
     let out = a .out .now in
+    let to = a .to .now in
     let rest = a .rest .now in
-    let h = ipv6Header (8 + length rest) (a .hop) (a .from) (a .to) in
-    let l = length-ipv6Header (8 + length rest) (a .hop) (a .from) (a .to) (omega arith) (omega arith) in
+    let h = ipv6Header (8 + length rest) (a .hop) (a .from) to in
+    let l = length-ipv6Header (8 + length rest) (a .hop) (a .from) to (omega arith) (omega arith) in
     let d₁ = placed-more 40 h (a .t4) out l (omega arith) (c .before .before .before .before .before .before .before .before .before .before .before .before .before .before .before .write-ipv6-header .ensures) (c .before .before .before .before .before .before .before .before .before .before .place .ensures) in
     let l₂ : length (h ++ a .t4) ≡ 48 = length-append h (a .t4) ∙ omega arith in
     let d₂ = placed-more 48 (h ++ a .t4) rest out l₂ (omega arith) d₁ (c .before .before .before .before .before .before .place2 .ensures) in

@@ -1,19 +1,28 @@
--- `receiving::open` meets its contract: by cases on the check. Assumes nothing.
+-- `receiving::open` meets its contract: by its length, and by cases on the check. Assumes nothing.
 use borrow.Author.Needs.{needs}
+use borrow.Author.Tests.{lt-ltb}
 use native.Mathlib.Omega.{arith}
-use Rattle.receiving.specs.Receive.{opened}
+use Rattle.header.specs.Inner.{isInnerMalformed}
+use Rattle.receiving.specs.Receive.{innerCheck, opened}
 use Rattle.receiving.proofs.open.Statement.{statement}
 use Rattle.receiving.proofs.open.Tie as tie
 
 returns : tie.Need-returns
-unfolding opened
-returns c = rw (← c .before .before .before .before .before .payload .ensures, ← c .before .before .before .before .inner-header .ensures, ← c .before .before .before .lists .ensures, ← c .before .before .check-inner .ensures, c .enum-told .given .1)
+unfolding opened innerCheck isInnerMalformed
+returns c = simp (← c .before .payload .ensures, lt-ltb _ _ (c .if1 .taken))
+
+check-inner-requires : tie.Need-check-inner-requires
+check-inner-requires c κs = c .inner-header .ensures
 
 returns-2 : tie.Need-returns-2
 unfolding opened
-returns-2 c = rw (← c .before .before .before .before .before .before .payload .ensures, ← c .before .before .before .before .before .inner-header .ensures, ← c .before .before .before .before .lists .ensures, ← c .before .before .before .check-inner .ensures, c .before .check .given .1)
+returns-2 c = let h = c .before .before .before in rw (← h .before .before .payload .ensures, ← h .inner-header .ensures, ← c .before .before .check-inner .ensures, c .enum-told .given .1)
+
+returns-3 : tie.Need-returns-3
+unfolding opened
+returns-3 c = let h = c .before .before .before .before in rw (← h .before .before .payload .ensures, ← h .inner-header .ensures, ← c .before .before .before .check-inner .ensures, c .before .check .given .1)
 
 pub open-spec : {M : Type 1} → statement M
 open-spec =
     tie.close
-    (tie.spec (omega arith) (omega arith) (omega arith) (omega arith) (search needs) (search needs) returns returns-2)
+    (tie.spec (omega arith) returns (omega arith) check-inner-requires (search needs) (search needs) returns-2 returns-3)

@@ -14,16 +14,16 @@ returns-2 c = let p = c .before .before .before in simp (← p .before .packet-m
 
 returns-3 : tie.Need-returns-3
 unfolding sendCheck
-returns-3 c = let l = c .before .before .before in let p = l .before .before .before in simp (← p .before .packet-malformed .ensures, p .if1 .left, ← l .before .before .source-of .ensures, ← l .before .no-locator .ensures, l .if2 .left, ← c .before .before .embedded .ensures, ← c .before .not-isatap .ensures, c .if3 .taken)
+returns-3 c = let l = c .before .before in let p = l .before .before .before in simp (← p .before .packet-malformed .ensures, p .if1 .left, ← l .before .before .source-of .ensures, ← l .before .no-locator .ensures, l .if2 .left, ← c .before .next-hop-not-isatap .ensures, c .if3 .taken)
 
 returns-4 : tie.Need-returns-4
 unfolding sendCheck
-returns-4 c = let h = c .before .before .before in let l = h .before .before .before in let p = l .before .before .before in simp (← p .before .packet-malformed .ensures, p .if1 .left, ← l .before .before .source-of .ensures, ← l .before .no-locator .ensures, l .if2 .left, ← h .before .before .embedded .ensures, ← h .before .not-isatap .ensures, h .if3 .left, ← c .before .before .last-quad .ensures, ← c .before .bad-end .ensures, c .if4 .taken)
+returns-4 c = let h = c .before .before .before in let l = h .before .before in let p = l .before .before .before in simp (← p .before .packet-malformed .ensures, p .if1 .left, ← l .before .before .source-of .ensures, ← l .before .no-locator .ensures, l .if2 .left, ← h .before .next-hop-not-isatap .ensures, h .if3 .left, ← c .before .before .last-quad .ensures, ← c .before .bad-end .ensures, c .if4 .taken)
 
 returns-5 : tie.Need-returns-5
 unfolding sendCheck
-returns-5 c = let h = c .before .before .before in let l = h .before .before .before in let p = l .before .before .before in simp (← p .before .packet-malformed .ensures, p .if1 .left, ← l .before .before .source-of .ensures, ← l .before .no-locator .ensures, l .if2 .left, ← h .before .before .embedded .ensures, ← h .before .not-isatap .ensures, h .if3 .left, ← c .before .before .last-quad .ensures, ← c .before .bad-end .ensures, c .if4 .left)
+returns-5 c = let h = c .before .before .before in let l = h .before .before in let p = l .before .before .before in simp (← p .before .packet-malformed .ensures, p .if1 .left, ← l .before .before .source-of .ensures, ← l .before .no-locator .ensures, l .if2 .left, ← h .before .next-hop-not-isatap .ensures, h .if3 .left, ← c .before .before .last-quad .ensures, ← c .before .bad-end .ensures, c .if4 .left)
 
 pub send-check-spec : {M : Type 1} → statement M
 send-check-spec =
-    tie.close (tie.spec (omega arith) returns (omega arith) (omega arith) returns-2 (omega arith) (omega arith) returns-3 (omega arith) (omega arith) returns-4 returns-5)
+    tie.close (tie.spec (omega arith) returns (omega arith) (omega arith) returns-2 (omega arith) returns-3 (omega arith) (omega arith) returns-4 returns-5)

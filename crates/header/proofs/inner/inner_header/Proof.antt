@@ -1,15 +1,15 @@
--- `header::inner::inner_header` meets its contract: each field is read at its place. Assumes nothing.
+-- `header::inner::inner_header` meets its contract: so does either reader. Assumes nothing.
 use native.Mathlib.Omega.{arith}
-use Rattle.header.specs.Inner.{innerOf}
 use Rattle.header.proofs.inner.inner_header.Statement.{statement}
 use Rattle.header.proofs.inner.inner_header.Tie as tie
 
 returns : tie.Need-returns
-unfolding innerOf
-returns c = rw (c .address .ensures, c .before .byte3 .ensures, c .before .before .byte2 .ensures, c .before .before .before .word .ensures, c .before .before .before .before .byte .ensures)
+returns c = c .short-header .ensures
+
+returns-2 : tie.Need-returns-2
+returns-2 c = c .full-header .ensures
 
 pub inner-header-spec : {M : Type 1} → statement M
 inner-header-spec =
     tie.close
-    (tie.spec (omega arith) (omega arith) (omega arith) (omega arith) (omega arith) (omega arith) (omega arith)
-    returns)
+    (tie.spec (omega arith) (omega arith) returns returns-2)

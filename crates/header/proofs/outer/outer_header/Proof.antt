@@ -1,15 +1,15 @@
--- `header::outer::outer_header` meets its contract: each field is read at its place. Assumes nothing.
+-- `header::outer::outer_header` meets its contract: so does either reader. Assumes nothing.
 use native.Mathlib.Omega.{arith}
-use Rattle.header.specs.Outer.{outerOf}
 use Rattle.header.proofs.outer.outer_header.Statement.{statement}
 use Rattle.header.proofs.outer.outer_header.Tie as tie
 
 returns : tie.Need-returns
-unfolding outerOf
-returns c = rw (c .quad2 .ensures, c .before .quad .ensures, c .before .before .byte2 .ensures, c .before .before .before .word2 .ensures, c .before .before .before .before .word .ensures, c .before .before .before .before .before .byte .ensures)
+returns c = c .short-header .ensures
+
+returns-2 : tie.Need-returns-2
+returns-2 c = c .full-header .ensures
 
 pub outer-header-spec : {M : Type 1} → statement M
 outer-header-spec =
     tie.close
-    (tie.spec (omega arith) (omega arith) (omega arith) (omega arith) (omega arith) (omega arith) (omega arith)
-    (omega arith) (omega arith) returns)
+    (tie.spec (omega arith) (omega arith) returns returns-2)

@@ -1,14 +1,26 @@
 -- `header::wrap::outer_bytes` meets its contract: each call's result is put in its place. Assumes nothing.
 use native.Mathlib.Omega.{arith}
+use Rattle.lent.specs.Written.{placed}
 use Rattle.header.specs.Wrap.{outerBytes}
 use Rattle.header.proofs.wrap.outer_bytes.Statement.{statement}
 use Rattle.header.proofs.wrap.outer_bytes.Tie as tie
 
 returns : tie.Need-returns
-unfolding outerBytes
-returns c = rw (c .low .ensures, c .before .high .ensures, c .before .before .complement .ensures, c .before .before .before .header-sum .ensures, c .before .before .before .before .unsummed .ensures)
+unfolding outerBytes placed
+returns c =
+    let c5 = c .before in
+    let c4 = c5 .before .before .before .before .before in
+    let c3 = c4 .before .before .before .before .before in
+    let c2 = c3 .before .before .before .before .before in
+    let c1 = c2 .before .before .before .before .before in
+    let c0 = c1 .before .before .before .before in
+    let total = rw (c1 .before .before .before .be16 .ensures, c0 .before .before .flags .ensures) at (c1 .place .ensures) in
+    let identification = rw (c2 .before .before .before .be162 .ensures, total) at (c2 .place2 .ensures) in
+    let sum = rw (c3 .before .before .before .be163 .ensures, c0 .complement .ensures, c0 .before .header-sum .ensures, identification) at (c3 .place3 .ensures) in
+    let source = rw (c4 .before .before .before .be32 .ensures, sum) at (c4 .place4 .ensures) in
+    rw (c5 .before .before .before .be322 .ensures, source) at (c5 .place5 .ensures)
 
 pub outer-bytes-spec : {M : Type 1} → statement M
 outer-bytes-spec =
     tie.close
-    (tie.spec (omega arith) (omega arith) (omega arith) (omega arith) (omega arith) (omega arith) (omega arith) returns)
+    (tie.spec (omega arith) (omega arith) (omega arith) (omega arith) (omega arith) (omega arith) (omega arith) (omega arith) (omega arith) (omega arith) (omega arith) (omega arith) (omega arith) (omega arith) (omega arith) (omega arith) (omega arith) (omega arith) (omega arith) (omega arith) (omega arith) (omega arith) (omega arith) returns)

@@ -4,15 +4,15 @@ use borrow.Author.Needs.{needs}
 use borrow.Author.Tests.{lt-ltb, le-ltb}
 use lib.ListN.{length}
 use Rattle.paths.specs.Kept.{mostNeighbours}
-use Rattle.paths.proofs.Arrays.{Scanned, kept-at}
+use Rattle.paths.proofs.Arrays.{Scanned, kept-at, kept-in-none}
 use Rattle.paths.proofs.PathTable.kept.Statement.{statement}
 use Rattle.paths.proofs.PathTable.kept.Tie as tie
 
 place-requires : tie.Need-place-requires
-place-requires c κs = let full : length (c .before .before .before .args .self .neighbours) ≡ mostNeighbours = search needs in omega arith
+place-requires c κs = let full : length (c .before .before .before .before .before .args .self .neighbours) ≡ mostNeighbours = search needs in omega arith
 
 scanned : (c : tie.After-place)
-    → Scanned (c .before .before .before .before .args .self) (c .before .before .before .before .args .neighbour)
+    → Scanned (c .before .before .before .before .before .before .args .self) (c .before .before .before .before .before .before .args .neighbour)
     (c .before .before .before .least .result) (c .place .result)
 scanned c =
     record {
@@ -24,16 +24,19 @@ scanned c =
     }
 
 returns : tie.Need-returns
-returns c =
-    let p = c .before .before .before .before in
-    rw (kept-at (scanned p) (p .before .before .before .before .args .now), lt-ltb _ _ (c .before .before .before .if1 .taken)) (c .while-young .ensures)
+returns c = kept-in-none _ _ _ (c .if1 .taken)
 
 returns-2 : tie.Need-returns-2
 returns-2 c =
+    let p = c .before .before .before .before in
+    rw (kept-at (scanned p) (p .before .before .before .before .before .before .args .now), lt-ltb _ _ (c .before .before .before .if2 .taken)) (c .while-young .ensures)
+
+returns-3 : tie.Need-returns-3
+returns-3 c =
     let p = c .before in
-    rw (kept-at (scanned p) (p .before .before .before .before .args .now), le-ltb _ _ (c .if1 .left))
+    rw (kept-at (scanned p) (p .before .before .before .before .before .before .args .now), le-ltb _ _ (c .if2 .left))
 
 pub kept-spec : {M : Type 1} → statement M
 kept-spec =
     tie.close
-    (tie.spec (omega arith) (λ c. search needs) place-requires (omega arith) (omega arith) (omega arith) (omega arith) (omega arith) returns returns-2)
+    (tie.spec returns (omega arith) (λ c. search needs) place-requires (omega arith) (omega arith) (omega arith) (omega arith) (omega arith) returns-2 returns-3)
