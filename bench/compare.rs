@@ -175,6 +175,8 @@ fn time_checksums(random: &mut Random) {
     }
 }
 
+/// The fields are read from where they lie. A copy made on the spot is stored field by field and, for the call across C, at once
+/// loaded as two words: the processor waits some 5 ns for that, which is not the time of wrapping.
 fn time_wraps(random: &mut Random) {
     for length in [20, 64, 1280, 1480, 1500, 65515] {
         let (h, packet) = (random.outer_fields(), random.bytes(length));
