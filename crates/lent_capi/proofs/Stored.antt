@@ -6,6 +6,7 @@
 --     shape            the function's MIR
 --     walk             the walk.        stored       the function meets its contract
 --     handed           what the callee is handed, as its contract asks for it
+--     over-bytes       the same for a function over a `&mut Node`, bytes and a time, whose covered function answers what `def` says
 use mathlib.Core.Path.{_≡_, refl, ap}
 use Prim.Native.Nat.{ℕ, suc}
 use mathlib.Core.List.{List, [], _∷_}
@@ -32,9 +33,9 @@ use denote.RattleType.{RattleType, owns}
 use denote.Laws.{Is, Makes, Tells, shows}
 use denote.Memory.{mem, pointee}
 use denote.Plain.{uint-tells}
-use denote.Builtin.{RefMutOf, u8, u32}
+use denote.Builtin.{RefMutOf, SliceRefOf, u8, u32}
 use denote.Exit.{yes, Last, left}
-use denote.Ref.{MutRef, ptr-vals, mut-tells}
+use denote.Ref.{MutRef, now, ptr-vals, mut-tells}
 use denote.Signature.{Slot, Signature, plain, shrSliceOf, typeAt}
 use denote.Slice.{ShrSlice, slice-vals, shr-slice-tells}
 use denote.Steps.{only, owned, peeks, nothing}
@@ -190,7 +191,7 @@ module _ (callee : Name) (m : ℕ) (p₂ p₃ : Param (suc m)) (R : RattleType) 
           move ! (1 ∷ 18 ∷ 17 ∷ []) $ use3 W (raw Handed) (id⊢ 𝓤 _) $
           -- [what the callee is handed; the node's cell; the open borrow; obs; auth; _5; …; room for _0; …]
           calls-from ! fm (raw Handed) (mach h ∷ v₂ ∷ v₃ ∷ []) (tripleOf 𝓤 H A (U .signature) (closing 𝓤 H A U u) .post y) met
-            (and-then ! (load ! (from ! (stop !)) (look ! 5 refl)) (and-then ! (load ! (from ! (stop !)) (look ! 11 refl)) (and-then ! (load ! (from ! (stop !)) (look ! 9 refl)) (no-more !)))) (λ v.
+          (and-then ! (load ! (from ! (stop !)) (look ! 5 refl)) (and-then ! (load ! (from ! (stop !)) (look ! 11 refl)) (and-then ! (load ! (from ! (stop !)) (look ! 9 refl)) (no-more !)))) (λ v.
           answered ! tt U u y v (λ z _. φ z) told (λ z _ e. peeks ! (typeAt (U .signature .result) (y .0 .0)) (Is (typeAt (U .signature .result) (y .0 .0))) (shows 𝓤 H A (typeAt (U .signature .result) (y .0 .0))) z (v ∷ []) (λ is.
           -- [the result; the last values; the other tokens; the node's cell; the open borrow; obs; auth; _5; …; room for _0; …]
           land ! (from ! (stop !)) (init ! 9 refl (Y .typed z v is)) $ rewrite ! 9 (λ (w : Val). ‵ (fat fullShare step-type l₄ 0 w)) (ap only (Y .tells z (v ∷ []) is)) refl $
@@ -213,14 +214,14 @@ module _ (callee : Name) (m : ℕ) (p₂ p₃ : Param (suc m)) (R : RattleType) 
           → (y : (κs : Lfts (suc m)) → Shares (suc m) → Args signature κs → Called .Ghost)
           → (Y : (κs : Lfts (suc m)) (qs : Shares (suc m)) (x : Args signature κs) → Answer (typeAt (U .signature .result) (y κs qs x .0 .0)) R ρ step-type)
           → ((κs : Lfts (suc m)) (qs : Shares (suc m)) (x : Args signature κs)
-            → ent 𝓤 (sep 𝓤 (sep 𝓤 (toks 𝓤 (𝓖 .A) m (κs .1) (qs .1)) (sem 𝓤 H (𝓖 .A) (fsep (T.the-row .own (x .0 .now) (mach (x .0 .now) ∷ [])) (owns (p₂ .slot .row κs ∷ p₃ .slot .row κs ∷ []) (x .1) (p₂ .val κs (x .1 .0) ∷ [], (p₃ .val κs (x .1 .1 .0) ∷ [], tt)))))) (emp 𝓤))
-              (tables 𝓤 H 𝓜 𝓡 env .C callee (mach (x .0 .now) ∷ p₂ .val κs (x .1 .0) ∷ p₃ .val κs (x .1 .1 .0) ∷ []) (Called .post (y κs qs x))))
+          → ent 𝓤 (sep 𝓤 (sep 𝓤 (toks 𝓤 (𝓖 .A) m (κs .1) (qs .1)) (sem 𝓤 H (𝓖 .A) (fsep (T.the-row .own (x .0 .now) (mach (x .0 .now) ∷ [])) (owns (p₂ .slot .row κs ∷ p₃ .slot .row κs ∷ []) (x .1) (p₂ .val κs (x .1 .0) ∷ [], (p₃ .val κs (x .1 .1 .0) ∷ [], tt)))))) (emp 𝓤))
+          (tables 𝓤 H 𝓜 𝓡 env .C callee (mach (x .0 .now) ∷ p₂ .val κs (x .1 .0) ∷ p₃ .val κs (x .1 .1 .0) ∷ []) (Called .post (y κs qs x))))
           → ((κs : Lfts (suc m)) (qs : Shares (suc m)) (x : Args signature κs) → ent 𝓤 (alive 𝓤 H (𝓖 .A) (U .signature) (y κs qs x .0 .0) (y κs qs x .0 .1)) (toks 𝓤 (𝓖 .A) m (κs .1) (qs .1)))
           → (φ : (κs : Lfts (suc m)) (qs : Shares (suc m)) (x : Args signature κs) → Res (U .signature) (y κs qs x .0 .0) → Type 0)
           → ((κs : Lfts (suc m)) (qs : Shares (suc m)) (x : Args signature κs) (z : Res (U .signature) (y κs qs x .0 .0)) (ws : Lasts U (y κs qs x .0 .0) (y κs qs x .0 .3))
-            → ent 𝓤 (u (y κs qs x .0 .0) (y κs qs x .0 .3) .ensures (y κs qs x .1) z (atExit U (y κs qs x .0 .0) (y κs qs x .0 .3) ws)) (fact 𝓤 (φ κs qs x z)))
+          → ent 𝓤 (u (y κs qs x .0 .0) (y κs qs x .0 .3) .ensures (y κs qs x .1) z (atExit U (y κs qs x .0 .0) (y κs qs x .0 .3) ws)) (fact 𝓤 (φ κs qs x z)))
           → ((κs : Lfts (suc m)) (qs : Shares (suc m)) (x : Args signature κs) (z : Res (U .signature) (y κs qs x .0 .0)) → φ κs qs x z
-            → Ens κs x (Y κs qs x .rest z) (atExit ended κs x (Y κs qs x .next z, (p₂ .last κs (x .1 .0), (p₃ .last κs (x .1 .1 .0), tt)))))
+          → Ens κs x (Y κs qs x .rest z) (atExit ended κs x (Y κs qs x .next z, (p₂ .last κs (x .1 .0), (p₃ .last κs (x .1 .1 .0), tt)))))
           → Triple 𝓤 (tables 𝓤 H 𝓜 𝓡 env .C key) (tripleOf 𝓤 H (𝓖 .A) signature (closing 𝓤 H (𝓖 .A) ended (clauses 𝓤)))
       unfolding tablesOf
       stored closed makes y Y met back φ told shown =
@@ -232,3 +233,30 @@ module _ (callee : Name) (m : ℕ) (p₂ p₃ : Param (suc m)) (R : RattleType) 
           (p₂ .typed κs (x .1 .0) (are .1 .0)) (p₃ .typed κs (x .1 .1 .0) (are .1 .1 .0))
           (via 𝓤 _ (handed 𝓤 H (𝓖 .A) W (tables 𝓤 H 𝓜 𝓡 env .C) (tables 𝓤 H 𝓜 𝓡 env .Λ) (fmOf 𝓤 H (W .laws) (tablesOf 𝓤 H 𝓜 (tables 𝓤 H 𝓜 𝓡 env))) U u (κs .0) (κs .1) (qs .0) (qs .1) (x .0 .ptr .0) (x .0 .ptr .1) (x .0 .name) (x .0 .now) (x .1 .0) (x .1 .1 .0) (y κs qs x) (Y κs qs x) makes) (met κs qs x))
           (back κs qs x) (φ κs qs x) (told κs qs x) (shown κs qs x))
+
+-- ---- bytes and a time
+module _ (Z : RattleType) (def : Node → List ℕ → ℕ → Z .Denot) where
+  abbrev pub step-signature : Signature
+  step-signature = record { lifetimes = 1; outlives = []; params = plain (λ _. T.the-row) ∷ SliceRefOf (0 ∷ []) tt (plain (λ _. u8)) (λ _. tt) ∷ plain (λ _. u32) ∷ []; result = plain (λ _. Z) }
+
+  abbrev pub step-ended : Ended
+  step-ended = record { signature = step-signature; kept = (yes, (yes, (yes, tt))) }
+
+  abbrev pub step-clauses : {M : Type 1} (𝓤 : URA M) → Clauses 𝓤 step-ended
+  step-clauses 𝓤 κs a = record { ghost = Unit {0}; requires = λ _. emp 𝓤; ensures = λ _ z e. fact 𝓤 (z ≡ def (a .0) (now (a .1 .0)) (a .1 .1 .0)) }
+
+  module _ (callee : Name) (R : RattleType) (ρ : Ty) (ν : Sym) (Y : Answer Z R ρ (tyStruct ν (tcons ρ (tcons T′.mir tnil)))) where
+    abbrev pub Says : (κs : Lfts 2) (a : Args (signature callee 1 bytes (number 2) R ρ ν) κs) → R .Denot → AtExit (ended callee 1 bytes (number 2) R ρ ν) κs → Type 0
+    Says κs a r e = (r ≡ Y .rest (def (now (a .0)) (now (a .1 .0)) (a .1 .1 .0))) × (now (e .0) ≡ Y .next (def (now (a .0)) (now (a .1 .0)) (a .1 .1 .0)))
+
+    module _ {M : Type 1} (𝓤 : URA M) (H : Heap 𝓤) (𝓜 : Model 𝓤 H) (𝓖 : GhostRules 𝓤 H) (𝓡 : Running 𝓤 H 𝓜) (env : Env) (key : Name) where
+      abbrev Step : Contract 𝓤
+      Step = tripleOf 𝓤 H (𝓖 .A) step-signature (closing 𝓤 H (𝓖 .A) step-ended (step-clauses 𝓤))
+
+      pub over-bytes : Closed 𝓤 H (tables 𝓤 H 𝓜 𝓡 env .C) (tables 𝓤 H 𝓜 𝓡 env .Λ) key (shape callee 1 bytes (number 2) R ρ ν) → Makes 𝓤 H (𝓖 .A) R (Is R) → Triple 𝓤 (tables 𝓤 H 𝓜 𝓡 env .C callee) Step
+          → Triple 𝓤 (tables 𝓤 H 𝓜 𝓡 env .C key) (tripleOf 𝓤 H (𝓖 .A) (signature callee 1 bytes (number 2) R ρ ν) (closing 𝓤 H (𝓖 .A) (ended callee 1 bytes (number 2) R ρ ν) (clauses callee 1 bytes (number 2) R ρ ν Says 𝓤)))
+      over-bytes closed makes known =
+          let to : (κs : Lfts 2) → Shares 2 → Args (signature callee 1 bytes (number 2) R ρ ν) κs → Step .Ghost
+          = λ κs qs a. ((κs .1, qs .1, tt, (now (a .0), a .1), (mach (now (a .0)) ∷ [], (bytes .val κs (a .1 .0) ∷ [], (number 2 .val κs (a .1 .1 .0) ∷ [], tt)))), tt) in
+          stored callee 1 bytes (number 2) R ρ ν Says 𝓤 H 𝓜 𝓖 𝓡 env key step-ended (step-clauses 𝓤) closed makes to (λ κs qs a. Y) (λ κs qs a. known (to κs qs a)) (λ κs qs a. id⊢ 𝓤 _)
+          (λ κs qs a z. z ≡ def (now (a .0)) (now (a .1 .0)) (a .1 .1 .0)) (λ κs qs a z ws. id⊢ 𝓤 _) (λ κs qs a z e. (ap (Y .rest) e, ap (Y .next) e))
