@@ -1,5 +1,6 @@
 -- The calls on a lent node (document 01: "A call takes the node's state and hands back the next state"): the next state stands where the
 -- node stood, and the answer is what is left.
+use Rattle.capi.specs.declared.answers.Asked.{Asked}
 use Rattle.capi.specs.declared.answers.Heard.{Heard}
 use Rattle.capi.specs.declared.answers.Reported.{Reported}
 use Rattle.capi.specs.declared.answers.Sent.{Sent}
@@ -24,6 +25,13 @@ reportedAnswer s = record { number = s .number; neighbour = s .neighbour; size =
 
 unfoldable pub reportStep : Reported → ReportStep
 reportStep s = record { answer = reportedAnswer s; node = s .node }
+
+-- the answer to asking without the node, and with it
+abbrev pub askedAnswer : Asked → RouterIn
+askedAnswer s = record { number = s .number; router = s .router }
+
+unfoldable pub askedStep : Asked → RouterStep
+askedStep s = record { answer = askedAnswer s; node = s .node }
 
 -- the answer to an advertisement without the node, and with it
 abbrev pub heardAnswer : Heard → RouterIn

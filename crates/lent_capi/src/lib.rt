@@ -6,10 +6,11 @@ use capi::answers::Received;
 use node::Node;
 ghost use mathlib.Core.Path.{_≡_};
 ghost use lib.ListN.{length};
+ghost use Rattle.node.specs.Ask.{askOutput};
 ghost use Rattle.node.specs.Node.{sizeOf};
 ghost use Rattle.node.specs.Send.{sendOutput};
-ghost use Rattle.capi.specs.Calls.{receivedIn, sentIn, reportedIn, replacedIn, heardIn};
-ghost use Rattle.lent_capi.specs.Steps.{sentAnswer, sendStep, reportedAnswer, reportStep, heardAnswer, heardStep};
+ghost use Rattle.capi.specs.Calls.{receivedIn, sentIn, reportedIn, replacedIn, askedIn, heardIn};
+ghost use Rattle.lent_capi.specs.Steps.{sentAnswer, sendStep, reportedAnswer, reportStep, askedAnswer, askedStep, heardAnswer, heardStep};
 
 // The answer to a sending. The length written; with 14 also the size M.
 #[repr(C)]
@@ -169,4 +170,34 @@ pub extern "C" fn bogtrumpet_replace_routers_in(node: &mut Node, list: Addresses
     let replaced = capi::bogtrumpet_replace_routers(*node, list, time);
     *node = replaced.node;
     replaced.number
+}
+
+fn ask_step(n: Node, locator: usize, time: u32, out: &mut [u8]) -> RouterStep
+    ensures { λ r. ⌜ (r ≡ askedStep (askedIn n locator time (length (now (out .entry)))))
+        × (now (out .exit) ≡ askOutput n locator time (now (out .entry))) ⌝ }
+{
+    let asked = capi::bogtrumpet_ask(n, locator, time, out);
+    let node = asked.node;
+    let answer = RouterIn {
+        number: asked.number,
+        router: asked.router,
+    };
+    RouterStep { answer, node }
+}
+
+// Asks the next router: Node::ask.
+#[no_mangle]
+pub extern "C" fn bogtrumpet_ask_in(
+    node: &mut Node,
+    locator: usize,
+    time: u32,
+    out: &mut [u8],
+) -> RouterIn
+    ensures { λ r. ⌜ (r ≡ askedAnswer (askedIn (now (node .entry)) locator time (length (now (out .entry)))))
+        × (now (node .exit) ≡ askedIn (now (node .entry)) locator time (length (now (out .entry))) .node)
+        × (now (out .exit) ≡ askOutput (now (node .entry)) locator time (now (out .entry))) ⌝ }
+{
+    let step = ask_step(*node, locator, time, out);
+    *node = step.node;
+    step.answer
 }
