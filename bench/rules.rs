@@ -23,12 +23,13 @@ fn each(inputs: &[u8]) -> [&[u8]; 4] {
 }
 
 /// Turns of the work, the inputs in turn.
-fn turns(inputs: &'static [u8], work: impl Fn(&[u8], &mut [u8]) + 'static) -> Option<Turns> {
+fn turns(inputs: &'static [u8], work: impl Fn(usize, &[u8], &mut [u8]) + 'static) -> Option<Turns> {
     let inputs = each(inputs);
     let mut out = vec![0; ROOM];
     Some(Box::new(move |turns| {
-        for (_, input) in (0..turns).zip(black_box(&inputs).iter().cycle()) {
-            work(input, &mut out);
+        let inputs = black_box(&inputs);
+        for place in (0..turns).map(|turn| turn as usize % 4) {
+            work(place, inputs[place], &mut out);
         }
         black_box(&out);
     }))
@@ -46,8 +47,8 @@ fn checksum(random: &mut Random, length: usize) -> Row {
     }
     let sum: u64 = each(inputs).iter().map(|input| u64::from(plain_checksum(0, input))).sum();
     assert_eq!(sum, inside::checksums(inputs, 4), "checksums of {length} bytes");
-    let plain = turns(inputs, |input, _| _ = black_box(plain_checksum(black_box(0), input)));
-    let by_value = turns(inputs, |input, _| _ = black_box(bogtrumpet::checksum(black_box(0), input)));
+    let plain = turns(inputs, |_, input, _| _ = black_box(plain_checksum(black_box(0), input)));
+    let by_value = turns(inputs, |_, input, _| _ = black_box(bogtrumpet::checksum(black_box(0), input)));
     let inside: Turns = Box::new(|turns| _ = black_box(inside::checksums(black_box(inputs), turns)));
     Row { name: format!("checksum {length}"), ways: [plain, by_value, Some(inside), None] }
 }
@@ -57,37 +58,37 @@ fn plain_wrap(outer: &Outer, packet: &[u8], out: &mut [u8]) -> Result<usize, Ref
     rules::wrap(outer, packet, out)
 }
 
-const OUTER: Outer = Outer {
-    identification: 0x1234,
-    dont_fragment: true,
-    ttl: 64,
-    protocol: 41,
-    source: 0x0a01_0001,
-    destination: 0x0a03_0001,
-};
+/// Four headers, for the four packets.
+fn outers(random: &mut Random) -> [Outer; 4] {
+    [0, 1, 2, 3].map(|_| Outer {
+        identification: random.next() as u16,
+        dont_fragment: random.once_in(2),
+        ttl: random.next() as u8,
+        protocol: 41,
+        source: random.next() as u32,
+        destination: random.next() as u32,
+    })
+}
 
-fn library_outer(outer: &Outer) -> bogtrumpet::Outer {
-    bogtrumpet::Outer {
-        identification: outer.identification,
-        dont_fragment: outer.dont_fragment,
-        ttl: outer.ttl,
-        protocol: outer.protocol,
-        source: outer.source,
-        destination: outer.destination,
-    }
+fn library_outer(outer: Outer) -> bogtrumpet::Outer {
+    let Outer { identification, dont_fragment, ttl, protocol, source, destination } = outer;
+    bogtrumpet::Outer { identification, dont_fragment, ttl, protocol, source, destination }
 }
 
 fn wrap(random: &mut Random, length: usize) -> Row {
     let inputs = inputs(random, length);
-    for input in each(inputs) {
+    let outers = outers(random);
+    let library_outers = outers.map(library_outer);
+    for (place, input) in each(inputs).iter().enumerate() {
         let (mut plain, mut library) = (vec![0x55; ROOM], vec![0x55; ROOM]);
-        let written = bogtrumpet::wrap(library_outer(&OUTER), input, &mut library);
-        assert_eq!(plain_wrap(&OUTER, input, &mut plain), Ok(written), "{length} bytes wrapped");
+        let written = bogtrumpet::wrap(library_outers[place], input, &mut library);
+        assert_eq!(plain_wrap(&outers[place], input, &mut plain), Ok(written), "{length} bytes wrapped");
         assert!(plain == library, "{length} bytes wrapped");
     }
-    let outer = library_outer(&OUTER);
-    let plain = turns(inputs, |input, out| _ = black_box(plain_wrap(black_box(&OUTER), input, out)));
-    let by_value = turns(inputs, move |input, out| _ = black_box(bogtrumpet::wrap(*black_box(&outer), input, out)));
+    let plain = turns(inputs, move |place, input, out| _ = black_box(plain_wrap(&outers[place], input, out)));
+    let by_value = turns(inputs, move |place, input, out| {
+        black_box(bogtrumpet::wrap(library_outers[place], input, out));
+    });
     Row { name: format!("wrap {length}"), ways: [plain, by_value, None, None] }
 }
 

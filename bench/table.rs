@@ -42,7 +42,7 @@ pub fn print_goals(rows: &[Measured]) {
 #[cfg(moves)]
 pub fn print_moves(rows: &[(String, [Option<f64>; 4])]) {
     print_heading("bytes moved", &WAYS.map(String::from));
-    for (name, ways) in rows {
+    for (name, ways) in rows.iter().filter(|(_, ways)| ways.iter().flatten().any(|&bytes| bytes > 0.0)) {
         print_line(name, &ways.map(|way| number(way, 0)));
     }
 }

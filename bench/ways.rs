@@ -38,7 +38,9 @@ pub fn plain(work: &'static Work) -> Turns {
     let node = work.nodes.plain;
     match work.call {
         Call::Receive => turns(work, node, |node, turn| _ = black_box(receive(node, turn.input, turn.interface))),
-        Call::Send => turns(work, node, |node, turn| _ = black_box(send(node, turn))),
+        Call::Send => turns(work, node, |node, turn| {
+            _ = black_box(send(node, turn.input, turn.next_hop, turn.locator, turn.time, turn.out));
+        }),
         Call::Report => turns(work, node, |node, turn| _ = black_box(report(node, turn.input, turn.time))),
         Call::Ask => turns(work, node, |node, turn| _ = black_box(ask(node, turn.locator, turn.time, turn.out))),
         Call::Hear => turns(work, node, |node, turn| _ = black_box(hear(node, turn.input, turn.time))),
@@ -51,8 +53,15 @@ fn receive(node: &Node, datagram: &[u8], interface: u8) -> Result<Range<usize>, 
 }
 
 #[inline(never)]
-fn send(node: &mut Node, turn: Turn) -> Result<Sent, Refusal> {
-    node.send(turn.input, turn.next_hop, turn.locator, turn.time, turn.out)
+fn send(
+    node: &mut Node,
+    packet: &[u8],
+    next_hop: &Address,
+    locator: usize,
+    time: u32,
+    out: &mut [u8],
+) -> Result<Sent, Refusal> {
+    node.send(packet, next_hop, locator, time, out)
 }
 
 #[inline(never)]
