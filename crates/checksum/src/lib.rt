@@ -96,18 +96,30 @@ fn fold(x: u64) -> u16
     left as u16
 }
 
-// The exact sum of the words of s, at most 32,768, so that 32 bits hold it: eight words a turn, then one by one.
+// The exact sum of the words of s, at most 32,768, so that 32 bits hold it: sixteen words a turn, so that the compiler adds
+// several at once, then what is left.
 fn words(s: &[u8]) -> u32
     requires { ⌜ length (now s) ≤ chunk ⌝ }
     ensures { λ r. ⌜ r ≡ wordSum (now (s .entry)) ⌝ }
 {
     let mut sum: u32 = 0;
     let mut i = 0;
-    while i + 15 < s.len() {
-        sum += eight_words(s, i);
-        i += 16;
+    while i + 31 < s.len() {
+        sum += sixteen_words(s, i);
+        i += 32;
     }
-    sum + last_words(&s[i..])
+    sum + rest_words(&s[i..])
+}
+
+// The same of fewer than 32 bytes: eight words, as most headers have them, then one by one.
+fn rest_words(s: &[u8]) -> u32
+    requires { ⌜ length (now s) < 32 ⌝ }
+    ensures { λ r. ⌜ (r ≡ wordSum (now (s .entry))) × (r ≤ 65535 * 16) ⌝ }
+{
+    if s.len() < 16 {
+        return last_words(s);
+    }
+    eight_words(s, 0) + last_words(&s[16..])
 }
 
 // The same of fewer than 16 bytes: one word a turn, then an odd last byte, padded with a zero byte.
@@ -141,6 +153,14 @@ fn eight_words(s: &[u8], i: usize) -> u32
         + word_at(s, i + 10)
         + word_at(s, i + 12)
         + word_at(s, i + 14)
+}
+
+// The same of sixteen words.
+fn sixteen_words(s: &[u8], i: usize) -> u32
+    requires { ⌜ i + 31 < length (now s) ⌝ }
+    ensures { λ r. ⌜ (wordSum (drop i (now (s .entry))) ≡ r + wordSum (drop (i + 32) (now (s .entry)))) × (r ≤ 65535 * 16) ⌝ }
+{
+    eight_words(s, i) + eight_words(s, i + 16)
 }
 
 // The word at i.

@@ -62,30 +62,12 @@ pub fn wrap(h: OuterFields, packet: &[u8], out: &mut [u8]) -> Written
 pub fn outer_bytes(total: u16, h: OuterFields) -> [u8; 20]
     ensures { λ r. ⌜ r ≡ outerBytes total h ⌝ }
 {
-    let flags = flags(h.dont_fragment);
     let sum = checksum::complement(header_sum(total, h));
-    let mut b = [
-        0x45,
-        0,
-        0,
-        0,
-        0,
-        0,
-        flags,
-        0,
-        h.ttl,
-        h.protocol,
-        0,
-        0,
-        0,
-        0,
-        0,
-        0,
-        0,
-        0,
-        0,
-        0,
-    ];
+    let mut b = [0; 20];
+    b[0] = 0x45;
+    b[6] = flags(h.dont_fragment);
+    b[8] = h.ttl;
+    b[9] = h.protocol;
     place(&be16(total), &mut b, 2);
     place(&be16(h.identification), &mut b, 4);
     place(&be16(sum), &mut b, 10);

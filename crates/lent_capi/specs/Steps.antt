@@ -1,8 +1,15 @@
 -- The calls on a lent node (document 01: "A call takes the node's state and hands back the next state"): the next state stands where the
 -- node stood, and the answer is what is left.
+use Rattle.capi.specs.declared.answers.Asked.{Asked}
+use Rattle.capi.specs.declared.answers.Heard.{Heard}
+use Rattle.capi.specs.declared.answers.Reported.{Reported}
 use Rattle.capi.specs.declared.answers.Sent.{Sent}
 use Rattle.lent_capi.specs.declared.SentIn.{SentIn}
 use Rattle.lent_capi.specs.declared.SendStep.{SendStep}
+use Rattle.lent_capi.specs.declared.ReportedIn.{ReportedIn}
+use Rattle.lent_capi.specs.declared.ReportStep.{ReportStep}
+use Rattle.lent_capi.specs.declared.RouterIn.{RouterIn}
+use Rattle.lent_capi.specs.declared.RouterStep.{RouterStep}
 
 -- the answer to a sending without the node
 abbrev pub sentAnswer : Sent → SentIn
@@ -11,3 +18,24 @@ sentAnswer s = record { number = s .number; size = s .size; length = s .length }
 -- and with what a sending changes of the node
 unfoldable pub sendStep : Sent → SendStep
 sendStep s = record { answer = sentAnswer s; identification = s .node .service .identification; latest = s .node .latest }
+
+-- the answer to a size report without the node, and with it
+abbrev pub reportedAnswer : Reported → ReportedIn
+reportedAnswer s = record { number = s .number; neighbour = s .neighbour; size = s .size }
+
+unfoldable pub reportStep : Reported → ReportStep
+reportStep s = record { answer = reportedAnswer s; node = s .node }
+
+-- the answer to asking without the node, and with it
+abbrev pub askedAnswer : Asked → RouterIn
+askedAnswer s = record { number = s .number; router = s .router }
+
+unfoldable pub askedStep : Asked → RouterStep
+askedStep s = record { answer = askedAnswer s; node = s .node }
+
+-- the answer to an advertisement without the node, and with it
+abbrev pub heardAnswer : Heard → RouterIn
+heardAnswer s = record { number = s .number; router = s .router }
+
+unfoldable pub heardStep : Heard → RouterStep
+heardStep s = record { answer = heardAnswer s; node = s .node }

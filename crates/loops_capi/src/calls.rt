@@ -1,67 +1,16 @@
 // Many calls on one node, each on the node that the last one left. The answer is the sum, modulo 2^64, of what the calls answer: a refused
 // one its number, another its length, size or router.
 use super::part_at;
-use advertising::HeardAnswer;
-use asking::AskAnswer;
+use super::worth;
 use node::Node;
-use receiving::Received;
-use reports::ReportAnswer;
-use sending::SendAnswer;
 ghost use mathlib.Core.Path.{_≡_};
 ghost use lib.ListN.{length};
-ghost use Rattle.loops_capi.specs.Worth.{receivedWorth, sentWorth, reportWorth, askWorth, heardWorth};
 ghost use Rattle.loops_capi.specs.Calls.{receivedMany, sentMany, sentManyOutput, reportedMany, askedMany, askedManyOutput, heardMany};
 
 // An IPv6 address.
 #[repr(C)]
 pub struct Address {
     pub bytes: [u8; 16],
-}
-
-fn received_worth(answer: Received) -> u64
-    ensures { λ r. ⌜ r ≡ receivedWorth answer ⌝ }
-{
-    match answer {
-        Received::Delivered { offset: _, length } => length as u64,
-        Received::Refused(refusal) => refusal.number() as u64,
-    }
-}
-
-fn sent_worth(answer: SendAnswer) -> u64
-    ensures { λ r. ⌜ r ≡ sentWorth answer ⌝ }
-{
-    match answer {
-        SendAnswer::Wrapped(length) => length as u64,
-        SendAnswer::TooBig { size, written: _ } => size as u64,
-        SendAnswer::Refused(refusal) => refusal.number() as u64,
-    }
-}
-
-fn report_worth(answer: ReportAnswer) -> u64
-    ensures { λ r. ⌜ r ≡ reportWorth answer ⌝ }
-{
-    match answer {
-        ReportAnswer::Accepted { neighbour: _, size } => size as u64,
-        ReportAnswer::Refused(refusal) => refusal.number() as u64,
-    }
-}
-
-fn ask_worth(answer: AskAnswer) -> u64
-    ensures { λ r. ⌜ r ≡ askWorth answer ⌝ }
-{
-    match answer {
-        AskAnswer::Router(router) => router as u64,
-        AskAnswer::Refused(refusal) => refusal.number() as u64,
-    }
-}
-
-fn heard_worth(answer: HeardAnswer) -> u64
-    ensures { λ r. ⌜ r ≡ heardWorth answer ⌝ }
-{
-    match answer {
-        HeardAnswer::Router(router) => router as u64,
-        HeardAnswer::Refused(refusal) => refusal.number() as u64,
-    }
 }
 
 // uint64_t bogtrumpet_receive_many(struct bogtrumpet_node n, const uint8_t *datagrams, size_t length, size_t size, uint8_t interface, uint32_t count);
@@ -80,7 +29,7 @@ pub extern "C" fn bogtrumpet_receive_many(
     let mut i: u32 = 0;
     while i < count {
         let received = n.receive(part_at(datagrams, size, i), interface);
-        sum = std::num::wrapping_add_u64(sum, received_worth(received));
+        sum = std::num::wrapping_add_u64(sum, worth::received_worth(received));
         i = i + 1;
     }
     sum
@@ -110,7 +59,7 @@ pub extern "C" fn bogtrumpet_send_many(
         let sent = next.send(part_at(packets, size, i), hop, locator, time, out);
         next = sent.node;
         let answer = sent.answer;
-        sum = std::num::wrapping_add_u64(sum, sent_worth(answer));
+        sum = std::num::wrapping_add_u64(sum, worth::sent_worth(answer));
         i = i + 1;
     }
     sum
@@ -137,7 +86,7 @@ pub extern "C" fn bogtrumpet_report_many(
         let reported = next.report(part_at(messages, size, i), at);
         next = reported.node;
         let answer = reported.answer;
-        sum = std::num::wrapping_add_u64(sum, report_worth(answer));
+        sum = std::num::wrapping_add_u64(sum, worth::report_worth(answer));
         at = std::num::wrapping_add_u32(at, step);
         i = i + 1;
     }
@@ -166,7 +115,7 @@ pub extern "C" fn bogtrumpet_ask_many(
         let asked = next.ask(locator, at, out);
         next = asked.node;
         let answer = asked.answer;
-        sum = std::num::wrapping_add_u64(sum, ask_worth(answer));
+        sum = std::num::wrapping_add_u64(sum, worth::ask_worth(answer));
         at = std::num::wrapping_add_u32(at, step);
         i = i + 1;
     }
@@ -192,7 +141,7 @@ pub extern "C" fn bogtrumpet_hear_many(
         let heard = next.hear(part_at(packets, size, i), time);
         next = heard.node;
         let answer = heard.answer;
-        sum = std::num::wrapping_add_u64(sum, heard_worth(answer));
+        sum = std::num::wrapping_add_u64(sum, worth::heard_worth(answer));
         i = i + 1;
     }
     sum

@@ -2,6 +2,7 @@
 pub mod calls;
 pub mod rules;
 pub mod tables;
+mod worth;
 
 ghost use mathlib.Core.Path.{_≡_};
 ghost use Prim.Native.Nat.{min};

@@ -3,13 +3,13 @@ use crate::answers;
 use crate::answers::NONE;
 use crate::writers;
 use address::Embedded;
+use address::prefixes;
 use header::fields;
 use header::inner;
 use header::outer;
 use input::section;
 use lifetimes::Smallest;
 use paths::Candidate;
-use settings::locators;
 
 pub(crate) fn answer(kind: u8, c: &[u8]) {
     let n = fields::word(c, 1);
@@ -68,7 +68,7 @@ fn outer_field(kind: u8, d: &[u8]) -> u64 {
 }
 
 fn embedded(n: u16, d: &[u8]) -> u64 {
-    let prefixes = locators::rows(section::prefixes(fields::tail(d, 16)));
+    let prefixes = prefixes::rows(section::prefixes(fields::tail(d, 16)));
     let answer = address::isatap(prefixes, n as usize, fields::address(d, 0));
     match answer {
         Embedded::Ipv4(x) => x as u64,

@@ -1,6 +1,5 @@
 -- `rules_capi::addresses::plain_embedded` meets its contract: by cases on what is embedded. Assumes nothing.
 use borrow.Author.Needs.{needs}
-use native.Mathlib.Omega.{arith}
 use Rattle.rules_capi.proofs.addresses.plain_embedded.Statement.{statement}
 use Rattle.rules_capi.proofs.addresses.plain_embedded.Tie as tie
 

@@ -1,0 +1,12 @@
+-- `lent_capi::ask_step` meets its contract: what `capi::bogtrumpet_ask` answers, the next node, and its output. Assumes nothing.
+use native.Mathlib.Omega.{arith}
+use Rattle.lent_capi.specs.Steps.{askedStep}
+use Rattle.lent_capi.proofs.ask_step.Statement.{statement}
+use Rattle.lent_capi.proofs.ask_step.Tie as tie
+
+returns : tie.Need-returns
+unfolding askedStep
+returns c = (rw (c .before .before .before .bogtrumpet-ask .ensures .0), c .before .before .before .bogtrumpet-ask .ensures .1)
+
+pub ask-step-spec : {M : Type 1} → statement M
+ask-step-spec = tie.close (tie.spec (omega arith) (omega arith) returns)
