@@ -1,9 +1,7 @@
-//! The library across the C boundary over a lent node: a pointer to it goes over, and it is changed in place. A function that the
-//! library does not have yet has no way here.
-#![allow(dead_code, unused_imports, unused_variables)]
+//! The library across the C boundary over a lent node: a pointer to it goes over, and it is changed in place.
 
 use crate::bogtrumpet::{Address, Node, Received};
-use crate::calls::{Call, Work, ROOM, START};
+use crate::calls::{Call, Work, ROOM};
 use crate::measure::Turns;
 use crate::paths;
 use crate::ways::{turns, Turn};
@@ -143,41 +141,25 @@ fn compare<A: Answer>(work: &Work, call: impl Fn(&mut Node, Turn) -> A) {
     }
 }
 
-fn way<A: Answer>(work: &'static Work, call: impl Fn(&mut Node, Turn) -> A + 'static) -> Option<Turns> {
+fn way<A: Answer>(work: &'static Work, call: impl Fn(&mut Node, Turn) -> A + 'static) -> Turns {
     compare(work, &call);
-    Some(turns(work, work.nodes.library, move |node, turn| _ = black_box(&call(node, turn))))
+    turns(work, work.nodes.library, move |node, turn| _ = black_box(&call(node, turn)))
 }
 
-pub fn lent(work: &'static Work) -> Option<Turns> {
+pub fn lent(work: &'static Work) -> Turns {
     match work.call {
-        #[cfg(lent = "receive")]
         Call::Receive => way(work, receive),
-        #[cfg(lent = "send")]
         Call::Send => way(work, send),
-        #[cfg(lent = "report")]
         Call::Report => way(work, report),
-        #[cfg(lent = "ask")]
         Call::Ask => way(work, ask),
-        #[cfg(lent = "hear")]
         Call::Hear => way(work, hear),
-        #[allow(unreachable_patterns)]
-        _ => None,
     }
 }
 
 /// The sizes toward the neighbours that `first` begins, place by place.
 pub fn path_sizes(start: Node, first: u32) -> Option<Turns> {
-    #[cfg(lent = "path_size")]
-    {
-        for neighbour in first..first + 64 {
-            assert_eq!(
-                bogtrumpet_path_size_in(&start, neighbour),
-                start.path_size(neighbour),
-                "{neighbour}: {start:?}"
-            );
-        }
-        return paths::turns(start, move |node, place| _ = black_box(bogtrumpet_path_size_in(node, first + place)));
+    for neighbour in first..first + 64 {
+        assert_eq!(bogtrumpet_path_size_in(&start, neighbour), start.path_size(neighbour), "{neighbour}: {start:?}");
     }
-    #[allow(unreachable_code)]
-    None
+    paths::turns(start, move |node, place| _ = black_box(bogtrumpet_path_size_in(node, first + place)))
 }
