@@ -2,12 +2,12 @@
 -- answers and returns the rest of its answer: one walk for all of them. Assumes `Given`.
 --     Param            a parameter that is plain data or a `&`: its machine value, which fits its MIR type, and that nothing is said of it at exit
 --     bytes, number    a `&[u8]` at the second lifetime, a `u32`
---     Answer           what the covered function answers: a struct of an answer and a node
+--     Answer           what the covered function answers: a struct of an answer and a node.        answer       it is one, of declared types
 --     shape            the function's MIR
 --     walk             the walk.        stored       the function meets its contract
 --     handed           what the callee is handed, as its contract asks for it
 --     over-bytes       the same for a function over a `&mut Node`, bytes and a time, whose covered function answers what `def` says
-use mathlib.Core.Path.{_≡_, refl, ap}
+use mathlib.Core.Path.{_≡_, refl, ap, subst}
 use Prim.Native.Nat.{ℕ, suc}
 use mathlib.Core.List.{List, [], _∷_}
 use lib.Dec.{T as Holds}
@@ -30,7 +30,7 @@ use types.Run.{look, init, store, forget, stop, hop, fld, from, load, of-opd, an
 use types.SemTy.{Body}
 use sound.WpLaws.{FmC, fmOf}
 use denote.RattleType.{RattleType, owns}
-use denote.Laws.{Is, Makes, Tells, shows}
+use denote.Laws.{Is, Makes, Tells, Typed as AllTyped, shows}
 use denote.Memory.{mem, pointee}
 use denote.Plain.{uint-tells}
 use denote.Builtin.{RefMutOf, SliceRefOf, u8, u32}
@@ -39,6 +39,7 @@ use denote.Ref.{MutRef, now, ptr-vals, mut-tells}
 use denote.Signature.{Slot, Signature, plain, shrSliceOf, typeAt}
 use denote.Slice.{ShrSlice, slice-vals, shr-slice-tells}
 use denote.Steps.{only, owned, peeks, nothing}
+use denote.Struct.Declared.{Declared, row}
 use denote.Struct.Laws as LL
 use denote.Triple.Statement.{Contract, Triple}
 use denote.Triple.Call.{calls-from}
@@ -71,6 +72,19 @@ pub record Answer (Z R : RattleType) (ρ σ : Ty) : Type 1 where
   pub parts : (z : Z .Denot) (vs : List Val) → Is Z z vs → Is R (rest z) (val z ∷ []) × Fits (next z)
   pub typed : (z : Z .Denot) (v : Val) → Is Z z (v ∷ []) → Typed σ v
   pub rest-typed : (z : Z .Denot) → Is R (rest z) (val z ∷ []) → Typed ρ (val z)
+
+abbrev pub answer : {M : Type 1} (𝓤 : URA M) (H : Heap 𝓤) (A : Atoms 𝓤) → Given 𝓤 H A → (Z R : Declared) (L : LL.Laws Z) (K : LL.Laws R) {ρ σ : Ty} (rest : Z .D → R .D) (next : Z .D → Node)
+    → Tells (row Z) (Is (row Z)) (λ z. vstruct (vcons (LL.val R K (rest z)) (vcons (mach (next z)) vnil)) ∷ [])
+    → ((z : Z .D) (vs : List Val) → Is (row Z) z vs → Is (row R) (rest z) (LL.vals R K (rest z)) × Fits (next z)) → row Z .mir ≡ σ ∷ [] → row R .mir ≡ ρ ∷ [] → Answer (row Z) (row R) ρ σ
+answer 𝓤 H A W Z R L K {ρ} {σ} rest next tells parts σ-is ρ-is = record {
+  rest = rest;
+  val = λ z. LL.val R K (rest z);
+  next = next;
+  tells = tells;
+  parts = parts;
+  typed = λ z v is. subst (λ (τs : List Ty). AllTyped τs (v ∷ [])) σ-is (LL.lawful Z L 𝓤 H A W .typed z (v ∷ []) is) .0;
+  rest-typed = λ z is. subst (λ (τs : List Ty). AllTyped τs (LL.vals R K (rest z))) ρ-is (LL.lawful R K 𝓤 H A W .typed (rest z) (LL.vals R K (rest z)) is) .0;
+}
 
 abbrev sole : List Ty → Ty
 sole [] = tyInt w8
