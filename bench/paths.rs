@@ -18,7 +18,7 @@ struct PathTable {
 // The functions are total: any table and any numbers will do.
 unsafe extern "C" {
     safe fn bogtrumpet_path_table() -> PathTable;
-    safe fn bogtrumpet_path_size(table: PathTable, link: u16, neighbour: u32, now: u32) -> u16;
+    safe fn bogtrumpet_table_size(table: PathTable, link: u16, neighbour: u32, now: u32) -> u16;
     safe fn bogtrumpet_path_accepted(table: PathTable, neighbour: u32, size: u16, now: u32) -> PathTable;
     safe fn bogtrumpet_path_sizes(table: PathTable, link: u16, first: u32, count: u32, now: u32) -> u64;
     safe fn bogtrumpet_path_accepted_many(table: PathTable, first: u32, count: u32, size: u16, now: u32) -> PathTable;
@@ -100,7 +100,7 @@ pub fn compare(random: &mut Random) {
         };
         check(
             "size toward",
-            bogtrumpet_path_size(table, link, neighbour, now) == path_size_rust(table, link, neighbour, now),
+            bogtrumpet_table_size(table, link, neighbour, now) == path_size_rust(table, link, neighbour, now),
         );
         check(
             "report of",
@@ -155,7 +155,7 @@ pub fn time_across() {
     let size = |name: &str, table: PathTable, neighbour: u32| {
         row(
             name,
-            || _ = black_box(bogtrumpet_path_size(*black_box(&table), LINK, black_box(neighbour), NOW)),
+            || _ = black_box(bogtrumpet_table_size(*black_box(&table), LINK, black_box(neighbour), NOW)),
             || _ = black_box(path_size_rust(*black_box(&table), LINK, black_box(neighbour), NOW)),
         )
     };

@@ -1,5 +1,7 @@
 // Addresses: IPv4 addresses as 32-bit numbers, IPv6 addresses as 16 bytes.
 // Tests are joined by `|` and `&`, which evaluate both sides: the code has no branch, and reads as its definition does.
+pub mod prefixes;
+
 ghost use mathlib.Core.Path.{_≡_};
 ghost use Prim.Native.Nat.{min};
 ghost use Rattle.address.specs.Address.{isForbidden, quadOf, lastQuad, isUnder, isLinkLocal, isOnLink, isIdentifier, embeddedIn, linkLocalOf, areZero, isMulticastOrUnspecified, isBadSourceWith, isBadSource};

@@ -19,7 +19,7 @@ use Rattle.paths.specs.Packets.{largestPacket}
 use Rattle.refusals.specs.Laws.{AllFalse, all-false, all-pass}
 use Rattle.refusals.specs.declared.Refusal.the-variants.{WrappedTooLong, OutputShort}
 use Rattle.refusals.specs.declared.Check.the-variants.{Pass}
-use Rattle.settings.specs.Locators.{rowsOf}
+use Rattle.address.specs.Prefixes.{rowsOf}
 use Rattle.settings.specs.Settings.{embeddedTo, forbiddenTo, isOurs, isBadEnd}
 use Rattle.settings.specs.declared.Settings.{Settings}
 use Rattle.settings.specs.declared.locators.Found.{Found}

@@ -1,7 +1,7 @@
--- Locators, and the settings' prefixes as the on-link test takes them (document 01, "Settings").
-use Prim.Native.Nat.{ℕ, _+_, min}
+-- Locators (document 01, "Settings").
+use Prim.Native.Nat.{ℕ, min}
 use mathlib.Core.Bool.{Bool, cond, _&&_}
-use mathlib.Core.List.{List, [], _∷_}
+use mathlib.Core.List.{List}
 use lib.ListN.{getD}
 use lib.Dec.{eqb, ltb}
 use Rattle.settings.specs.declared.locators.Locator.{Locator}
@@ -26,14 +26,3 @@ sameLocator l = isLocator (l .address) (l .interface)
 -- the address of a locator by its number, counted from 0, of the first `count` of eight
 unfoldable pub locatorFound : List Locator → ℕ → ℕ → Found
 locatorFound ls count number = cond (ltb number (min count 8)) (Address (getD ls number noLocator .address)) Nothing
-
--- eight bytes from k on
-abbrev pub rowAt : List ℕ → ℕ → List ℕ
-rowAt flat k =
-    getD flat k 0 ∷ getD flat (k + 1) 0 ∷ getD flat (k + 2) 0 ∷ getD flat (k + 3) 0
-    ∷ getD flat (k + 4) 0 ∷ getD flat (k + 5) 0 ∷ getD flat (k + 6) 0 ∷ getD flat (k + 7) 0 ∷ []
-
--- the flat 64 bytes as eight prefixes of eight
-unfoldable pub rowsOf : List ℕ → List (List ℕ)
-rowsOf flat =
-    rowAt flat 0 ∷ rowAt flat 8 ∷ rowAt flat 16 ∷ rowAt flat 24 ∷ rowAt flat 32 ∷ rowAt flat 40 ∷ rowAt flat 48 ∷ rowAt flat 56 ∷ []

@@ -6,9 +6,10 @@ use lib.ListN.{getD, take}
 use lib.Dec.{leb}
 use Rattle.lists.specs.Any.{anyOf, twice}
 use Rattle.address.specs.Address.{isForbidden, embeddedIn, linkLocalOf, isMulticastOrUnspecified}
+use Rattle.address.specs.Prefixes.{rowsOf}
 use Rattle.address.specs.declared.Embedded.{Embedded}
 use Rattle.routers.specs.Routers.{areDistinct}
-use Rattle.settings.specs.Locators.{noLocator, isAt, isLocator, sameLocator, rowsOf}
+use Rattle.settings.specs.Locators.{noLocator, isAt, isLocator, sameLocator}
 use Rattle.settings.specs.declared.locators.Locator.{Locator}
 use Rattle.settings.specs.declared.Settings.{Settings}
 

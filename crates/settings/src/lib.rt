@@ -99,7 +99,7 @@ impl Settings {
         ensures { λ r. ⌜ r ≡ embeddedTo self a ⌝ }
     {
         let flat = self.prefixes;
-        address::isatap(locators::rows(flat), self.prefix_count, a)
+        address::isatap(address::prefixes::rows(flat), self.prefix_count, a)
     }
 
     fn some_locator_forbidden(self) -> bool

@@ -1,9 +1,9 @@
-// Locators, and the settings' prefixes as the on-link test takes them.
+// Locators.
 ghost use mathlib.Core.Path.{_≡_};
-ghost use Prim.Native.Nat.{_+_, _<_, min};
+ghost use Prim.Native.Nat.{min};
 ghost use lib.ListN.{take, drop};
 ghost use Rattle.lists.specs.Any.{anyOf, twice};
-ghost use Rattle.settings.specs.Locators.{isAt, isLocator, sameLocator, locatorFound, rowAt, rowsOf};
+ghost use Rattle.settings.specs.Locators.{isAt, isLocator, sameLocator, locatorFound};
 
 #[repr(C)]
 pub struct Locator {
@@ -78,36 +78,4 @@ pub fn repeated(all: [Locator; 8], count: usize) -> bool
         i += 1;
     }
     found
-}
-
-fn row(flat: [u8; 64], k: usize) -> [u8; 8]
-    requires { ⌜ k < 57 ⌝ }
-    ensures { λ r. ⌜ r ≡ rowAt flat k ⌝ }
-{
-    [
-        flat[k],
-        flat[k + 1],
-        flat[k + 2],
-        flat[k + 3],
-        flat[k + 4],
-        flat[k + 5],
-        flat[k + 6],
-        flat[k + 7],
-    ]
-}
-
-// The 64 bytes as eight prefixes of eight.
-pub fn rows(flat: [u8; 64]) -> [[u8; 8]; 8]
-    ensures { λ r. ⌜ r ≡ rowsOf flat ⌝ }
-{
-    [
-        row(flat, 0),
-        row(flat, 8),
-        row(flat, 16),
-        row(flat, 24),
-        row(flat, 32),
-        row(flat, 40),
-        row(flat, 48),
-        row(flat, 56),
-    ]
 }

@@ -1,0 +1,5 @@
+pub mod Parts
+pub mod Rules
+pub mod Tables
+pub mod Worth
+pub mod Calls
