@@ -1,2 +1,5 @@
+pub mod Changed
 pub mod Lent
+pub mod OverBytes
+pub mod Param
 pub mod Stored

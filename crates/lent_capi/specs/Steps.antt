@@ -4,12 +4,12 @@ use Rattle.capi.specs.declared.answers.Asked.{Asked}
 use Rattle.capi.specs.declared.answers.Heard.{Heard}
 use Rattle.capi.specs.declared.answers.Reported.{Reported}
 use Rattle.capi.specs.declared.answers.Sent.{Sent}
-use Rattle.lent_capi.specs.declared.SentIn.{SentIn}
-use Rattle.lent_capi.specs.declared.SendStep.{SendStep}
-use Rattle.lent_capi.specs.declared.ReportedIn.{ReportedIn}
-use Rattle.lent_capi.specs.declared.ReportStep.{ReportStep}
-use Rattle.lent_capi.specs.declared.RouterIn.{RouterIn}
-use Rattle.lent_capi.specs.declared.RouterStep.{RouterStep}
+use Rattle.lent_capi.specs.declared.steps.SentIn.{SentIn}
+use Rattle.lent_capi.specs.declared.steps.SendStep.{SendStep}
+use Rattle.lent_capi.specs.declared.steps.ReportedIn.{ReportedIn}
+use Rattle.lent_capi.specs.declared.steps.ReportStep.{ReportStep}
+use Rattle.lent_capi.specs.declared.steps.RouterIn.{RouterIn}
+use Rattle.lent_capi.specs.declared.steps.RouterStep.{RouterStep}
 
 -- the answer to a sending without the node
 abbrev pub sentAnswer : Sent → SentIn

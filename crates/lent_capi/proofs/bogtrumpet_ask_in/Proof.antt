@@ -1,4 +1,4 @@
--- `bogtrumpet_ask_in` meets its contract: a walk of its MIR. The borrow is opened, the node is copied, and `ask_step` is called on the copy,
+-- `bogtrumpet_ask_in` meets its contract: a walk of its MIR. The borrow is opened, the node is copied, and `steps::asked` is called on the copy,
 -- with the borrow of the output; the node that it answers is stored, and the borrow is closed there.
 use mathlib.Core.Path.{_≡_, refl, ap}
 use Prim.Native.Nat.{ℕ, _<_, _^_}
@@ -44,16 +44,16 @@ use Rattle.node.proofs.Node as T
 use Rattle.node.proofs.Node.Laws as T′
 use Rattle.capi.specs.Calls.{askedIn}
 use Rattle.lent_capi.specs.Steps.{askedStep}
-use Rattle.lent_capi.specs.declared.RouterStep.{RouterStep}
-use Rattle.lent_capi.proofs.RouterIn as R
-use Rattle.lent_capi.proofs.RouterIn.Laws as R′
-use Rattle.lent_capi.proofs.RouterStep as Z
-use Rattle.lent_capi.proofs.RouterStep.Laws as Z′
+use Rattle.lent_capi.specs.declared.steps.RouterStep.{RouterStep}
+use Rattle.lent_capi.proofs.steps.RouterIn as R
+use Rattle.lent_capi.proofs.steps.RouterIn.Laws as R′
+use Rattle.lent_capi.proofs.steps.RouterStep as Z
+use Rattle.lent_capi.proofs.steps.RouterStep.Laws as Z′
 use Rattle.lent_capi.proofs.Lent.{mach, opens-in, closes-in, answered, proved}
-use Rattle.lent_capi.proofs.ask_step as g
-use Rattle.lent_capi.proofs.ask_step.Symbol as g-def
-use Rattle.lent_capi.proofs.ask_step.Symbol.{name as #g}
-use Rattle.lent_capi.proofs.ask_step.Met as g-thm
+use Rattle.lent_capi.proofs.steps.asked as g
+use Rattle.lent_capi.proofs.steps.asked.Symbol as g-def
+use Rattle.lent_capi.proofs.steps.asked.Symbol.{name as #g}
+use Rattle.lent_capi.proofs.steps.asked.Met as g-thm
 use Rattle.lent_capi.proofs.bogtrumpet_ask_in.Key.{name as #f}
 use Rattle.lent_capi.proofs.bogtrumpet_ask_in as f
 use Rattle.lent_capi.proofs.bogtrumpet_ask_in.Statement as stated
@@ -86,7 +86,7 @@ module _ {M : Type 1} (𝓤 : URA M) (H : Heap 𝓤) (A : Atoms 𝓤) (W : Given
   asked : ent 𝓤 (⋆ 𝓤 H A (‵ (T.the-row .own h (mach h ∷ [])) ∷ ‵ Rest ∷ (‵ (flft κ₁ q₁) ⊛ ‵ ftrue) ∷ [])) (Called 𝓤 H A at-mem run .pre to)
   asked = qed W (‵ (T.the-row .own h (mach h ∷ [])) ∷ ‵ Rest ∷ (‵ (flft κ₁ q₁) ⊛ ‵ ftrue) ∷ []) ∵ fjoin ! $ move ! (1 ∷ 0 ∷ []) $ join ! $ frame ! $ done !
 
-  -- what `ask_step` says of its result and of the last output
+  -- what `steps::asked` says of its result and of the last output
   abbrev Said : RouterStep → List ℕ → Type 0
   Said r zs = (r ≡ askedStep (askedIn h k t (length (out .now)))) × (zs ≡ askOutput h k t (out .now))
 
@@ -141,4 +141,4 @@ bogtrumpet-ask-in-spec 𝓤 H 𝓜 𝓖 𝓡 =
     (λ κs. (ptr-vals, (uint-vals w64, (uint-vals w32, (slice-vals, tt))))) (λ κs. (mut-tells (named 0) (κs .0) T.the-row, (uint-tells w64, (uint-tells w32, (mut-slice-tells (named 1) (κs .1 .0) u8, tt)))))
     (λ κs qs bounds a _ are. walk 𝓤 H (𝓖 .A) W (𝓜 .mem) (𝓡 .run) (κs .0) (κs .1 .0) (qs .0) (qs .1 .0) (a .0 .ptr .0) (a .0 .ptr .1) (a .0 .name) (a .0 .now)
     (a .1 .0) (a .1 .1 .0) (a .1 .1 .1 .0) (are .1 .0 .1) (are .1 .1 .0 .1) (are .1 .1 .1 .0 .0 .1) (tables 𝓤 H 𝓜 𝓡 code.env .C) (tables 𝓤 H 𝓜 𝓡 code.env .Λ)
-    (fmOf 𝓤 H (W .laws) (tablesOf 𝓤 H 𝓜 (tables 𝓤 H 𝓜 𝓡 code.env))) (cited 𝓤 H (Called 𝓤 H (𝓖 .A) (𝓜 .mem) (𝓡 .run)) 𝓜 𝓡 code.env #g g-def.routine code.calls-lent-capi·ask-step (g-thm.met 𝓤 H 𝓜 𝓖 𝓡)))
+    (fmOf 𝓤 H (W .laws) (tablesOf 𝓤 H 𝓜 (tables 𝓤 H 𝓜 𝓡 code.env))) (cited 𝓤 H (Called 𝓤 H (𝓖 .A) (𝓜 .mem) (𝓡 .run)) 𝓜 𝓡 code.env #g g-def.routine code.calls-lent-capi·steps·asked (g-thm.met 𝓤 H 𝓜 𝓖 𝓡)))

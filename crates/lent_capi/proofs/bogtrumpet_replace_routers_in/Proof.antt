@@ -30,7 +30,8 @@ use Rattle.capi.proofs.bogtrumpet_replace_routers.Symbol as g-def
 use Rattle.capi.proofs.bogtrumpet_replace_routers.Symbol.{name as #g}
 use Rattle.capi.proofs.bogtrumpet_replace_routers.Met as g-thm
 use Rattle.lent_capi.proofs.Lent.{mach}
-use Rattle.lent_capi.proofs.Stored.{Param, number, stored}
+use Rattle.lent_capi.proofs.Param.{Param, number}
+use Rattle.lent_capi.proofs.Stored.{stored}
 use Rattle.lent_capi.proofs.bogtrumpet_replace_routers_in.Key.{name as #f}
 use Rattle.lent_capi.proofs.bogtrumpet_replace_routers_in as f
 use Rattle.lent_capi.proofs.bogtrumpet_replace_routers_in.Statement as stated
