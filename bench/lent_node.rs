@@ -1,50 +1,11 @@
 //! The library across the C boundary over a lent node: a pointer to it goes over, and it is changed in place.
 
-use crate::bogtrumpet::{Address, Node, Received};
+use crate::bogtrumpet::{by_value, Address, Node, Received, ReportedIn, RouterIn, SentIn};
 use crate::calls::{Call, Work, ROOM};
 use crate::measure::Turns;
 use crate::paths;
 use crate::ways::{turns, Turn};
 use std::hint::black_box;
-
-#[repr(C)]
-struct Sent {
-    number: u8,
-    size: u16,
-    length: usize,
-}
-
-#[repr(C)]
-struct Reported {
-    number: u8,
-    neighbour: u32,
-    size: u16,
-}
-
-/// Of asking and of an advertisement.
-#[repr(C)]
-struct Router {
-    number: u8,
-    router: u32,
-}
-
-unsafe extern "C" {
-    fn bogtrumpet_receive_in(node: &Node, datagram: *const u8, length: usize, interface: u8) -> Received;
-    fn bogtrumpet_send_in(
-        node: &mut Node,
-        packet: *const u8,
-        length: usize,
-        next_hop: Address,
-        locator: usize,
-        time: u32,
-        out: *mut u8,
-        room: usize,
-    ) -> Sent;
-    fn bogtrumpet_report_in(node: &mut Node, message: *const u8, length: usize, time: u32) -> Reported;
-    fn bogtrumpet_ask_in(node: &mut Node, locator: usize, time: u32, out: *mut u8, room: usize) -> Router;
-    fn bogtrumpet_hear_in(node: &mut Node, packet: *const u8, length: usize, time: u32) -> Router;
-    safe fn bogtrumpet_path_size_in(node: &Node, neighbour: u32) -> u16;
-}
 
 /// The number of an answer and its values.
 type Values = [usize; 3];
@@ -59,70 +20,66 @@ impl Answer for Received {
     }
 }
 
-impl Answer for Sent {
+impl Answer for SentIn {
     fn values(&self) -> Values {
         [self.number.into(), self.size.into(), self.length]
     }
 }
 
-impl Answer for Reported {
+impl Answer for ReportedIn {
     fn values(&self) -> Values {
         [self.number.into(), self.neighbour as usize, self.size.into()]
     }
 }
 
-impl Answer for Router {
+impl Answer for RouterIn {
     fn values(&self) -> Values {
         [self.number.into(), self.router as usize, 0]
     }
 }
 
-// SAFETY: pointers and lengths are those of slices; so in all of these.
 fn receive(node: &mut Node, turn: Turn) -> Received {
-    unsafe { bogtrumpet_receive_in(node, turn.input.as_ptr(), turn.input.len(), turn.interface) }
+    node.receive(turn.input, turn.interface)
 }
 
-fn send(node: &mut Node, turn: Turn) -> Sent {
-    let (packet, length) = (turn.input.as_ptr(), turn.input.len());
-    let (out, room) = (turn.out.as_mut_ptr(), turn.out.len());
-    let next_hop = Address { bytes: *turn.next_hop };
-    unsafe { bogtrumpet_send_in(node, packet, length, next_hop, turn.locator, turn.time, out, room) }
+fn send(node: &mut Node, turn: Turn) -> SentIn {
+    node.send(turn.input, Address { bytes: *turn.next_hop }, turn.locator, turn.time, turn.out)
 }
 
-fn report(node: &mut Node, turn: Turn) -> Reported {
-    unsafe { bogtrumpet_report_in(node, turn.input.as_ptr(), turn.input.len(), turn.time) }
+fn report(node: &mut Node, turn: Turn) -> ReportedIn {
+    node.report(turn.input, turn.time)
 }
 
-fn ask(node: &mut Node, turn: Turn) -> Router {
-    unsafe { bogtrumpet_ask_in(node, turn.locator, turn.time, turn.out.as_mut_ptr(), turn.out.len()) }
+fn ask(node: &mut Node, turn: Turn) -> RouterIn {
+    node.ask(turn.locator, turn.time, turn.out)
 }
 
-fn hear(node: &mut Node, turn: Turn) -> Router {
-    unsafe { bogtrumpet_hear_in(node, turn.input.as_ptr(), turn.input.len(), turn.time) }
+fn hear(node: &mut Node, turn: Turn) -> RouterIn {
+    node.hear(turn.input, turn.time)
 }
 
 /// The same by value.
 fn by_value(call: &Call, node: &mut Node, turn: Turn) -> Values {
     match call {
-        Call::Receive => node.receive(turn.input, turn.interface).values(),
+        Call::Receive => by_value::receive(*node, turn.input, turn.interface).values(),
         Call::Send => {
             let next_hop = Address { bytes: *turn.next_hop };
-            let sent = node.send(turn.input, next_hop, turn.locator, turn.time, turn.out);
+            let sent = by_value::send(*node, turn.input, next_hop, turn.locator, turn.time, turn.out);
             *node = sent.node;
             [sent.number.into(), sent.size.into(), sent.length]
         }
         Call::Report => {
-            let reported = node.report(turn.input, turn.time);
+            let reported = by_value::report(*node, turn.input, turn.time);
             *node = reported.node;
             [reported.number.into(), reported.neighbour as usize, reported.size.into()]
         }
         Call::Ask => {
-            let asked = node.ask(turn.locator, turn.time, turn.out);
+            let asked = by_value::ask(*node, turn.locator, turn.time, turn.out);
             *node = asked.node;
             [asked.number.into(), asked.router as usize, 0]
         }
         Call::Hear => {
-            let heard = node.hear(turn.input, turn.time);
+            let heard = by_value::hear(*node, turn.input, turn.time);
             *node = heard.node;
             [heard.number.into(), heard.router as usize, 0]
         }
@@ -159,7 +116,7 @@ pub fn lent(work: &'static Work) -> Turns {
 /// The sizes toward the neighbours that `first` begins, place by place.
 pub fn path_sizes(start: Node, first: u32) -> Option<Turns> {
     for neighbour in first..first + 64 {
-        assert_eq!(bogtrumpet_path_size_in(&start, neighbour), start.path_size(neighbour), "{neighbour}: {start:?}");
+        assert_eq!(start.path_size(neighbour), by_value::path_size(start, neighbour), "{neighbour}: {start:?}");
     }
-    paths::turns(start, move |node, place| _ = black_box(bogtrumpet_path_size_in(node, first + place)))
+    paths::turns(start, move |node, place| _ = black_box(node.path_size(first + place)))
 }

@@ -1,6 +1,6 @@
 //! The ways to make a node's calls: plain Rust, and the library across the C boundary with the node by value.
 
-use crate::bogtrumpet;
+use crate::bogtrumpet::{self, by_value};
 use crate::calls::{Call, Work, INTERFACE, LOCATOR, ROOM, START};
 use crate::measure::Turns;
 use crate::plain::{Address, Node, Refusal, Sent};
@@ -84,25 +84,27 @@ fn hear(node: &mut Node, packet: &[u8], time: u32) -> Result<u32, Refusal> {
 pub fn by_value(work: &'static Work) -> Turns {
     let node = work.nodes.library;
     match work.call {
-        Call::Receive => turns(work, node, |node, turn| _ = black_box(&node.receive(turn.input, turn.interface))),
+        Call::Receive => {
+            turns(work, node, |node, turn| _ = black_box(&by_value::receive(*node, turn.input, turn.interface)))
+        }
         Call::Send => turns(work, node, |node, turn| {
             let next_hop = bogtrumpet::Address { bytes: *turn.next_hop };
-            let sent = node.send(turn.input, next_hop, turn.locator, turn.time, turn.out);
+            let sent = by_value::send(*node, turn.input, next_hop, turn.locator, turn.time, turn.out);
             black_box(&sent);
             *node = sent.node;
         }),
         Call::Report => turns(work, node, |node, turn| {
-            let reported = node.report(turn.input, turn.time);
+            let reported = by_value::report(*node, turn.input, turn.time);
             black_box(&reported);
             *node = reported.node;
         }),
         Call::Ask => turns(work, node, |node, turn| {
-            let asked = node.ask(turn.locator, turn.time, turn.out);
+            let asked = by_value::ask(*node, turn.locator, turn.time, turn.out);
             black_box(&asked);
             *node = asked.node;
         }),
         Call::Hear => turns(work, node, |node, turn| {
-            let heard = node.hear(turn.input, turn.time);
+            let heard = by_value::hear(*node, turn.input, turn.time);
             black_box(&heard);
             *node = heard.node;
         }),

@@ -15,7 +15,7 @@ fn end(address: u32, routers: &[u32]) -> Node {
     setup.node
 }
 
-/// An IPv6 packet of 1,480 bytes from the centre's link-local address.
+/// An IPv6 packet of 40 + 1,440 bytes from the centre's link-local address.
 fn packet_from_centre() -> [u8; 1480] {
     let mut packet = [0; 1480];
     packet[0] = 0x60;
@@ -37,10 +37,9 @@ fn size_report(datagram: &[u8], size: u16) -> [u8; 28] {
 }
 
 fn main() {
-    let (centre, station) = (end(CENTRE, &[STATION]), end(STATION, &[]));
+    let (mut centre, station) = (end(CENTRE, &[STATION]), end(STATION, &[]));
     let next_hop = link_local(STATION);
     let (packet, mut datagram, mut solicitation) = (packet_from_centre(), [0; 1500], [0; 48]);
-
     let sent = centre.send(&packet, next_hop, 0, 1000, &mut datagram);
     println!("send {} length {}", sent.number, sent.length);
 
@@ -51,16 +50,14 @@ fn main() {
     let received = station.receive(&datagram[..sent.length], 1);
     println!("receive {} on another interface", received.number);
 
-    let reported = sent.node.report(&size_report(&datagram, 1400), 1001);
+    let reported = centre.report(&size_report(&datagram, 1400), 1001);
     println!("report {} neighbour {:08x} size {}", reported.number, reported.neighbour, reported.size);
-    let sent = reported.node.send(&packet, next_hop, 0, 1002, &mut datagram);
+    let sent = centre.send(&packet, next_hop, 0, 1002, &mut datagram);
     println!("send {} size {} length {}", sent.number, sent.size, sent.length);
 
-    let asked = sent.node.ask(0, 1003, &mut solicitation);
+    let asked = centre.ask(0, 1003, &mut solicitation);
     println!("ask {} router {:08x}", asked.number, asked.router);
-    let asked = asked.node.ask(0, 1004, &mut solicitation);
-    println!("ask {}", asked.number);
-    let centre = asked.node;
+    println!("ask {}", centre.ask(0, 1004, &mut solicitation).number);
     let (size, identification) = (centre.path_size(STATION), centre.service.identification);
     println!("path size {size}, identification {identification}, latest time {}", centre.latest);
 }

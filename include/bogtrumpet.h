@@ -1,11 +1,20 @@
 /*
  * Bogtrumpet: one ISATAP tunnel end (RFC 5214), proved. "Document 01" is the project's paper of its rules.
  *
- * The node is in libcapi.a (`rt staticlib capi`), the rules without state in librules_capi.a (`rt staticlib rules_capi`);
- * each stands alone, x86-64 only. No function allocates, keeps a pointer, blocks or fails in another way than by its number;
- * none has a precondition on values: any struct, number and bytes may be handed over.
+ * Three static libraries, x86-64 only, none of which needs another (`rt staticlib NAME` writes target/staticlib/libNAME.a):
  *
- * Lent bytes are (pointer, length). A pointer must be valid for its length and not null; an output may not overlap an input.
+ *   libcapi.a        makes a node (bogtrumpet_defaults, bogtrumpet_new), and has its calls by value
+ *   liblent_capi.a   the node's calls over a pointer, bogtrumpet_.._in: the calls to use by default
+ *   librules_capi.a  the rules without state
+ *
+ * The calls over a pointer change the node in place. Those by value take a node and hand back the next one, for callers who
+ * keep old states; they give the same answers, and cost a copy of the node (1,168 bytes) in and one out.
+ *
+ * No function allocates, keeps a pointer, blocks or fails in another way than by its number; none has a precondition on values:
+ * any struct, number and bytes may be handed over.
+ *
+ * Lent bytes are (pointer, length). A pointer must be valid for its length and not null, one to a node valid for a node; an output
+ * overlaps neither an input nor the node.
  * IPv4 addresses are numbers, 10.0.0.1 is 0x0A000001; IPv6 addresses and packets are bytes in the order of the network.
  *
  * Every answer has a number: 0 where the call was not refused, else
@@ -102,7 +111,7 @@ struct bogtrumpet_paths {
     size_t count;
 };
 
-/* A node's state: a plain value. A call takes it and hands back the next one. */
+/* A node's state: a plain value, which may be copied and kept. A call changes it in place, or takes it and hands back the next. */
 struct bogtrumpet_node {
     struct bogtrumpet_service service;
     struct bogtrumpet_paths paths;
@@ -128,17 +137,37 @@ struct bogtrumpet_received {
     size_t length; /* the inner packet's length */
 };
 
-struct bogtrumpet_sent {
+struct bogtrumpet_sent_in {
     uint8_t number;
     uint16_t size; /* with 14: the largest packet that passes */
     size_t length; /* with 0: the length of the datagram written; with 14: of the message written, or 0 for none */
+};
+
+struct bogtrumpet_reported_in {
+    uint8_t number;
+    uint32_t neighbour;
+    uint16_t size; /* the size now in force toward it */
+};
+
+/* Of asking and of hearing. */
+struct bogtrumpet_router_in {
+    uint8_t number;
+    uint32_t router; /* the router asked, or the one that advertised */
+};
+
+/* The same of the calls by value, each with the next node. */
+
+struct bogtrumpet_sent {
+    uint8_t number;
+    uint16_t size;
+    size_t length;
     struct bogtrumpet_node node;
 };
 
 struct bogtrumpet_reported {
     uint8_t number;
     uint32_t neighbour;
-    uint16_t size; /* the size now in force toward it */
+    uint16_t size;
     struct bogtrumpet_node node;
 };
 
@@ -149,17 +178,17 @@ struct bogtrumpet_replaced {
 
 struct bogtrumpet_asked {
     uint8_t number;
-    uint32_t router; /* the router asked */
+    uint32_t router;
     struct bogtrumpet_node node;
 };
 
 struct bogtrumpet_heard {
     uint8_t number;
-    uint32_t router; /* the router that advertised */
+    uint32_t router;
     struct bogtrumpet_node node;
 };
 
-/* ---- The node (libcapi.a) ----------------------------------------------------------------------------------------- */
+/* ---- A new node (libcapi.a) --------------------------------------------------------------------------------------- */
 
 /* The same locators, prefixes, routers and counts; link size 1,500, TTL 64, interval 120, identification 1, reporting address
    the link-local address of locator 0. Gives no number. */
@@ -168,39 +197,59 @@ struct bogtrumpet_settings bogtrumpet_defaults(struct bogtrumpet_settings settin
 /* A node with all routers due at time 0. Numbers: 1. */
 struct bogtrumpet_setup bogtrumpet_new(struct bogtrumpet_settings settings);
 
+/* ---- The node's calls (liblent_capi.a) ---------------------------------------------------------------------------- */
+
 /* Where the inner packet stands in a datagram that arrived on the interface. The node stays as it is.
    Numbers, in this order: 2, 3, 4, 5, 6, 7, 8, 9, 10. */
-struct bogtrumpet_received bogtrumpet_receive(struct bogtrumpet_node node, const uint8_t *datagram, size_t length,
-                                              uint8_t interface);
+struct bogtrumpet_received bogtrumpet_receive_in(const struct bogtrumpet_node *node, const uint8_t *datagram,
+                                                 size_t length, uint8_t interface);
 
 /* Wraps an IPv6 packet for the next hop, from the numbered locator (from 0). A packet above the size that passes gets 14, and an
    ICMPv6 Packet Too Big of 1,280 bytes in the output, unless none may be sent to its source.
    Numbers, in this order: 8 (also where the length is not 40 + payload length), 11, 12, 13, 14, 23, 15; 15 in the place of 14
    where the message does not fit. 23 does not come on a node made from accepted settings. */
-struct bogtrumpet_sent bogtrumpet_send(struct bogtrumpet_node node, const uint8_t *packet, size_t length,
-                                       struct bogtrumpet_address next_hop, size_t locator, uint32_t time, uint8_t *out,
-                                       size_t room);
+struct bogtrumpet_sent_in bogtrumpet_send_in(struct bogtrumpet_node *node, const uint8_t *packet, size_t length,
+                                             struct bogtrumpet_address next_hop, size_t locator, uint32_t time,
+                                             uint8_t *out, size_t room);
 
 /* Takes an ICMPv4 message in: a size report (type 3, code 4), quoting a datagram of ours.
    Numbers, in this order: 16, 17, 18, 19. */
-struct bogtrumpet_reported bogtrumpet_report(struct bogtrumpet_node node, const uint8_t *message, size_t length,
-                                             uint32_t time);
+struct bogtrumpet_reported_in bogtrumpet_report_in(struct bogtrumpet_node *node, const uint8_t *message, size_t length,
+                                                   uint32_t time);
 
-/* Replaces the router list: a router in both lists keeps its due time, a new one is due now. Numbers: 1. */
-struct bogtrumpet_replaced bogtrumpet_replace_routers(struct bogtrumpet_node node, struct bogtrumpet_addresses list,
-                                                      uint32_t time);
+/* Replaces the router list: a router in both lists keeps its due time, a new one is due now. The number: 0, or 1. */
+uint8_t bogtrumpet_replace_routers_in(struct bogtrumpet_node *node, struct bogtrumpet_addresses list, uint32_t time);
 
 /* Writes a router solicitation of 48 bytes, not yet wrapped, to the router that is due first, from the numbered locator.
    Numbers, in this order: 11, 22, 15. */
-struct bogtrumpet_asked bogtrumpet_ask(struct bogtrumpet_node node, size_t locator, uint32_t time, uint8_t *out,
-                                       size_t room);
+struct bogtrumpet_router_in bogtrumpet_ask_in(struct bogtrumpet_node *node, size_t locator, uint32_t time, uint8_t *out,
+                                              size_t room);
 
 /* Takes a router advertisement in, a received inner packet; the router is asked again by its lifetimes.
    Numbers, in this order: 8 (as in receiving), 20, 21. */
-struct bogtrumpet_heard bogtrumpet_hear(struct bogtrumpet_node node, const uint8_t *packet, size_t length,
-                                        uint32_t time);
+struct bogtrumpet_router_in bogtrumpet_hear_in(struct bogtrumpet_node *node, const uint8_t *packet, size_t length,
+                                               uint32_t time);
 
 /* The path size in force toward the neighbour at the latest time. Gives no number. */
+uint16_t bogtrumpet_path_size_in(const struct bogtrumpet_node *node, uint32_t neighbour);
+
+/* ---- The same by value (libcapi.a) -------------------------------------------------------------------------------- */
+
+/* Each is the call above, with its numbers in its order, but for the node: it stays as it is, and the answer has the next one. */
+
+struct bogtrumpet_received bogtrumpet_receive(struct bogtrumpet_node node, const uint8_t *datagram, size_t length,
+                                              uint8_t interface);
+struct bogtrumpet_sent bogtrumpet_send(struct bogtrumpet_node node, const uint8_t *packet, size_t length,
+                                       struct bogtrumpet_address next_hop, size_t locator, uint32_t time, uint8_t *out,
+                                       size_t room);
+struct bogtrumpet_reported bogtrumpet_report(struct bogtrumpet_node node, const uint8_t *message, size_t length,
+                                             uint32_t time);
+struct bogtrumpet_replaced bogtrumpet_replace_routers(struct bogtrumpet_node node, struct bogtrumpet_addresses list,
+                                                      uint32_t time);
+struct bogtrumpet_asked bogtrumpet_ask(struct bogtrumpet_node node, size_t locator, uint32_t time, uint8_t *out,
+                                       size_t room);
+struct bogtrumpet_heard bogtrumpet_hear(struct bogtrumpet_node node, const uint8_t *packet, size_t length,
+                                        uint32_t time);
 uint16_t bogtrumpet_path_size(struct bogtrumpet_node node, uint32_t neighbour);
 
 /* ---- Rules without state (librules_capi.a) ------------------------------------------------------------------------ */

@@ -1,8 +1,11 @@
 //! Bogtrumpet for Rust: one ISATAP tunnel end (RFC 5214), proved, behind a C boundary. "Document 01" is the project's paper of
 //! its rules; `include/bogtrumpet.h` says the same for C, with the table of the numbers that calls give.
 //!
-//! Take this file as a module (`mod bogtrumpet;`) and link what is used of it: the node is in `libcapi.a`
-//! (`-l static=capi`), the functions outside `Settings` and `Node` in `librules_capi.a` (`-l static=rules_capi`).
+//! Take this file as a module (`mod bogtrumpet;`) and link what is used of it: settings and [`Node::new`] are in `libcapi.a`
+//! (`-l static=capi`), the node's calls in `liblent_capi.a` (`-l static=lent_capi`), the functions outside both in
+//! `librules_capi.a` (`-l static=rules_capi`).
+//!
+//! The node's methods change it in place. [`by_value`] has the same calls on a node that stays, for callers who keep old states.
 //!
 //! Every answer has a `number`: 0 where the call was not refused, else document 01's number. Where several apply, the first in
 //! the order that stands at the call is given. Fields that do not apply are 0. After a refusal the lent output is untouched and
@@ -86,7 +89,7 @@ pub struct Paths {
     pub count: usize,
 }
 
-/// A node's state: a plain value. A call takes it and hands back the next one.
+/// A node's state: a plain value, which may be copied and kept.
 #[repr(C)]
 #[derive(Clone, Copy, Debug, PartialEq, Eq)]
 pub struct Node {
@@ -125,6 +128,32 @@ pub struct Received {
 /// message written, or 0 for none.
 #[repr(C)]
 #[derive(Clone, Copy, Debug, PartialEq, Eq)]
+pub struct SentIn {
+    pub number: u8,
+    pub size: u16,
+    pub length: usize,
+}
+
+/// The neighbour of an accepted report, and the size now in force toward it.
+#[repr(C)]
+#[derive(Clone, Copy, Debug, PartialEq, Eq)]
+pub struct ReportedIn {
+    pub number: u8,
+    pub neighbour: u32,
+    pub size: u16,
+}
+
+/// The router asked, or the one that advertised.
+#[repr(C)]
+#[derive(Clone, Copy, Debug, PartialEq, Eq)]
+pub struct RouterIn {
+    pub number: u8,
+    pub router: u32,
+}
+
+/// The answer of [`by_value::send`].
+#[repr(C)]
+#[derive(Clone, Copy, Debug, PartialEq, Eq)]
 pub struct Sent {
     pub number: u8,
     pub size: u16,
@@ -132,7 +161,7 @@ pub struct Sent {
     pub node: Node,
 }
 
-/// The neighbour of an accepted report, and the size now in force toward it.
+/// The answer of [`by_value::report`].
 #[repr(C)]
 #[derive(Clone, Copy, Debug, PartialEq, Eq)]
 pub struct Reported {
@@ -142,6 +171,7 @@ pub struct Reported {
     pub node: Node,
 }
 
+/// The answer of [`by_value::replace_routers`].
 #[repr(C)]
 #[derive(Clone, Copy, Debug, PartialEq, Eq)]
 pub struct Replaced {
@@ -149,7 +179,7 @@ pub struct Replaced {
     pub node: Node,
 }
 
-/// The router asked.
+/// The answer of [`by_value::ask`].
 #[repr(C)]
 #[derive(Clone, Copy, Debug, PartialEq, Eq)]
 pub struct Asked {
@@ -158,7 +188,7 @@ pub struct Asked {
     pub node: Node,
 }
 
-/// The router that advertised.
+/// The answer of [`by_value::hear`].
 #[repr(C)]
 #[derive(Clone, Copy, Debug, PartialEq, Eq)]
 pub struct Heard {
@@ -268,15 +298,15 @@ impl Node {
         bogtrumpet_new(settings)
     }
 
-    /// Where the inner packet stands in a datagram that arrived on the interface; the node stays as it is.
+    /// Where the inner packet stands in a datagram that arrived on the interface.
     /// Numbers, in this order: 2, 3, 4, 5, 6, 7, 8, 9, 10.
-    pub fn receive(self, datagram: &[u8], interface: u8) -> Received {
+    pub fn receive(&self, datagram: &[u8], interface: u8) -> Received {
         // SAFETY: the pointer and the length are those of a slice; so below.
-        unsafe { bogtrumpet_receive(self, datagram.as_ptr(), datagram.len(), interface) }
+        unsafe { bogtrumpet_receive_in(self, datagram.as_ptr(), datagram.len(), interface) }
     }
 
     /// The part of the datagram that holds the inner packet, empty where [`Node::receive`] gives a number.
-    pub fn received_part(self, datagram: &[u8], interface: u8) -> &[u8] {
+    pub fn received_part<'a>(&self, datagram: &'a [u8], interface: u8) -> &'a [u8] {
         let part = self.receive(datagram, interface);
         &datagram[part.offset..part.offset + part.length]
     }
@@ -285,39 +315,76 @@ impl Node {
     /// and an ICMPv6 Packet Too Big of 1,280 bytes in the output, unless none may be sent to its source.
     /// Numbers, in this order: 8 (also where the length is not 40 + payload length), 11, 12, 13, 14, 23, 15; 15 in the place of
     /// 14 where the message does not fit. 23 does not come on a node made from accepted settings.
-    pub fn send(self, packet: &[u8], next_hop: Address, locator: usize, time: u32, out: &mut [u8]) -> Sent {
+    pub fn send(&mut self, packet: &[u8], next_hop: Address, locator: usize, time: u32, out: &mut [u8]) -> SentIn {
         unsafe {
             let (output, room) = (out.as_mut_ptr(), out.len());
-            bogtrumpet_send(self, packet.as_ptr(), packet.len(), next_hop, locator, time, output, room)
+            bogtrumpet_send_in(self, packet.as_ptr(), packet.len(), next_hop, locator, time, output, room)
         }
     }
 
     /// Takes an ICMPv4 message in: a size report (type 3, code 4), quoting a datagram of ours.
     /// Numbers, in this order: 16, 17, 18, 19.
-    pub fn report(self, message: &[u8], time: u32) -> Reported {
-        unsafe { bogtrumpet_report(self, message.as_ptr(), message.len(), time) }
+    pub fn report(&mut self, message: &[u8], time: u32) -> ReportedIn {
+        unsafe { bogtrumpet_report_in(self, message.as_ptr(), message.len(), time) }
     }
 
-    /// Replaces the router list: a router in both lists keeps its due time, a new one is due now. Numbers: 1.
-    pub fn replace_routers(self, list: Addresses, time: u32) -> Replaced {
-        bogtrumpet_replace_routers(self, list, time)
+    /// Replaces the router list: a router in both lists keeps its due time, a new one is due now. The number: 0, or 1.
+    pub fn replace_routers(&mut self, list: Addresses, time: u32) -> u8 {
+        bogtrumpet_replace_routers_in(self, list, time)
     }
 
     /// Writes a router solicitation of 48 bytes, not yet wrapped, to the router that is due first, from the numbered locator.
     /// Numbers, in this order: 11, 22, 15.
-    pub fn ask(self, locator: usize, time: u32, out: &mut [u8]) -> Asked {
-        unsafe { bogtrumpet_ask(self, locator, time, out.as_mut_ptr(), out.len()) }
+    pub fn ask(&mut self, locator: usize, time: u32, out: &mut [u8]) -> RouterIn {
+        unsafe { bogtrumpet_ask_in(self, locator, time, out.as_mut_ptr(), out.len()) }
     }
 
     /// Takes a router advertisement in, a received inner packet; the router is asked again by its lifetimes.
     /// Numbers, in this order: 8 (as in receiving), 20, 21.
-    pub fn hear(self, packet: &[u8], time: u32) -> Heard {
-        unsafe { bogtrumpet_hear(self, packet.as_ptr(), packet.len(), time) }
+    pub fn hear(&mut self, packet: &[u8], time: u32) -> RouterIn {
+        unsafe { bogtrumpet_hear_in(self, packet.as_ptr(), packet.len(), time) }
     }
 
     /// The path size in force toward the neighbour at the latest time. Gives no number.
-    pub fn path_size(self, neighbour: u32) -> u16 {
-        bogtrumpet_path_size(self, neighbour)
+    pub fn path_size(&self, neighbour: u32) -> u16 {
+        bogtrumpet_path_size_in(self, neighbour)
+    }
+}
+
+/// The node's calls by value (`libcapi.a`): each is the method of that name, with its numbers, on a node that stays as it is; the
+/// answer has the next one. It costs a copy of the node in and one out.
+pub mod by_value {
+    use super::*;
+
+    pub fn receive(node: Node, datagram: &[u8], interface: u8) -> Received {
+        unsafe { bogtrumpet_receive(node, datagram.as_ptr(), datagram.len(), interface) }
+    }
+
+    pub fn send(node: Node, packet: &[u8], next_hop: Address, locator: usize, time: u32, out: &mut [u8]) -> Sent {
+        unsafe {
+            let (output, room) = (out.as_mut_ptr(), out.len());
+            bogtrumpet_send(node, packet.as_ptr(), packet.len(), next_hop, locator, time, output, room)
+        }
+    }
+
+    pub fn report(node: Node, message: &[u8], time: u32) -> Reported {
+        unsafe { bogtrumpet_report(node, message.as_ptr(), message.len(), time) }
+    }
+
+    pub fn replace_routers(node: Node, list: Addresses, time: u32) -> Replaced {
+        bogtrumpet_replace_routers(node, list, time)
+    }
+
+    pub fn ask(node: Node, locator: usize, time: u32, out: &mut [u8]) -> Asked {
+        unsafe { bogtrumpet_ask(node, locator, time, out.as_mut_ptr(), out.len()) }
+    }
+
+    pub fn hear(node: Node, packet: &[u8], time: u32) -> Heard {
+        unsafe { bogtrumpet_hear(node, packet.as_ptr(), packet.len(), time) }
+    }
+
+    pub fn path_size(node: Node, neighbour: u32) -> u16 {
+        bogtrumpet_path_size(node, neighbour)
     }
 }
 
@@ -388,10 +455,28 @@ fn flat(prefixes: &[[u8; 8]]) -> [u8; 64] {
     bytes
 }
 
-// A function of values alone is safe: the library has no precondition.
+// A function of values and references alone is safe: the library has no precondition.
 unsafe extern "C" {
     safe fn bogtrumpet_defaults(settings: Settings) -> Settings;
     safe fn bogtrumpet_new(settings: Settings) -> Setup;
+
+    fn bogtrumpet_receive_in(node: &Node, datagram: *const u8, length: usize, interface: u8) -> Received;
+    fn bogtrumpet_send_in(
+        node: &mut Node,
+        packet: *const u8,
+        length: usize,
+        next_hop: Address,
+        locator: usize,
+        time: u32,
+        out: *mut u8,
+        room: usize,
+    ) -> SentIn;
+    fn bogtrumpet_report_in(node: &mut Node, message: *const u8, length: usize, time: u32) -> ReportedIn;
+    safe fn bogtrumpet_replace_routers_in(node: &mut Node, list: Addresses, time: u32) -> u8;
+    fn bogtrumpet_ask_in(node: &mut Node, locator: usize, time: u32, out: *mut u8, room: usize) -> RouterIn;
+    fn bogtrumpet_hear_in(node: &mut Node, packet: *const u8, length: usize, time: u32) -> RouterIn;
+    safe fn bogtrumpet_path_size_in(node: &Node, neighbour: u32) -> u16;
+
     fn bogtrumpet_receive(node: Node, datagram: *const u8, length: usize, interface: u8) -> Received;
     fn bogtrumpet_send(
         node: Node,

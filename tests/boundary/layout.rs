@@ -33,6 +33,9 @@ pub fn compare() {
         Addresses: routers count;
         Setup: number node;
         Received: number offset length;
+        SentIn: number size length;
+        ReportedIn: number neighbour size;
+        RouterIn: number router;
         Sent: number size length node;
         Reported: number neighbour size node;
         Replaced: number node;

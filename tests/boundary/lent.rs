@@ -1,6 +1,7 @@
 //! Memory to lend to the library: a slice that lies against a page that may not be touched, so that a byte read or written past
 //! its end (or before its start) ends the program.
 
+use crate::bogtrumpet::Node;
 use std::ffi::c_void;
 
 const PAGE: usize = 4096;
@@ -42,9 +43,19 @@ impl Lent {
     }
 
     /// A copy of the bytes there.
-    pub fn copy(&mut self, bytes: &[u8], at_end: bool) -> &[u8] {
+    pub fn copy(&mut self, bytes: &[u8], at_end: bool) -> &mut [u8] {
         let slice = self.slice(bytes.len(), at_end);
         slice.copy_from_slice(bytes);
         slice
+    }
+
+    /// A copy of the node there.
+    pub fn node(&mut self, node: &Node, at_end: bool) -> &mut Node {
+        let place = self.slice(size_of::<Node>(), at_end).as_mut_ptr().cast::<Node>();
+        // SAFETY: a page and the size of a node are multiples of its alignment, and the slice has its size.
+        unsafe {
+            place.write(*node);
+            &mut *place
+        }
     }
 }

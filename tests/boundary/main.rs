@@ -1,5 +1,6 @@
 //! Compares the proved library, called through its Rust module, with plain Rust written from document 01: every public call of the
-//! node and of the rules without state, on random lists of calls and on the edges of the rules.
+//! node, made by value and over a pointer to the node, and of the rules without state, on random lists of calls and on the edges of the
+//! rules.
 //!
 //!     boundary [SEED [CALLS [lists]]]
 //!

@@ -1,6 +1,7 @@
-//! A node of the library beside one of plain Rust. Each call is made on both; answers, next states and outputs must be the same.
+//! A node of the library beside one of plain Rust. Each call is made on both, of the library's both by value and over a pointer to the
+//! node; answers, next states and outputs must be the same.
 
-use crate::bogtrumpet;
+use crate::bogtrumpet::{self, by_value, ReportedIn, RouterIn, SentIn};
 use crate::check::{hex, same, Check};
 use crate::plain::{self, Address, Refusal};
 use crate::totals::{Call, TOO_BIG_SILENT};
@@ -62,13 +63,16 @@ impl Nodes {
     }
 
     pub fn receive(&self, check: &mut Check, datagram: &[u8], interface: u8) -> u8 {
-        let library = self.library.receive(check.lend_input(datagram), interface);
+        let (loan, in_place) = check.lend_node(&self.library, datagram, 0);
+        let library = by_value::receive(self.library, loan.input, interface);
+        let lent = in_place.node.receive(loan.input, interface);
         let plain = self.plain.receive(datagram, interface);
         let call = || format!("receive {} interface {interface}, {}", hex(datagram), self.state());
         let part = plain.clone().unwrap_or(0..0);
         let expected =
             bogtrumpet::Received { number: number(&plain), offset: part.start, length: part.end - part.start };
         same("answer", &expected, &library, &call);
+        in_place.same((&expected, &lent), &self.library, &[], &call);
         let part = self.plain.received_part(datagram, interface);
         same("part", part, self.library.received_part(datagram, interface), &call);
         check.totals.count(Call::Receive, library.number.into());
@@ -85,22 +89,25 @@ impl Nodes {
         room: usize,
     ) -> u8 {
         let before = self.state_before();
-        let loan = check.lend(packet, room);
+        let (loan, in_place) = check.lend_node(&self.library, packet, room);
         let to = bogtrumpet::Address { bytes: next_hop };
-        let library = self.library.send(loan.input, to, locator, time, loan.library);
+        let library = by_value::send(self.library, loan.input, to, locator, time, loan.library);
+        let lent = in_place.node.send(loan.input, to, locator, time, in_place.output);
         let plain = self.plain.send(packet, &next_hop, locator, time, loan.plain);
         let call = || {
             let arguments = format!("to {} locator {locator} time {time} room {room}", hex(&next_hop));
             format!("send {} {arguments}, {before}", hex(packet))
         };
         let expected = match plain {
-            Ok(plain::Sent::Wrapped { length }) => (0, 0, length),
-            Ok(plain::Sent::TooBig { size, length }) => (14, size, length),
-            Err(refusal) => (refusal as u8, 0, 0),
+            Ok(plain::Sent::Wrapped { length }) => SentIn { number: 0, size: 0, length },
+            Ok(plain::Sent::TooBig { size, length }) => SentIn { number: 14, size, length },
+            Err(refusal) => SentIn { number: refusal as u8, size: 0, length: 0 },
         };
-        same("number, size, length", &expected, &(library.number, library.size, library.length), &call);
+        let given = SentIn { number: library.number, size: library.size, length: library.length };
+        same("answer", &expected, &given, &call);
         loan.same_output(&call);
         self.next(library.number, library.node, time, &call);
+        in_place.same((&expected, &lent), &self.library, loan.plain, &call);
         let silent = library.number == 14 && library.length == 0;
         check.totals.count(Call::Send, if silent { TOO_BIG_SILENT } else { library.number.into() });
         library.number
@@ -108,13 +115,17 @@ impl Nodes {
 
     pub fn report(&mut self, check: &mut Check, message: &[u8], time: u32) -> u8 {
         let before = self.state_before();
-        let library = self.library.report(check.lend_input(message), time);
+        let (loan, in_place) = check.lend_node(&self.library, message, 0);
+        let library = by_value::report(self.library, loan.input, time);
+        let lent = in_place.node.report(loan.input, time);
         let plain = self.plain.report(message, time);
         let call = || format!("report {} time {time}, {before}", hex(message));
         let (neighbour, size) = plain.unwrap_or((0, 0));
-        let expected = (number(&plain), neighbour, size);
-        same("number, neighbour, size", &expected, &(library.number, library.neighbour, library.size), &call);
+        let expected = ReportedIn { number: number(&plain), neighbour, size };
+        let given = ReportedIn { number: library.number, neighbour: library.neighbour, size: library.size };
+        same("answer", &expected, &given, &call);
         self.next(library.number, library.node, time, &call);
+        in_place.same((&expected, &lent), &self.library, &[], &call);
         check.totals.count(Call::Report, library.number.into());
         library.number
     }
@@ -130,51 +141,64 @@ impl Nodes {
         if routers.len() > list.routers.len() {
             list.count = check.random.one_of(&[routers.len(), 1 << 32, usize::MAX]);
         }
-        let library = self.library.replace_routers(list, time);
+        let (_, in_place) = check.lend_node(&self.library, &[], 0);
+        let library = by_value::replace_routers(self.library, list, time);
+        let lent = in_place.node.replace_routers(list, time);
         let plain = self.plain.replace_routers(routers, time);
         let call = || format!("replace_routers {routers:?} time {time}, {before}");
-        same("number", &number(&plain), &library.number, &call);
+        let expected = number(&plain);
+        same("number", &expected, &library.number, &call);
         self.next(library.number, library.node, time, &call);
+        in_place.same((&expected, &lent), &self.library, &[], &call);
         check.totals.count(Call::Replace, library.number.into());
         library.number
     }
 
     pub fn ask(&mut self, check: &mut Check, locator: usize, time: u32, room: usize) -> u8 {
         let before = self.state_before();
-        let loan = check.lend(&[], room);
-        let library = self.library.ask(locator, time, loan.library);
+        let (loan, in_place) = check.lend_node(&self.library, &[], room);
+        let library = by_value::ask(self.library, locator, time, loan.library);
+        let lent = in_place.node.ask(locator, time, in_place.output);
         let plain = self.plain.ask(locator, time, loan.plain);
         let call = || format!("ask locator {locator} time {time} room {room}, {before}");
-        let expected = (number(&plain), plain.unwrap_or(0));
-        same("number, router", &expected, &(library.number, library.router), &call);
+        let expected = RouterIn { number: number(&plain), router: plain.unwrap_or(0) };
+        same("answer", &expected, &RouterIn { number: library.number, router: library.router }, &call);
         loan.same_output(&call);
         self.next(library.number, library.node, time, &call);
+        in_place.same((&expected, &lent), &self.library, loan.plain, &call);
         check.totals.count(Call::Ask, library.number.into());
         library.number
     }
 
     pub fn hear(&mut self, check: &mut Check, packet: &[u8], time: u32) -> u8 {
         let before = self.state_before();
-        let library = self.library.hear(check.lend_input(packet), time);
+        let (loan, in_place) = check.lend_node(&self.library, packet, 0);
+        let library = by_value::hear(self.library, loan.input, time);
+        let lent = in_place.node.hear(loan.input, time);
         let plain = self.plain.hear(packet, time);
         let call = || format!("hear {} time {time}, {before}", hex(packet));
-        let expected = (number(&plain), plain.unwrap_or(0));
-        same("number, router", &expected, &(library.number, library.router), &call);
+        let expected = RouterIn { number: number(&plain), router: plain.unwrap_or(0) };
+        same("answer", &expected, &RouterIn { number: library.number, router: library.router }, &call);
         self.next(library.number, library.node, time, &call);
+        in_place.same((&expected, &lent), &self.library, &[], &call);
         check.totals.count(Call::Hear, library.number.into());
         library.number
     }
 
     pub fn path_size(&self, check: &mut Check, neighbour: u32) -> u16 {
+        let (_, in_place) = check.lend_node(&self.library, &[], 0);
+        let lent = in_place.node.path_size(neighbour);
         let plain = self.plain.path_size(neighbour);
         let call = || format!("path_size {neighbour:#x}, {}", self.state());
-        same("size", &plain, &self.library.path_size(neighbour), &call);
+        same("size", &plain, &by_value::path_size(self.library, neighbour), &call);
+        in_place.same((&plain, &lent), &self.library, &[], &call);
         let reported = plain != self.plain.settings().link_size;
         check.totals.count(Call::PathSize, reported.into());
         plain
     }
 
-    /// Takes the next state over and compares it.
+    /// Takes the next state of the call by value over and compares it. That of the call over a pointer must then be the same in every
+    /// field (`InPlace::same`), so what is found here holds of both.
     fn next(&mut self, number: u8, node: bogtrumpet::Node, time: u32, call: &dyn Fn() -> String) {
         if number != 0 {
             let mut raised = self.library;

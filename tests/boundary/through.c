@@ -16,6 +16,17 @@ typedef const uint8_t *bytes_t;
 
 FORWARD(struct bogtrumpet_settings, defaults, (struct bogtrumpet_settings s), (s))
 FORWARD(struct bogtrumpet_setup, new, (struct bogtrumpet_settings s), (s))
+FORWARD(struct bogtrumpet_received, receive_in, (const node_t *n, bytes_t d, size_t length, uint8_t i), (n, d, length, i))
+FORWARD(struct bogtrumpet_sent_in, send_in,
+        (node_t *n, bytes_t p, size_t length, address_t hop, size_t locator, uint32_t time, uint8_t *out, size_t room),
+        (n, p, length, hop, locator, time, out, room))
+FORWARD(struct bogtrumpet_reported_in, report_in, (node_t *n, bytes_t m, size_t length, uint32_t time),
+        (n, m, length, time))
+FORWARD(uint8_t, replace_routers_in, (node_t *n, struct bogtrumpet_addresses list, uint32_t time), (n, list, time))
+FORWARD(struct bogtrumpet_router_in, ask_in, (node_t *n, size_t locator, uint32_t time, uint8_t *out, size_t room),
+        (n, locator, time, out, room))
+FORWARD(struct bogtrumpet_router_in, hear_in, (node_t *n, bytes_t p, size_t length, uint32_t time), (n, p, length, time))
+FORWARD(uint16_t, path_size_in, (const node_t *n, uint32_t neighbour), (n, neighbour))
 FORWARD(struct bogtrumpet_received, receive, (node_t n, bytes_t d, size_t length, uint8_t i), (n, d, length, i))
 FORWARD(struct bogtrumpet_sent, send,
         (node_t n, bytes_t p, size_t length, address_t hop, size_t locator, uint32_t time, uint8_t *out, size_t room),
@@ -60,6 +71,9 @@ const size_t bogtrumpet_layout[] = {
     AT(addresses, routers), AT(addresses, count), SIZE(addresses),
     AT(setup, number), AT(setup, node), SIZE(setup),
     AT(received, number), AT(received, offset), AT(received, length), SIZE(received),
+    AT(sent_in, number), AT(sent_in, size), AT(sent_in, length), SIZE(sent_in),
+    AT(reported_in, number), AT(reported_in, neighbour), AT(reported_in, size), SIZE(reported_in),
+    AT(router_in, number), AT(router_in, router), SIZE(router_in),
     AT(sent, number), AT(sent, size), AT(sent, length), AT(sent, node), SIZE(sent),
     AT(reported, number), AT(reported, neighbour), AT(reported, size), AT(reported, node), SIZE(reported),
     AT(replaced, number), AT(replaced, node), SIZE(replaced),
