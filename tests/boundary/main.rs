@@ -31,7 +31,7 @@ fn main() {
     let words: Vec<String> = std::env::args().skip(1).collect();
     let number = |place: usize, default: u64| words.get(place).map_or(default, |word| word.parse().expect("a number"));
     let mut check = Check::new(number(0, 1));
-    let calls = number(1, 8_000_000);
+    let calls = number(1, 6_000_000);
     #[cfg(through_c)]
     layout::compare();
     if words.len() < 3 {
