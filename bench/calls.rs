@@ -217,8 +217,12 @@ pub fn rows(check: &mut Check) -> Vec<Row> {
     let row = |work: Work| {
         compare(check, &work);
         let work: &'static Work = Box::leak(Box::new(work));
-        let ways =
-            [Some(ways::plain(work)), Some(ways::by_value(work)), Some(inside::inside(work)), lent_node::lent(work)];
+        let ways = [
+            Some(ways::plain(work)),
+            Some(ways::by_value(work)),
+            Some(inside::inside(work)),
+            Some(lent_node::lent(work)),
+        ];
         Row { name: work.name.clone(), ways }
     };
     works.into_iter().map(row).collect()

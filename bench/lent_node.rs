@@ -1,9 +1,7 @@
-//! The library across the C boundary over a lent node: a pointer to it goes over, and it is changed in place. A function that the
-//! library does not have yet has no way here.
-#![allow(dead_code, unused_imports, unused_variables)]
+//! The library across the C boundary over a lent node: a pointer to it goes over, and it is changed in place.
 
 use crate::bogtrumpet::{Address, Node, Received};
-use crate::calls::{Call, Work, ROOM, START};
+use crate::calls::{Call, Work, ROOM};
 use crate::measure::Turns;
 use crate::paths;
 use crate::ways::{turns, Turn};
@@ -49,44 +47,64 @@ unsafe extern "C" {
 }
 
 /// The number of an answer and its values.
-type Answer = [usize; 3];
+type Values = [usize; 3];
 
-// SAFETY: pointers and lengths are those of slices; so in all of these.
-fn receive(node: &mut Node, turn: Turn) -> Answer {
-    let received = unsafe { bogtrumpet_receive_in(node, turn.input.as_ptr(), turn.input.len(), turn.interface) };
-    [received.number.into(), received.offset, received.length]
+trait Answer {
+    fn values(&self) -> Values;
 }
 
-fn send(node: &mut Node, turn: Turn) -> Answer {
+impl Answer for Received {
+    fn values(&self) -> Values {
+        [self.number.into(), self.offset, self.length]
+    }
+}
+
+impl Answer for Sent {
+    fn values(&self) -> Values {
+        [self.number.into(), self.size.into(), self.length]
+    }
+}
+
+impl Answer for Reported {
+    fn values(&self) -> Values {
+        [self.number.into(), self.neighbour as usize, self.size.into()]
+    }
+}
+
+impl Answer for Router {
+    fn values(&self) -> Values {
+        [self.number.into(), self.router as usize, 0]
+    }
+}
+
+// SAFETY: pointers and lengths are those of slices; so in all of these.
+fn receive(node: &mut Node, turn: Turn) -> Received {
+    unsafe { bogtrumpet_receive_in(node, turn.input.as_ptr(), turn.input.len(), turn.interface) }
+}
+
+fn send(node: &mut Node, turn: Turn) -> Sent {
     let (packet, length) = (turn.input.as_ptr(), turn.input.len());
     let (out, room) = (turn.out.as_mut_ptr(), turn.out.len());
     let next_hop = Address { bytes: *turn.next_hop };
-    let sent = unsafe { bogtrumpet_send_in(node, packet, length, next_hop, turn.locator, turn.time, out, room) };
-    [sent.number.into(), sent.size.into(), sent.length]
+    unsafe { bogtrumpet_send_in(node, packet, length, next_hop, turn.locator, turn.time, out, room) }
 }
 
-fn report(node: &mut Node, turn: Turn) -> Answer {
-    let reported = unsafe { bogtrumpet_report_in(node, turn.input.as_ptr(), turn.input.len(), turn.time) };
-    [reported.number.into(), reported.neighbour as usize, reported.size.into()]
+fn report(node: &mut Node, turn: Turn) -> Reported {
+    unsafe { bogtrumpet_report_in(node, turn.input.as_ptr(), turn.input.len(), turn.time) }
 }
 
-fn ask(node: &mut Node, turn: Turn) -> Answer {
-    let asked = unsafe { bogtrumpet_ask_in(node, turn.locator, turn.time, turn.out.as_mut_ptr(), turn.out.len()) };
-    [asked.number.into(), asked.router as usize, 0]
+fn ask(node: &mut Node, turn: Turn) -> Router {
+    unsafe { bogtrumpet_ask_in(node, turn.locator, turn.time, turn.out.as_mut_ptr(), turn.out.len()) }
 }
 
-fn hear(node: &mut Node, turn: Turn) -> Answer {
-    let heard = unsafe { bogtrumpet_hear_in(node, turn.input.as_ptr(), turn.input.len(), turn.time) };
-    [heard.number.into(), heard.router as usize, 0]
+fn hear(node: &mut Node, turn: Turn) -> Router {
+    unsafe { bogtrumpet_hear_in(node, turn.input.as_ptr(), turn.input.len(), turn.time) }
 }
 
 /// The same by value.
-fn by_value(call: &Call, node: &mut Node, turn: Turn) -> Answer {
+fn by_value(call: &Call, node: &mut Node, turn: Turn) -> Values {
     match call {
-        Call::Receive => {
-            let received = node.receive(turn.input, turn.interface);
-            [received.number.into(), received.offset, received.length]
-        }
+        Call::Receive => node.receive(turn.input, turn.interface).values(),
         Call::Send => {
             let next_hop = Address { bytes: *turn.next_hop };
             let sent = node.send(turn.input, next_hop, turn.locator, turn.time, turn.out);
@@ -112,52 +130,36 @@ fn by_value(call: &Call, node: &mut Node, turn: Turn) -> Answer {
 }
 
 /// Answers, outputs and nodes of some turns must be those of the calls by value.
-fn compare(work: &Work, call: impl Fn(&mut Node, Turn) -> Answer) {
+fn compare<A: Answer>(work: &Work, call: impl Fn(&mut Node, Turn) -> A) {
     let (mut expected, mut lent) = (work.nodes.library, work.nodes.library);
     let (mut expected_out, mut out) = ([0x55; ROOM], [0x55; ROOM]);
     for turn in 0..256 {
-        let answer = by_value(&work.call, &mut expected, work.turn(turn, &mut expected_out));
-        assert_eq!(answer, call(&mut lent, work.turn(turn, &mut out)), "{}, turn {turn}", work.name);
+        let values = by_value(&work.call, &mut expected, work.turn(turn, &mut expected_out));
+        assert_eq!(values, call(&mut lent, work.turn(turn, &mut out)).values(), "{}, turn {turn}", work.name);
         assert!(expected_out == out, "{}, turn {turn}: outputs", work.name);
         assert_eq!(expected, lent, "{}, turn {turn}", work.name);
     }
 }
 
-fn way(work: &'static Work, call: impl Fn(&mut Node, Turn) -> Answer + 'static) -> Option<Turns> {
+fn way<A: Answer>(work: &'static Work, call: impl Fn(&mut Node, Turn) -> A + 'static) -> Turns {
     compare(work, &call);
-    Some(turns(work, work.nodes.library, move |node, turn| _ = black_box(call(node, turn))))
+    turns(work, work.nodes.library, move |node, turn| _ = black_box(&call(node, turn)))
 }
 
-pub fn lent(work: &'static Work) -> Option<Turns> {
+pub fn lent(work: &'static Work) -> Turns {
     match work.call {
-        #[cfg(lent = "receive")]
         Call::Receive => way(work, receive),
-        #[cfg(lent = "send")]
         Call::Send => way(work, send),
-        #[cfg(lent = "report")]
         Call::Report => way(work, report),
-        #[cfg(lent = "ask")]
         Call::Ask => way(work, ask),
-        #[cfg(lent = "hear")]
         Call::Hear => way(work, hear),
-        #[allow(unreachable_patterns)]
-        _ => None,
     }
 }
 
 /// The sizes toward the neighbours that `first` begins, place by place.
 pub fn path_sizes(start: Node, first: u32) -> Option<Turns> {
-    #[cfg(lent = "path_size")]
-    {
-        for neighbour in first..first + 64 {
-            assert_eq!(
-                bogtrumpet_path_size_in(&start, neighbour),
-                start.path_size(neighbour),
-                "{neighbour}: {start:?}"
-            );
-        }
-        return paths::turns(start, move |node, place| _ = black_box(bogtrumpet_path_size_in(node, first + place)));
+    for neighbour in first..first + 64 {
+        assert_eq!(bogtrumpet_path_size_in(&start, neighbour), start.path_size(neighbour), "{neighbour}: {start:?}");
     }
-    #[allow(unreachable_code)]
-    None
+    paths::turns(start, move |node, place| _ = black_box(bogtrumpet_path_size_in(node, first + place)))
 }

@@ -26,7 +26,7 @@ const LOT: u32 = 64;
 /// Turns of the shorter of a way's two counted runs.
 const COUNTED: u32 = 4 * LOT;
 /// Every row is measured in each pass, so that a time in which the machine is busy does not hit one row alone.
-const PASSES: u32 = 16;
+const PASSES: u32 = 24;
 const ROUNDS: u32 = 10;
 const ROUND_NANOSECONDS: f64 = 5e5;
 

@@ -17,7 +17,8 @@ pub struct Turn<'a> {
     pub out: &'a mut [u8],
 }
 
-/// Turns of a call, each run from the same node and time, the inputs in turn.
+/// Turns of a call, each run from the same node and time, the inputs in turn. Answers are handed to `black_box` where they stand: a
+/// copy of one, read in other pieces than it was written in, would wait for it.
 pub fn turns<N: Copy + 'static>(work: &'static Work, start: N, call: impl Fn(&mut N, Turn) + 'static) -> Turns {
     let mut out = vec![0; ROOM];
     Box::new(move |turns| {
@@ -37,13 +38,13 @@ pub fn turns<N: Copy + 'static>(work: &'static Work, start: N, call: impl Fn(&mu
 pub fn plain(work: &'static Work) -> Turns {
     let node = work.nodes.plain;
     match work.call {
-        Call::Receive => turns(work, node, |node, turn| _ = black_box(receive(node, turn.input, turn.interface))),
+        Call::Receive => turns(work, node, |node, turn| _ = black_box(&receive(node, turn.input, turn.interface))),
         Call::Send => turns(work, node, |node, turn| {
-            _ = black_box(send(node, turn.input, turn.next_hop, turn.locator, turn.time, turn.out));
+            _ = black_box(&send(node, turn.input, turn.next_hop, turn.locator, turn.time, turn.out));
         }),
-        Call::Report => turns(work, node, |node, turn| _ = black_box(report(node, turn.input, turn.time))),
-        Call::Ask => turns(work, node, |node, turn| _ = black_box(ask(node, turn.locator, turn.time, turn.out))),
-        Call::Hear => turns(work, node, |node, turn| _ = black_box(hear(node, turn.input, turn.time))),
+        Call::Report => turns(work, node, |node, turn| _ = black_box(&report(node, turn.input, turn.time))),
+        Call::Ask => turns(work, node, |node, turn| _ = black_box(&ask(node, turn.locator, turn.time, turn.out))),
+        Call::Hear => turns(work, node, |node, turn| _ = black_box(&hear(node, turn.input, turn.time))),
     }
 }
 
@@ -83,26 +84,26 @@ fn hear(node: &mut Node, packet: &[u8], time: u32) -> Result<u32, Refusal> {
 pub fn by_value(work: &'static Work) -> Turns {
     let node = work.nodes.library;
     match work.call {
-        Call::Receive => turns(work, node, |node, turn| _ = black_box(node.receive(turn.input, turn.interface))),
+        Call::Receive => turns(work, node, |node, turn| _ = black_box(&node.receive(turn.input, turn.interface))),
         Call::Send => turns(work, node, |node, turn| {
             let next_hop = bogtrumpet::Address { bytes: *turn.next_hop };
             let sent = node.send(turn.input, next_hop, turn.locator, turn.time, turn.out);
-            black_box((sent.number, sent.size, sent.length));
+            black_box(&sent);
             *node = sent.node;
         }),
         Call::Report => turns(work, node, |node, turn| {
             let reported = node.report(turn.input, turn.time);
-            black_box((reported.number, reported.neighbour, reported.size));
+            black_box(&reported);
             *node = reported.node;
         }),
         Call::Ask => turns(work, node, |node, turn| {
             let asked = node.ask(turn.locator, turn.time, turn.out);
-            black_box((asked.number, asked.router));
+            black_box(&asked);
             *node = asked.node;
         }),
         Call::Hear => turns(work, node, |node, turn| {
             let heard = node.hear(turn.input, turn.time);
-            black_box((heard.number, heard.router));
+            black_box(&heard);
             *node = heard.node;
         }),
     }
