@@ -1,5 +1,6 @@
 // Router advertisements: whether one is valid and its router listed, and when that router is due again.
 use address::Embedded;
+use address::prefixes;
 use header::fields;
 use header::inner;
 use header::inner::Inner;
@@ -102,7 +103,8 @@ fn hear_from(
 ) -> Heard
     ensures { λ r. ⌜ r ≡ heardFrom settings routers time source (now (p .entry)) ⌝ }
 {
-    let found = settings.embedded(source);
+    let on_link = settings.prefixes;
+    let found = prefixes::embedded(on_link, settings.prefix_count, source);
     match found {
         Embedded::Ipv4(router) => {
             if routers.lists(router) {

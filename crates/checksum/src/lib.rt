@@ -97,7 +97,7 @@ fn fold(x: u64) -> u16
 }
 
 // The exact sum of the words of s, at most 32,768, so that 32 bits hold it: sixteen words a turn, so that the compiler adds
-// several at once, then what is left.
+// several at once, then eight, which a header has, then one by one.
 fn words(s: &[u8]) -> u32
     requires { ⌜ length (now s) ≤ chunk ⌝ }
     ensures { λ r. ⌜ r ≡ wordSum (now (s .entry)) ⌝ }
@@ -108,18 +108,11 @@ fn words(s: &[u8]) -> u32
         sum += sixteen_words(s, i);
         i += 32;
     }
-    sum + rest_words(&s[i..])
-}
-
-// The same of fewer than 32 bytes: eight words, as most headers have them, then one by one.
-fn rest_words(s: &[u8]) -> u32
-    requires { ⌜ length (now s) < 32 ⌝ }
-    ensures { λ r. ⌜ (r ≡ wordSum (now (s .entry))) × (r ≤ 65535 * 16) ⌝ }
-{
-    if s.len() < 16 {
-        return last_words(s);
+    if i + 15 < s.len() {
+        sum += eight_words(s, i);
+        i += 16;
     }
-    eight_words(s, 0) + last_words(&s[16..])
+    sum + last_words(&s[i..])
 }
 
 // The same of fewer than 16 bytes: one word a turn, then an odd last byte, padded with a zero byte.

@@ -11,31 +11,34 @@ use Rattle.lent_capi.specs.declared.steps.ReportStep.{ReportStep}
 use Rattle.lent_capi.specs.declared.steps.RouterIn.{RouterIn}
 use Rattle.lent_capi.specs.declared.steps.RouterStep.{RouterStep}
 
--- the answer to a sending without the node
+-- document 01, "Sending": what is given back, without the node
 abbrev pub sentAnswer : Sent → SentIn
 sentAnswer s = record { number = s .number; size = s .size; length = s .length }
 
--- and with what a sending changes of the node
+-- document 01, "Sending": the same, and what a sending changes of the node
 unfoldable pub sendStep : Sent → SendStep
 sendStep s = record { answer = sentAnswer s; identification = s .node .service .identification; latest = s .node .latest }
 
--- the answer to a size report without the node, and with it
+-- document 01, "Path size": what is given back to a size report, without the node
 abbrev pub reportedAnswer : Reported → ReportedIn
 reportedAnswer s = record { number = s .number; neighbour = s .neighbour; size = s .size }
 
+-- document 01, "Path size": the same, and the next node
 unfoldable pub reportStep : Reported → ReportStep
 reportStep s = record { answer = reportedAnswer s; node = s .node }
 
--- the answer to asking without the node, and with it
+-- document 01, "Routers": what asking gives back, without the node
 abbrev pub askedAnswer : Asked → RouterIn
 askedAnswer s = record { number = s .number; router = s .router }
 
+-- document 01, "Routers": the same, and the next node
 unfoldable pub askedStep : Asked → RouterStep
 askedStep s = record { answer = askedAnswer s; node = s .node }
 
--- the answer to an advertisement without the node, and with it
+-- document 01, "Routers": what is given back to an advertisement, without the node
 abbrev pub heardAnswer : Heard → RouterIn
 heardAnswer s = record { number = s .number; router = s .router }
 
+-- document 01, "Routers": the same, and the next node
 unfoldable pub heardStep : Heard → RouterStep
 heardStep s = record { answer = heardAnswer s; node = s .node }

@@ -1,4 +1,5 @@
 // Receiving: whether a datagram is delivered, and which part of it.
+use address::prefixes;
 use header::fields;
 use header::inner;
 use header::inner::Inner;
@@ -39,7 +40,8 @@ impl Received {
 fn embeds_it(settings: Settings, a: [u8; 16], v: u32) -> bool
     ensures { λ r. ⌜ r ≡ embeds settings a v ⌝ }
 {
-    let found = settings.embedded(a);
+    let on_link = settings.prefixes;
+    let found = prefixes::embedded(on_link, settings.prefix_count, a);
     match found {
         address::Embedded::Ipv4(embedded) => embedded == v,
         address::Embedded::Nothing => false,

@@ -1,5 +1,6 @@
 // Sending: what it comes to is judged first, as a plan, before a byte is written; then the plan is carried out.
 use address::Embedded;
+use address::prefixes;
 use header::inner;
 use header::wrap;
 use header::wrap::OuterFields;
@@ -113,7 +114,8 @@ fn next_hop_not_isatap(settings: Settings, next_hop: [u8; 16]) -> bool
     if address::link_local_prefixed(next_hop) & address::identifier(next_hop) {
         return false;
     }
-    not_isatap(settings.embedded(next_hop))
+    let on_link = settings.prefixes;
+    not_isatap(prefixes::embedded(on_link, settings.prefix_count, next_hop))
 }
 
 // Numbers 8, 11, 12 and 13.

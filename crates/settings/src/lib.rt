@@ -5,7 +5,7 @@ use locators::Locator;
 ghost use mathlib.Core.Path.{_≡_};
 ghost use lib.ListN.{take};
 ghost use Rattle.lists.specs.Any.{anyOf};
-ghost use Rattle.settings.specs.Settings.{defaultsFor, forbiddenTo, isOurs, isOurLocator, isBadEnd, embeddedTo, areLocatorsRight, areNumbersRight, areRoutersRight, isAccepted, isForbiddenLocator};
+ghost use Rattle.settings.specs.Settings.{defaultsFor, forbiddenTo, isOurs, isOurLocator, isBadEnd, areLocatorsRight, areNumbersRight, areRoutersRight, isAccepted, isForbiddenLocator};
 
 // Laid out as in C, as all that a node holds is.
 #[repr(C)]
@@ -92,20 +92,6 @@ impl Settings {
         ensures { λ r. ⌜ r ≡ isBadEnd self a ⌝ }
     {
         self.forbidden_to(a) | self.ours(a)
-    }
-
-    // The IPv4 address of an ISATAP address under an on-link prefix. The prefixes are read only where they decide.
-    pub fn embedded(self, a: [u8; 16]) -> address::Embedded
-        ensures { λ r. ⌜ r ≡ embeddedTo self a ⌝ }
-    {
-        if address::identifier(a) {
-            if address::link_local_prefixed(a) {
-                return address::Embedded::Ipv4(address::last_quad(a));
-            }
-            let flat = self.prefixes;
-            return address::isatap(address::prefixes::rows(flat), self.prefix_count, a);
-        }
-        address::Embedded::Nothing
     }
 
     fn some_locator_forbidden(self) -> bool

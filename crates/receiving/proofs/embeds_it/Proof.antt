@@ -1,16 +1,17 @@
 -- `receiving::embeds_it` meets its contract: by cases on what the address embeds. Assumes nothing.
 use borrow.Author.Needs.{needs}
 use native.Mathlib.Omega.{arith}
+use Rattle.settings.specs.Settings.{embeddedTo}
 use Rattle.receiving.specs.Receive.{embeds}
 use Rattle.receiving.proofs.embeds_it.Statement.{statement}
 use Rattle.receiving.proofs.embeds_it.Tie as tie
 
 returns : tie.Need-returns
-unfolding embeds
+unfolding embeds embeddedTo
 returns c = rw (← c .before .before .before .embedded .ensures, c .before .found .given .1)
 
 returns-2 : tie.Need-returns-2
-unfolding embeds
+unfolding embeds embeddedTo
 returns-2 c = rw (← c .before .before .embedded .ensures, c .enum-told .given .1)
 
 pub embeds-it-spec : {M : Type 1} → statement M

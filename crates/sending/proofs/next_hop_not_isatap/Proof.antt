@@ -20,6 +20,7 @@ returns c =
     rw (link-local-embeds _ _ hop local identified)
 
 returns-2 : tie.Need-returns-2
+unfolding embeddedTo
 returns-2 c = rw (c .not-isatap .ensures, c .before .embedded .ensures)
 
 pub next-hop-not-isatap-spec : {M : Type 1} → statement M
