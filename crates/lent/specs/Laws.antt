@@ -6,7 +6,7 @@ use native.Mathlib.Omega.{arith}
 use native.Mathlib.Nat.{zero-add}
 use borrow.Author.Tests.{lt-ltb, le-ltb}
 use lib.ListN.{length, take, drop, length-take, length-drop, length-append, drop-of-length-le}
-use lib.Seq.{take-append-seam, drop-append-seam, take-append-le, drop-append-le, drop-append-add, drop-drop, take-all, take-add, take-length, length-take-le, drop-length}
+use lib.Seq.{take-append-seam, drop-append-seam, take-append-le, drop-append-le, drop-append-add, drop-drop, take-all, take-add, take-length, length-take-le}
 use Rattle.lent.specs.Written.{written, over, placed}
 
 -- what fits is written
@@ -55,10 +55,6 @@ placed-inside at w p d h k e f =
 -- a write over one of the same length leaves nothing of it
 pub written-again : (v w d : List ℕ) → length v ≡ length w → written v (written w d) ≡ written v d
 written-again v w d e = rw e (ap (λ (l : List ℕ). v ++ l) (drop-append-seam w (drop (length w) d)))
-
--- a write over all of d
-pub written-whole : (w d : List ℕ) → length w ≡ length d → written w d ≡ w
-written-whole w d e = rw (e, drop-length, append-nil)
 
 -- a part from at on, lent and written over from its start, and back in its place
 pub part-over : (at : ℕ) (p d : List ℕ) → at + length p ≤ length d

@@ -10,7 +10,7 @@ use borrow.Author.Tests.{eq-eqb}
 use Rattle.routers.specs.declared.Router.{Router}
 use Rattle.routers.specs.declared.RouterList.{RouterList}
 use Rattle.routers.specs.declared.Next.the-variants.{Due, NoneDue}
-use Rattle.routers.specs.Routers.{live, any, listed, earlier, earliest, nextOf, dueIf, rescheduled, rescheduledOf, kept, replacedOf}
+use Rattle.routers.specs.Routers.{live, any, listed, earlier, earliest, nextOf, dueIf, rescheduled, rescheduledOf}
 
 take-map : {A B : Type 0} (f : A → B) (n : ℕ) (xs : List A) → take n (map f xs) ≡ map f (take n xs)
 take-map f zero xs = refl
@@ -19,10 +19,6 @@ take-map {A} {B} f (suc n) (x ∷ xs) = ap (λ (q : List B). f x ∷ q) (take-ma
 
 pub live-rescheduled : (a d : ℕ) (l : RouterList) → live (rescheduledOf a d l) ≡ rescheduled a d (live l)
 live-rescheduled a d l = take-map (dueIf a d) (l .count) (l .routers)
-
-pub live-replaced : (addresses : List ℕ) (n now : ℕ) (l : RouterList)
-    → live (replacedOf addresses n now l) ≡ map (kept now (live l)) (take n addresses)
-live-replaced addresses n now l = take-map (kept now (live l)) n addresses
 
 -- a due time does not change who is listed
 pub listed-rescheduled : (b a d : ℕ) (rs : List Router) → listed b (rescheduled a d rs) ≡ listed b rs

@@ -5,7 +5,7 @@ use mathlib.Core.Bool.{Bool, true, false, cond}
 use mathlib.Core.List.{List, [], _∷_, _++_, append-assoc}
 use native.Mathlib.Omega.{arith}
 use native.Mathlib.Nat.{pow-suc, zero-add, add-assoc}
-use borrow.Author.Tests.{lt-ltb, le-ltb, ltb-false}
+use borrow.Author.Tests.{le-ltb, ltb-false}
 use lib.Dec.{ltb}
 use lib.ListN.{length, take, drop, length-append, length-take, take-append-drop}
 use lib.Seq.{take-append-seam, drop-append-add, drop-drop}
@@ -17,11 +17,6 @@ use Rattle.text.specs.Text.{behind, decimalUpTo, decimal, octet, dotted,
 pub behind-fits : (at : ℕ) (w d : List ℕ) → at + length w ≤ length d → behind at w d ≡ at + length w
 unfolding behind
 behind-fits at w d h = simp (le-ltb _ _ h)
-
--- behind what does not fit
-pub behind-short : (at : ℕ) (w d : List ℕ) → length d < at + length w → behind at w d ≡ at
-unfolding behind
-behind-short at w d h = simp (lt-ltb _ _ h)
 
 -- what a function that writes w into d leaves, with the index that it gives
 abbrev pub Wrote : ℕ → List ℕ → List ℕ → ℕ → List ℕ → Type 0
