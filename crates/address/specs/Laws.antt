@@ -1,7 +1,7 @@
 -- What we form, we read; and what a link-local ISATAP address is known to be, beside what it embeds. Assumes nothing.
 use Prim.Native.Nat.{ℕ, zero, suc, _<_}
 use mathlib.Core.Path.{_≡_, ap, _∙_}
-use mathlib.Core.Bool.{Bool, true, false, _&&_, and-false}
+use mathlib.Core.Bool.{Bool, true, false, _&&_}
 use mathlib.Core.List.{List}
 use lib.ListN.{getD}
 use lib.Dec.{eqb}
@@ -9,7 +9,7 @@ use borrow.Author.Tests.{eqb-true}
 use Rattle.lists.specs.Tests.{and-left, and-right}
 use native.Mathlib.Omega.{arith}
 use Rattle.address.specs.Address.{agree, isUnder, linkLocalPrefix, isLinkLocal, isOnLink, isIdentifier, lastQuad, embeddedIn, isLinkLocalIsatap, linkLocalOf, isMulticastOrUnspecified, isBadSourceWith}
-use Rattle.address.specs.declared.Embedded.the-variants.{Ipv4, Nothing}
+use Rattle.address.specs.declared.Embedded.the-variants.{Ipv4}
 
 -- the address that we form embeds its IPv4 address
 pub formed-embeds : (ps : List (List ℕ)) (count a : ℕ) → a < 4294967296 → embeddedIn ps count (linkLocalOf a) ≡ Ipv4 a
@@ -20,11 +20,6 @@ formed-embeds ps count a h = ap Ipv4 (omega arith)
 pub link-local-embeds : (ps : List (List ℕ)) (count : ℕ) (a : List ℕ) → isLinkLocal a ≡ true → isIdentifier a ≡ true → embeddedIn ps count a ≡ Ipv4 (lastQuad a)
 unfolding embeddedIn isOnLink
 link-local-embeds ps count a h k = rw (h, k)
-
--- an address without the identifier embeds nothing
-pub plain-embeds-nothing : (ps : List (List ℕ)) (count : ℕ) (a : List ℕ) → isIdentifier a ≡ false → embeddedIn ps count a ≡ Nothing
-unfolding embeddedIn
-plain-embeds-nothing ps count a h = rw (h, and-false)
 
 agree-first : (n : ℕ) (p a : List ℕ) → agree (suc n) p a ≡ true → eqb (getD p 0 0) (getD a 0 0) ≡ true
 agree-first zero p a h = h

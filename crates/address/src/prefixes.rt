@@ -1,12 +1,6 @@
-// Prefixes that stand flat: as the on-link test takes them, and the address that an ISATAP address under them embeds.
-use super::Embedded;
-use super::identifier;
-use super::isatap;
-use super::last_quad;
-use super::link_local_prefixed;
+// Prefixes as the on-link test takes them.
 ghost use mathlib.Core.Path.{_≡_};
 ghost use Prim.Native.Nat.{_<_};
-ghost use Rattle.address.specs.Address.{embeddedIn};
 ghost use Rattle.address.specs.Prefixes.{rowAt, rowsOf};
 
 fn row(flat: [u8; 64], k: usize) -> [u8; 8]
@@ -39,18 +33,4 @@ pub fn rows(flat: [u8; 64]) -> [[u8; 8]; 8]
         row(flat, 48),
         row(flat, 56),
     ]
-}
-
-// The IPv4 address of an ISATAP address under the first `count` prefixes. These are read only for an address with the
-// identifier that is not link-local.
-pub fn embedded(flat: [u8; 64], count: usize, a: [u8; 16]) -> Embedded
-    ensures { λ r. ⌜ r ≡ embeddedIn (rowsOf flat) count a ⌝ }
-{
-    if identifier(a) {
-        if link_local_prefixed(a) {
-            return Embedded::Ipv4(last_quad(a));
-        }
-        return isatap(rows(flat), count, a);
-    }
-    Embedded::Nothing
 }

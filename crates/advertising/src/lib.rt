@@ -104,7 +104,7 @@ fn hear_from(
     ensures { λ r. ⌜ r ≡ heardFrom settings routers time source (now (p .entry)) ⌝ }
 {
     let on_link = settings.prefixes;
-    let found = prefixes::embedded(on_link, settings.prefix_count, source);
+    let found = address::isatap(prefixes::rows(on_link), settings.prefix_count, source);
     match found {
         Embedded::Ipv4(router) => {
             if routers.lists(router) {

@@ -41,7 +41,7 @@ fn embeds_it(settings: Settings, a: [u8; 16], v: u32) -> bool
     ensures { λ r. ⌜ r ≡ embeds settings a v ⌝ }
 {
     let on_link = settings.prefixes;
-    let found = prefixes::embedded(on_link, settings.prefix_count, a);
+    let found = address::isatap(prefixes::rows(on_link), settings.prefix_count, a);
     match found {
         address::Embedded::Ipv4(embedded) => embedded == v,
         address::Embedded::Nothing => false,

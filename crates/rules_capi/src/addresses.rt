@@ -47,14 +47,14 @@ fn plain_embedded(embedded: address::Embedded) -> Embedded
     }
 }
 
-// The IPv4 address of an ISATAP address, under fe80::/64 or one of the prefixes: address::prefixes::embedded.
+// The IPv4 address of an ISATAP address, under fe80::/64 or one of the prefixes: address::isatap.
 #[no_mangle]
 pub extern "C" fn bogtrumpet_isatap(on_link: Prefixes, a: Address) -> Embedded
     ensures { λ r. ⌜ r ≡ isatapIn «on_link» a ⌝ }
 {
     let flat = on_link.bytes;
     let bytes = a.bytes;
-    plain_embedded(prefixes::embedded(flat, on_link.count, bytes))
+    plain_embedded(address::isatap(prefixes::rows(flat), on_link.count, bytes))
 }
 
 // The link-local ISATAP address of an IPv4 address: address::link_local.

@@ -115,7 +115,7 @@ fn next_hop_not_isatap(settings: Settings, next_hop: [u8; 16]) -> bool
         return false;
     }
     let on_link = settings.prefixes;
-    not_isatap(prefixes::embedded(on_link, settings.prefix_count, next_hop))
+    not_isatap(address::isatap(prefixes::rows(on_link), settings.prefix_count, next_hop))
 }
 
 // Numbers 8, 11, 12 and 13.

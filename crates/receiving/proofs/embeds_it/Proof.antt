@@ -8,13 +8,13 @@ use Rattle.receiving.proofs.embeds_it.Tie as tie
 
 returns : tie.Need-returns
 unfolding embeds embeddedTo
-returns c = rw (← c .before .before .before .embedded .ensures, c .before .found .given .1)
+returns c = let i = c .before .before .before in rw (← i .before .rows .ensures, ← i .isatap .ensures, c .before .found .given .1)
 
 returns-2 : tie.Need-returns-2
 unfolding embeds embeddedTo
-returns-2 c = rw (← c .before .before .embedded .ensures, c .enum-told .given .1)
+returns-2 c = let i = c .before .before in rw (← i .before .rows .ensures, ← i .isatap .ensures, c .enum-told .given .1)
 
 pub embeds-it-spec : {M : Type 1} → statement M
 embeds-it-spec =
     tie.close
-    (tie.spec (omega arith) (search needs) (search needs) returns returns-2)
+    (tie.spec (omega arith) (omega arith) (search needs) (search needs) returns returns-2)

@@ -21,7 +21,7 @@ returns c =
 
 returns-2 : tie.Need-returns-2
 unfolding embeddedTo
-returns-2 c = rw (c .not-isatap .ensures, c .before .embedded .ensures)
+returns-2 c = rw (c .not-isatap .ensures, c .before .isatap .ensures, c .before .before .rows .ensures)
 
 pub next-hop-not-isatap-spec : {M : Type 1} → statement M
-next-hop-not-isatap-spec = tie.close (tie.spec (omega arith) (omega arith) returns (omega arith) (omega arith) returns-2)
+next-hop-not-isatap-spec = tie.close (tie.spec (omega arith) (omega arith) returns (omega arith) (omega arith) (omega arith) returns-2)

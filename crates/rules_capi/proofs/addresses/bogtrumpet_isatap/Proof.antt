@@ -6,9 +6,9 @@ use Rattle.rules_capi.proofs.addresses.bogtrumpet_isatap.Tie as tie
 
 returns : tie.Need-returns
 unfolding isatapIn
-returns c = rw (c .plain-embedded .ensures, c .before .embedded .ensures)
+returns c = rw (c .plain-embedded .ensures, c .before .isatap .ensures, c .before .before .rows .ensures)
 
 pub bogtrumpet-isatap-spec : {M : Type 1} → statement M
 bogtrumpet-isatap-spec =
     tie.close
-    (tie.spec (omega arith) (omega arith) returns)
+    (tie.spec (omega arith) (omega arith) (omega arith) returns)
