@@ -1,4 +1,6 @@
 // Reads one node's settings and a list of calls from standard input, makes each call and writes a line for each.
 fn main() {
-    replay_run::run_standard_input();
+    let mut bytes = replay_run::space();
+    let n = io::read_full(0, &mut bytes);
+    replay_run::run(&bytes[..n]);
 }
