@@ -1,5 +1,5 @@
 -- The table's three arrays against its reports: what the code reads of the arrays is so of the reports.
-use mathlib.Core.Path.{_≡_, refl, ap, _∙_}
+use mathlib.Core.Path.{_≡_, refl, sym, ap, _∙_}
 use mathlib.Core.Logic.{⊎-elim}
 use mathlib.Core.Bool.{cond}
 use mathlib.Core.List.{List, [], _∷_}
@@ -11,66 +11,62 @@ use borrow.Author.Tests.{lt-ltb}
 use lib.Dec.{ltb, eqb, leb·suc-suc}
 use lib.ListN.{length, take, getD, length-take}
 use Rattle.paths.specs.Kept.{Report, mostNeighbours, lastOf, keptFrom, whileYoung}
-use Rattle.paths.specs.Table.{rows, held, placeOf, placeIn, pushed, keptIn, tableAfter}
+use Rattle.paths.specs.Table.{rows, heldIn, placeOf, placeIn, pushed, keptAmong, keptIn, tableAfter}
 use Rattle.paths.specs.declared.PathTable.{PathTable}
 use Rattle.paths.specs.declared.Kept.the-variants.{Nothing}
-use Rattle.paths.proofs.Reports.{tested, keptFrom-cond, take-length-take}
+use Rattle.paths.proofs.Reports.{tested, keptFrom-cond}
 
 -- the report at a place
 abbrev rowAt : List ℕ → List ℕ → List ℕ → ℕ → Report
 rowAt vs ss ts p = record { neighbour = getD vs p 0; size = getD ss p 0; time = getD ts p 0 }
 
 module _ (v : ℕ) where
-  -- of the reports es in the first n places: their number, the place of v, and its report if that place is among them
-  abbrev Found : ℕ → List ℕ → List ℕ → List ℕ → List Report → Type 0
-  Found n vs ss ts es =
-      let p : ℕ = placeOf v (take n vs) in
-      (length es ≡ min n (length vs)) × (placeIn v es ≡ p)
-      × (lastOf v es ≡ cond (ltb p (min n (length vs))) (some (rowAt vs ss ts p)) none)
+  -- of the reports es that the first places hold: the place of v, and its report if that place is among them
+  abbrev Found : List ℕ → List ℕ → List ℕ → List Report → Type 0
+  Found vs ss ts es =
+      let p : ℕ = placeOf v (take (length es) vs) in
+      (placeIn v es ≡ p) × (lastOf v es ≡ cond (ltb p (length es)) (some (rowAt vs ss ts p)) none)
 
-  found : (n : ℕ) (vs ss ts : List ℕ) → length ss ≡ length vs → length ts ≡ length vs → Found n vs ss ts (take n (rows vs ss ts))
-  found zero vs ss ts h k = rw (zero-min (length vs)) (refl, refl, refl)
-  found (suc n) [] ss ts h k = rw (min-zero (suc n)) (refl, refl, refl)
-  found (suc n) (a ∷ vs) [] ts h k = absurd (omega arith)
-  found (suc n) (a ∷ vs) (s ∷ ss) [] h k = absurd (omega arith)
-  found (suc n) (a ∷ vs) (s ∷ ss) (t ∷ ts) h k =
-      let i : Found n vs ss ts (take n (rows vs ss ts)) = found n vs ss ts (omega arith) (omega arith) in
-      rw (suc-min-suc n (length vs))
-      (⊎-elim (λ e. rw e (ap suc (i .0), refl, cc (lt-ltb 0 (suc (min n (length vs))) (omega arith))))
-      (λ e. rw e (ap suc (i .0), ap suc (i .1), cc (leb·suc-suc (suc (placeOf v (take n vs))) (min n (length vs)), i .2))) (tested (eqb a v)))
+  found : (n : ℕ) (vs ss ts : List ℕ) → Found vs ss ts (heldIn vs ss ts n)
+  found zero vs ss ts = (refl, refl)
+  found (suc n) [] ss ts = (refl, refl)
+  found (suc n) (a ∷ vs) [] ts = (refl, refl)
+  found (suc n) (a ∷ vs) (s ∷ ss) [] = (refl, refl)
+  found (suc n) (a ∷ vs) (s ∷ ss) (t ∷ ts) =
+      let es : List Report = heldIn vs ss ts n in
+      let i : Found vs ss ts es = found n vs ss ts in
+      ⊎-elim (λ e. rw e (refl, cc (lt-ltb 0 (suc (length es)) (omega arith))))
+      (λ e. rw e (ap suc (i .0), cc (leb·suc-suc (suc (placeOf v (take (length es) vs))) (length es), i .1))) (tested (eqb a v))
 
--- what the code knows of a table: its arrays are full, n places are in use, and p is the place of v among them
-pub record Scanned (t : PathTable) (v n p : ℕ) : Type 0 where
-  pub neighbours : length (t .neighbours) ≡ mostNeighbours
-  pub sizes : length (t .sizes) ≡ mostNeighbours
-  pub times : length (t .times) ≡ mostNeighbours
-  pub count : n ≡ min (t .count) mostNeighbours
-  pub place : p ≡ placeOf v (take n (t .neighbours))
+-- three arrays hold as many reports as the shortest is long
+rows-length : (vs ss ts : List ℕ) → length (rows vs ss ts) ≡ min (min (length vs) (length ss)) (length ts)
+rows-length [] ss ts = rw (zero-min (length ss)) (sym (zero-min (length ts)))
+rows-length (v ∷ vs) [] ts = omega arith
+rows-length (v ∷ vs) (s ∷ ss) [] = omega arith
+rows-length (v ∷ vs) (s ∷ ss) (t ∷ ts) = omega (arith, rows-length vs ss ts)
 
-module _ {t : PathTable} {v n p : ℕ} (c : Scanned t v n p) (now : ℕ) where
-  reads : Found v (t .count) (t .neighbours) (t .sizes) (t .times) (held t)
-  reads = found v (t .count) (t .neighbours) (t .sizes) (t .times) (cc) (cc)
+-- what the code knows of three arrays: n places are in use, and p is the place of v among them
+pub record Scanned (vs ss ts : List ℕ) (count v n p : ℕ) : Type 0 where
+  pub used : n ≡ min count (min (min (length vs) (length ss)) (length ts))
+  pub place : p ≡ placeOf v (take n vs)
 
-  in-use : p ≡ placeOf v (take (t .count) (t .neighbours))
-  in-use =
-      let l : n ≡ length (take (t .count) (t .neighbours)) = omega (arith, length-take (t .count) (t .neighbours)) in
-      c .place ∙ ap (λ (k : ℕ). placeOf v (take k (t .neighbours))) l ∙ ap (placeOf v) (take-length-take (t .count) (t .neighbours))
+module _ {vs ss ts : List ℕ} {count v n p : ℕ} (c : Scanned vs ss ts count v n p) (now : ℕ) where
+  number : n ≡ length (heldIn vs ss ts count)
+  number = omega (arith, c .used, length-take count (rows vs ss ts), rows-length vs ss ts)
 
-  pub kept-at : keptIn t v now ≡ cond (ltb p n) (whileYoung (getD (t .sizes) p 0) (getD (t .times) p 0) now) Nothing
-  unfolding keptIn
-  kept-at =
-      let m : n ≡ min (t .count) (length (t .neighbours)) = omega arith in
-      let e : Report = rowAt (t .neighbours) (t .sizes) (t .times) p in
-      let l : lastOf v (held t) ≡ cond (ltb p n) (some e) none = rw (in-use, m) (reads .2) in
-      ap (λ (o : Option Report). keptFrom o now) l ∙ keptFrom-cond (ltb p n) (some e) now
+  reads : (placeIn v (heldIn vs ss ts count) ≡ p) × (lastOf v (heldIn vs ss ts count) ≡ cond (ltb p n) (some (rowAt vs ss ts p)) none)
+  reads = rw (c .place, number) (found v count vs ss ts)
 
-  pub made : (size q m : ℕ) (ns cs ks : List ℕ) → q ≡ min p (mostNeighbours - 1) → m ≡ max n (suc q)
-      → ns ≡ pushed v q (t .neighbours) → cs ≡ pushed size q (t .sizes) → ks ≡ pushed now q (t .times)
-      → _≡_ {A = PathTable} (record { neighbours = ns; sizes = cs; times = ks; count = m }) (tableAfter t v size now)
+  pub kept-at : keptAmong vs ss ts count v now ≡ cond (ltb p n) (whileYoung (getD ss p 0) (getD ts p 0) now) Nothing
+  unfolding keptAmong
+  kept-at = ap (λ (o : Option Report). keptFrom o now) (reads .1) ∙ keptFrom-cond (ltb p n) (some (rowAt vs ss ts p)) now
+
+  pub made : (size q m : ℕ) (ns cs ks : List ℕ) → q ≡ min p (mostNeighbours - 1) → m ≡ max n (suc q) → ns ≡ pushed v q vs → cs ≡ pushed size q ss → ks ≡ pushed now q ts
+      → _≡_ {A = PathTable} (record { neighbours = ns; sizes = cs; times = ks; count = m }) (tableAfter (record { neighbours = vs; sizes = ss; times = ts; count = count }) v size now)
   unfolding tableAfter
   made size q m ns cs ks hq hm hns hcs hks =
-      let e : q ≡ min (placeIn v (held t)) (mostNeighbours - 1) = omega (arith, in-use, reads .1) in
-      let f : m ≡ max (length (held t)) (suc q) = omega (arith, reads .0) in
+      let e : q ≡ min (placeIn v (heldIn vs ss ts count)) (mostNeighbours - 1) = omega (arith, reads .0) in
+      let f : m ≡ max (length (heldIn vs ss ts count)) (suc q) = omega (arith, number) in
       cc
 
 -- an empty table keeps nothing

@@ -21,9 +21,17 @@ rows (v ∷ vs) [] times = []
 rows (v ∷ vs) (s ∷ ss) [] = []
 rows (v ∷ vs) (s ∷ ss) (t ∷ ts) = record { neighbour = v; size = s; time = t } ∷ rows vs ss ts
 
--- the reports of the table: those of the places in use
+-- the reports of the first n places: of those in use, where n is their count
+abbrev pub heldIn : List ℕ → List ℕ → List ℕ → ℕ → List Report
+heldIn neighbours sizes times n = take n (rows neighbours sizes times)
+
+-- the reports of the table
 abbrev pub held : PathTable → List Report
-held t = take (t .count) (rows (t .neighbours) (t .sizes) (t .times))
+held t = heldIn (t .neighbours) (t .sizes) (t .times) (t .count)
+
+-- the size kept toward v in the first n places
+unfoldable pub keptAmong : List ℕ → List ℕ → List ℕ → ℕ → ℕ → ℕ → Kept
+keptAmong neighbours sizes times n v now = keptFrom (lastOf v (heldIn neighbours sizes times n)) now
 
 -- the size kept toward v
 unfoldable pub keptIn : PathTable → ℕ → ℕ → Kept

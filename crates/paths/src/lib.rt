@@ -9,7 +9,7 @@ use rows::push_size;
 ghost use mathlib.Core.Path.{_≡_};
 ghost use Prim.Native.Nat.{min, max};
 ghost use Rattle.paths.specs.Kept.{whileYoung, inForce};
-ghost use Rattle.paths.specs.Table.{noReports, keptIn, tableAfter};
+ghost use Rattle.paths.specs.Table.{noReports, keptAmong, keptIn, tableAfter};
 
 // How many neighbours are kept.
 const NEIGHBOURS: usize = 64;
@@ -51,7 +51,7 @@ impl PathTable {
         }
     }
 
-    // The size kept toward a neighbour at a time. No row of the table is copied that is not read, and none of an empty one.
+    // The size kept toward a neighbour at a time. Of a table by value a row is copied where it is read; kept_among copies none.
     pub fn kept(self, neighbour: u32, now: u32) -> Kept
         ensures { λ r. ⌜ r ≡ keptIn self neighbour now ⌝ }
     {
@@ -81,6 +81,27 @@ impl PathTable {
         push_number(&mut self.times, now, last);
         self.count = most(count, last + 1);
         self
+    }
+}
+
+// The size kept toward a neighbour at a time, of a table whose rows are lent: one pass over the places in use, and nothing is copied.
+pub fn kept_among<'a>(
+    neighbours: &'a [u32],
+    sizes: &'a [u16],
+    times: &'a [u32],
+    count: usize,
+    neighbour: u32,
+    time: u32,
+) -> Kept
+    ensures { λ r. ⌜ r ≡ keptAmong (now (neighbours .entry)) (now (sizes .entry)) (now (times .entry)) count neighbour time ⌝ }
+{
+    let places = least(least(neighbours.len(), sizes.len()), times.len());
+    let used = least(count, places);
+    let p = place(neighbours, used, neighbour);
+    if p < used {
+        while_young(sizes[p], times[p], time)
+    } else {
+        Kept::Nothing
     }
 }
 

@@ -1,20 +1,21 @@
 use native.Mathlib.Omega.{arith}
+use mathlib.Core.Path.{_≡_}
 use borrow.Author.Needs.{needs}
+use lib.ListN.{length}
+use Rattle.paths.specs.Kept.{mostNeighbours}
 use Rattle.paths.proofs.Arrays.{Scanned, made}
 use Rattle.paths.proofs.PathTable.accepted.Statement.{statement}
 use Rattle.paths.proofs.PathTable.accepted.Tie as tie
 
 scanned : (c : tie.After-place)
-    → Scanned (c .before .before .before .before .before .args .t1) (c .before .before .before .before .before .args .neighbour)
-    (c .before .before .before .before .least .result) (c .place .result)
+    → let a = c .before .before .before .before .before .args in
+    Scanned (a .t1 .neighbours) (a .t1 .sizes) (a .t1 .times) (a .t1 .count) (a .neighbour) (c .before .before .before .before .least .result) (c .place .result)
 scanned c =
-    record {
-      neighbours = search needs;
-      sizes = search needs;
-      times = search needs;
-      count = c .before .before .before .before .least .ensures;
-      place = c .place .ensures;
-    }
+    let t = c .before .before .before .before .before .args .t1 in
+    let neighbours : length (t .neighbours) ≡ mostNeighbours = search needs in
+    let sizes : length (t .sizes) ≡ mostNeighbours = search needs in
+    let times : length (t .times) ≡ mostNeighbours = search needs in
+    record { used = omega arith; place = c .place .ensures }
 
 returns : tie.Need-returns
 returns c =

@@ -1,0 +1,28 @@
+use native.Mathlib.Omega.{arith}
+use borrow.Author.Needs.{needs}
+use borrow.Author.Tests.{lt-ltb, le-ltb}
+use Rattle.paths.proofs.Arrays.{Scanned, kept-at}
+use Rattle.paths.proofs.kept_among.Statement.{statement}
+use Rattle.paths.proofs.kept_among.Tie as tie
+
+scanned : (c : tie.After-place)
+    → let a = c .before .before .before .before .before .before .before .args in
+    Scanned (a .neighbours .now) (a .sizes .now) (a .times .now) (a .count) (a .neighbour) (c .before .least3 .result) (c .place .result)
+scanned c = record { used = omega arith; place = c .place .ensures }
+
+returns : tie.Need-returns
+returns c =
+    let p = c .before .before .before .before in
+    rw (kept-at (scanned p) (p .before .before .before .before .before .before .before .args .time), lt-ltb _ _ (c .before .before .before .if1 .taken))
+    (c .while-young .ensures)
+
+returns-2 : tie.Need-returns-2
+returns-2 c =
+    let p = c .before in
+    rw (kept-at (scanned p) (p .before .before .before .before .before .before .before .args .time), le-ltb _ _ (c .if1 .left))
+
+pub kept-among-spec : {M : Type 1} → statement M
+kept-among-spec =
+    tie.close
+    (tie.spec (λ c κs. search needs) (λ c κs. search needs) (λ c κs. search needs) (omega arith) (λ c. search needs) (omega arith) (λ c. search needs) (omega arith)
+    (λ c κs. search needs) returns returns-2)
