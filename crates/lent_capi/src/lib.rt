@@ -17,12 +17,20 @@ ghost use Rattle.node.specs.Send.{sendOutput};
 ghost use Rattle.capi.specs.Calls.{receivedIn, sentIn, reportedIn, replacedIn, askedIn, heardIn};
 ghost use Rattle.lent_capi.specs.Steps.{sentAnswer, reportedAnswer, askedAnswer, heardAnswer};
 
-// The size in force toward a neighbour: Node::path_size.
+// The size in force toward a neighbour: Node::path_size. The rows of the path table are lent to the search, so that none is copied.
 #[no_mangle]
 pub extern "C" fn bogtrumpet_path_size_in(node: &Node, neighbour: u32) -> u16
     ensures { λ r. ⌜ r ≡ sizeOf (now (node .entry)) neighbour ⌝ }
 {
-    (*node).path_size(neighbour)
+    steps::size_among(
+        node.service.settings.link_size,
+        &node.paths.neighbours,
+        &node.paths.sizes,
+        &node.paths.times,
+        node.paths.count,
+        neighbour,
+        node.latest,
+    )
 }
 
 // Where in the datagram the inner packet stands: Node::receive.

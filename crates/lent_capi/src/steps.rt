@@ -5,6 +5,8 @@ ghost use mathlib.Core.Path.{_≡_};
 ghost use lib.ListN.{length};
 ghost use Rattle.node.specs.Ask.{askOutput};
 ghost use Rattle.node.specs.Send.{sendOutput};
+ghost use Rattle.paths.specs.Kept.{inForce};
+ghost use Rattle.paths.specs.Table.{keptAmong};
 ghost use Rattle.capi.specs.Calls.{sentIn, reportedIn, askedIn, heardIn};
 ghost use Rattle.lent_capi.specs.Steps.{sendStep, reportStep, askedStep, heardStep};
 
@@ -46,6 +48,22 @@ pub struct RouterIn {
 pub struct RouterStep {
     pub answer: RouterIn,
     pub node: Node,
+}
+
+// The size in force toward a neighbour, of a path table whose rows are lent: paths::kept_among.
+pub fn size_among<'a>(
+    link: u16,
+    neighbours: &'a [u32],
+    sizes: &'a [u16],
+    times: &'a [u32],
+    count: usize,
+    neighbour: u32,
+    time: u32,
+) -> u16
+    ensures { λ r. ⌜ r ≡ inForce link (keptAmong (now (neighbours .entry)) (now (sizes .entry)) (now (times .entry)) count neighbour time) ⌝ }
+{
+    let kept = paths::kept_among(neighbours, sizes, times, count, neighbour, time);
+    paths::in_force(link, kept)
 }
 
 // What a sending answers and changes: capi::bogtrumpet_send.

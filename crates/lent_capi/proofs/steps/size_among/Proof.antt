@@ -1,0 +1,9 @@
+use borrow.Author.Needs.{needs}
+use Rattle.lent_capi.proofs.steps.size_among.Statement.{statement}
+use Rattle.lent_capi.proofs.steps.size_among.Tie as tie
+
+returns : tie.Need-returns
+returns c = rw (c .in-force .ensures, c .before .kept-among .ensures)
+
+pub size-among-spec : {M : Type 1} → statement M
+size-among-spec = tie.close (tie.spec (λ c κs. search needs) (λ c κs. search needs) returns)
