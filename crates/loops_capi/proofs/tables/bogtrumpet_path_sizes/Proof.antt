@@ -3,23 +3,25 @@ use mathlib.Core.Path.{_≡_}
 use Prim.Native.Nat.{_≤_, _*_, _-_}
 use native.Mathlib.Numerals.{add-one}
 use native.Mathlib.Omega.{arith}
+use Rattle.paths.specs.Table.{keptAmong, keptIn}
 use Rattle.loops_capi.specs.Tables.{sizesToward}
 use Rattle.loops_capi.proofs.tables.bogtrumpet_path_sizes.Statement.{statement}
 use Rattle.loops_capi.proofs.tables.bogtrumpet_path_sizes.Tie as tie
 
 abbrev Inv-loop : tie.InvT-loop
-Inv-loop table link first count now sum₀ i₀ sum i = (i ≤ count) × (sum ≤ 65535 * i) × (sum ≡ sizesToward table link first now i)
+Inv-loop link first count now table sum₀ i₀ sum i = (i ≤ count) × (sum ≤ 65535 * i) × (sum ≡ sizesToward table link first now i)
 
 abbrev μ-loop : tie.MeasureT-loop
-μ-loop table link first count now sum₀ i₀ sum i = count - i
+μ-loop link first count now table sum₀ i₀ sum i = count - i
 
 loop-again : tie.Need-loop-again Inv-loop μ-loop
+unfolding keptAmong keptIn
 loop-again c =
     let f = c .before in
     let k = f .before in
-    let w = k .before in
+    let w = k .before .before .before .before .before .before .before .before in
     let l = w .before .before .loop in
-    (omega arith, omega arith, rw (add-one (l .i), c .wide .ensures .0, f .in-force .ensures, k .kept .ensures, w .wrapping-add-u32 .ensures, l .inv .2))
+    (omega arith, omega arith, rw (add-one (l .i), c .wide .ensures .0, f .in-force .ensures, k .kept-among .ensures, w .wrapping-add-u32 .ensures, l .inv .2))
 
 returns : tie.Need-returns Inv-loop μ-loop
 returns c =

@@ -1,9 +1,11 @@
 use native.Mathlib.Omega.{arith}
+use Rattle.paths.specs.Table.{keptAmong, keptIn}
 use Rattle.loops_capi.proofs.tables.bogtrumpet_table_size.Statement.{statement}
 use Rattle.loops_capi.proofs.tables.bogtrumpet_table_size.Tie as tie
 
 returns : tie.Need-returns
-returns c = rw (c .in-force .ensures, c .before .kept .ensures)
+unfolding keptAmong keptIn
+returns c = rw (c .in-force .ensures, c .before .kept-among .ensures)
 
 pub bogtrumpet-table-size-spec : {M : Type 1} → statement M
 bogtrumpet-table-size-spec = tie.close (tie.spec (omega arith) (omega arith) returns)
