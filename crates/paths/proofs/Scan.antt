@@ -1,30 +1,57 @@
 -- What the loops of the code ask: one more turn of a search, and one more turn of the shift.
-use mathlib.Core.Path.{_≡_, sym, ap, _∙_}
-use mathlib.Core.List.{List, _∷_, _++_}
+use mathlib.Core.Path.{_≡_, refl, sym, ap, _∙_}
+use mathlib.Core.Bool.{Bool, true, false, _||_, or-false}
+use mathlib.Core.List.{List, [], _∷_, _++_}
 use Prim.Native.Nat.{ℕ, suc, _+_, _≤_, _<_}
-use native.Mathlib.Numerals.{add-one}
+use native.Mathlib.Numerals.{add-one, add-two, add-three}
+use native.Mathlib.Nat.{zero-add}
 use native.Mathlib.Omega.{arith}
 use borrow.Author.Tests.{eq-eqb, ne-eqb, lt-ltb, le-ltb}
-use lib.ListN.{length, take, drop, getD, set, length-take, drop-of-length-le}
-use lib.Seq.{drop-cons, take-suc, getD-take, set-at, getD-at, append-snoc, length-take-le}
-use Rattle.paths.specs.Table.{placeOf, pushed}
+use lib.Dec.{eqb}
+use lib.ListN.{length, take, drop, getD, set, length-drop, take-append-drop, drop-of-length-le}
+use lib.Seq.{drop-cons, drop-drop, take-suc, set-at, getD-at, append-snoc, length-take-le}
+use Rattle.lists.specs.Tests.{or-left, or-right}
+use Rattle.paths.specs.Table.{placeOf, together, isAmong, pushed}
 use Rattle.paths.specs.Candidate.{firstBelow}
 use Rattle.paths.specs.declared.Candidate.the-variants.{Size}
 
--- ---- the search for a neighbour among the first n
+-- ---- the search for a neighbour
 
-module _ (v : ℕ) (xs : List ℕ) (n i : ℕ) (inside : i < n) (within : n ≤ length xs) where
-  from : drop i (take n xs) ≡ getD xs i 0 ∷ drop (suc i) (take n xs)
-  from = rw (drop-cons (take n xs) i 0 (omega (arith, length-take n xs)), getD-take n xs i 0 inside)
+module _ (v : ℕ) (xs : List ℕ) (i : ℕ) where
+  pub place-hit : i < length xs → getD xs i 0 ≡ v → placeOf v (drop i xs) ≡ 0
+  place-hit inside h = rw (drop-cons xs i 0 inside) (rw (eq-eqb _ _ h))
 
-  pub place-hit : getD xs i 0 ≡ v → placeOf v (drop i (take n xs)) ≡ 0
-  place-hit h = rw from (rw (eq-eqb _ _ h))
+  pub place-miss : i < length xs → (getD xs i 0 ≡ v → ⊥) → placeOf v (drop i xs) ≡ suc (placeOf v (drop (i + 1) xs))
+  place-miss inside h = rw (add-one i, drop-cons xs i 0 inside) (rw (ne-eqb _ _ h))
 
-  pub place-miss : (getD xs i 0 ≡ v → ⊥) → placeOf v (drop i (take n xs)) ≡ suc (placeOf v (drop (i + 1) (take n xs)))
-  place-miss h = rw (add-one i) (rw from (rw (ne-eqb _ _ h)))
+  pub place-end : length xs ≤ i → placeOf v (drop i xs) ≡ 0
+  place-end l = rw (drop-of-length-le xs l)
 
-pub place-end : (v : ℕ) (xs : List ℕ) (i : ℕ) → length xs ≤ i → placeOf v (drop i xs) ≡ 0
-place-end v xs i l = rw (drop-of-length-le xs l)
+-- four that are compared at once
+four : (xs : List ℕ) (i : ℕ) → i + together ≤ length xs → take together (drop i xs) ≡ getD xs i 0 ∷ getD xs (i + 1) 0 ∷ getD xs (i + 2) 0 ∷ getD xs (i + 3) 0 ∷ []
+four xs i h =
+    rw (drop-cons xs i 0 (omega arith), drop-cons xs (suc i) 0 (omega arith), drop-cons xs (suc (suc i)) 0 (omega arith), drop-cons xs (suc (suc (suc i))) 0 (omega arith),
+    add-one i, add-two i, add-three i)
+
+joined : (a b c d : Bool) → ((a || b) || (c || d)) ≡ (a || (b || (c || (d || false))))
+joined true b c d = refl
+joined false true c d = refl
+joined false false c d = ap (λ (e : Bool). c || e) (sym (or-false d))
+
+pub among-four : (v : ℕ) (xs : List ℕ) (i : ℕ) → i + together ≤ length xs
+    → ((eqb (getD xs i 0) v || eqb (getD xs (i + 1) 0) v) || (eqb (getD xs (i + 2) 0) v || eqb (getD xs (i + 3) 0) v)) ≡ isAmong v (take together (drop i xs))
+among-four v xs i h = rw (four xs i h) (joined (eqb (getD xs i 0) v) (eqb (getD xs (i + 1) 0) v) (eqb (getD xs (i + 2) 0) v) (eqb (getD xs (i + 3) 0) v))
+
+none-in : (v : ℕ) (xs ys : List ℕ) → isAmong v xs ≡ false → placeOf v (xs ++ ys) ≡ length xs + placeOf v ys
+none-in v [] ys h = sym (zero-add (placeOf v ys))
+none-in v (x ∷ xs) ys h = rw (or-left (eqb x v) (isAmong v xs) h) (omega (arith, none-in v xs ys (or-right (eqb x v) (isAmong v xs) h)))
+
+pub four-miss : (v : ℕ) (xs : List ℕ) (i : ℕ) → i + together ≤ length xs → isAmong v (take together (drop i xs)) ≡ false
+    → placeOf v (drop i xs) ≡ together + placeOf v (drop (i + together) xs)
+four-miss v xs i h none =
+    let parts : take together (drop i xs) ++ drop (i + together) xs ≡ drop i xs = rw (← drop-drop together i xs) (take-append-drop together (drop i xs)) in
+    let l : length (take together (drop i xs)) ≡ together = length-take-le together (drop i xs) (omega (arith, length-drop i xs)) in
+    ap (placeOf v) (sym parts) ∙ none-in v (take together (drop i xs)) (drop (i + together) xs) none ∙ rw l
 
 -- ---- the search for a plateau
 

@@ -1,9 +1,10 @@
 -- The path table: accepted reports, the newest first, at most one of each neighbour and at most 64.
 use Prim.Native.Nat.{ℕ, suc, _-_, min, max}
-use mathlib.Core.Bool.{cond}
+use mathlib.Core.Bool.{Bool, cond}
 use mathlib.Core.List.{List, [], _∷_, _++_, map}
 use lib.Dec.{eqb}
 use lib.ListN.{length, take, drop, replicate}
+use Rattle.lists.specs.Any.{anyOf}
 use Rattle.paths.specs.Kept.{Report, mostNeighbours, lastOf, keptFrom}
 use Rattle.paths.specs.declared.Kept.{Kept}
 use Rattle.paths.specs.declared.PathTable.{PathTable}
@@ -41,6 +42,13 @@ keptIn t v now = keptFrom (lastOf v (held t)) now
 abbrev pub placeOf : ℕ → List ℕ → ℕ
 placeOf v [] = 0
 placeOf v (a ∷ others) = cond (eqb a v) 0 (suc (placeOf v others))
+
+-- v is among neighbours, of which so many are compared at once
+abbrev pub together : ℕ
+together = 4
+
+abbrev pub isAmong : ℕ → List ℕ → Bool
+isAmong v others = anyOf (λ a. eqb a v) others
 
 -- the place of v's last report, or the number of reports
 abbrev pub placeIn : ℕ → List Report → ℕ

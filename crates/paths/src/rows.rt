@@ -1,24 +1,59 @@
 // A row of the table: the search for a number, and the shift that makes room for one in front.
 use crate::NEIGHBOURS;
 ghost use mathlib.Core.Path.{_≡_};
-ghost use Prim.Native.Nat.{_<_, _≤_};
-ghost use lib.ListN.{length, take};
+ghost use Prim.Native.Nat.{_<_, _≤_, _+_};
+ghost use lib.ListN.{length, take, drop};
 ghost use Rattle.paths.specs.Kept.{mostNeighbours};
-ghost use Rattle.paths.specs.Table.{placeOf, pushed};
+ghost use Rattle.paths.specs.Table.{placeOf, together, isAmong, pushed};
+
+// How many numbers are compared at once.
+const TOGETHER: usize = 4;
+
+// Whether one of the four numbers from i on is the neighbour's.
+fn in_four(used: &[u32], i: usize, neighbour: u32) -> bool
+    requires { ⌜ i + together ≤ length (now used) ⌝ }
+    ensures { λ r. ⌜ r ≡ isAmong neighbour (take together (drop i (now (used .entry)))) ⌝ }
+{
+    let first = (used[i] == neighbour) | (used[i + 1] == neighbour);
+    let second = (used[i + 2] == neighbour) | (used[i + 3] == neighbour);
+    first | second
+}
+
+// How many numbers, four by four, come before the four that the neighbour's is among, or before the last few.
+fn fours_before(used: &[u32], neighbour: u32) -> usize
+    ensures { λ r. ⌜ (r ≤ length (now (used .entry)))
+        × (placeOf neighbour (now (used .entry)) ≡ r + placeOf neighbour (drop r (now (used .entry)))) ⌝ }
+{
+    let mut i: usize = 0;
+    while TOGETHER <= used.len() - i {
+        if in_four(used, i, neighbour) {
+            return i;
+        }
+        i = i + TOGETHER;
+    }
+    i
+}
+
+// The place of a neighbour, or the number of places.
+fn place_in(used: &[u32], neighbour: u32) -> usize
+    ensures { λ r. ⌜ r ≡ placeOf neighbour (now (used .entry)) ⌝ }
+{
+    let mut i = fours_before(used, neighbour);
+    while i < used.len() {
+        if used[i] == neighbour {
+            return i;
+        }
+        i = i + 1;
+    }
+    i
+}
 
 // The place of a neighbour among the first `count`, or `count`.
 pub(crate) fn place(neighbours: &[u32], count: usize, neighbour: u32) -> usize
     requires { ⌜ count ≤ length (now neighbours) ⌝ }
     ensures { λ r. ⌜ r ≡ placeOf neighbour (take count (now (neighbours .entry))) ⌝ }
 {
-    let mut i: usize = 0;
-    while i < count {
-        if neighbours[i] == neighbour {
-            return i;
-        }
-        i = i + 1;
-    }
-    i
+    place_in(&neighbours[..count], neighbour)
 }
 
 // A row with one more in front, and the one at `last` gone.

@@ -1,39 +1,11 @@
-use mathlib.Core.Path.{_≡_}
-use Prim.Native.Nat.{_+_, _≤_, _-_}
-use native.Mathlib.Omega.{arith}
 use borrow.Author.Needs.{needs}
-use lib.ListN.{take, drop, length-take}
-use Rattle.paths.specs.Table.{placeOf}
-use Rattle.paths.proofs.Scan.{place-hit, place-miss, place-end}
+use mathlib.Core.Path.{sym}
+use lib.Seq.{length-take-le}
 use Rattle.paths.proofs.rows.place.Statement.{statement}
 use Rattle.paths.proofs.rows.place.Tie as tie
 
-abbrev Inv-loop : tie.InvT-loop
-Inv-loop neighbours count neighbour i₀ i =
-    (i ≤ count) × (placeOf neighbour (take count neighbours) ≡ i + placeOf neighbour (drop i (take count neighbours)))
-
-abbrev μ-loop : tie.MeasureT-loop
-μ-loop neighbours count neighbour i₀ i = count - i
-
-returns : tie.Need-returns Inv-loop μ-loop
-returns c =
-    let b = c .before .before .before in
-    let a = b .before .args in
-    omega (arith, place-hit (a .neighbour) (a .neighbours .now) (a .count) (b .loop .i) (omega arith) (omega arith) (c .if1 .taken))
-
-loop-again : tie.Need-loop-again Inv-loop μ-loop
-loop-again c =
-    let b = c .before .before .before in
-    let a = b .before .args in
-    omega (arith, place-miss (a .neighbour) (a .neighbours .now) (a .count) (b .loop .i) (omega arith) (omega arith) (c .if1 .left))
-
-returns-2 : tie.Need-returns-2 Inv-loop μ-loop
-returns-2 c =
-    let b = c .before in
-    let a = b .before .args in
-    omega (arith, place-end (a .neighbour) (take (a .count) (a .neighbours .now)) (b .loop .i) (omega (arith, length-take (a .count) (a .neighbours .now))))
+counted : tie.Need-slice-aggregate-place-in
+counted c = let start = c .before .before in sym (length-take-le (start .args .count) (start .args .neighbours .now) (start .pre))
 
 pub place-spec : {M : Type 1} → statement M
-place-spec =
-    tie.close
-    (tie.spec Inv-loop μ-loop (omega arith) (search needs) (omega arith) returns (omega arith) (omega arith) loop-again returns-2)
+place-spec = tie.close (tie.spec counted (λ c κs. search needs) (λ c. search needs))
