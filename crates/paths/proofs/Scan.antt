@@ -1,6 +1,6 @@
 -- What the loops of the code ask: one more turn of a search, and one more turn of the shift.
 use mathlib.Core.Path.{_≡_, refl, sym, ap, _∙_}
-use mathlib.Core.Bool.{Bool, true, false, _||_, or-false}
+use mathlib.Core.Bool.{Bool, true, false, _||_, or-assoc, or-false}
 use mathlib.Core.List.{List, [], _∷_, _++_}
 use Prim.Native.Nat.{ℕ, suc, _+_, _≤_, _<_}
 use native.Mathlib.Numerals.{add-one, add-two, add-three}
@@ -9,9 +9,9 @@ use native.Mathlib.Omega.{arith}
 use borrow.Author.Tests.{eq-eqb, ne-eqb, lt-ltb, le-ltb}
 use lib.Dec.{eqb}
 use lib.ListN.{length, take, drop, getD, set, length-drop, take-append-drop, drop-of-length-le}
-use lib.Seq.{drop-cons, drop-drop, take-suc, set-at, getD-at, append-snoc, length-take-le}
+use lib.Seq.{drop-cons, drop-drop, take-add, take-suc, set-at, getD-at, append-snoc, length-take-le}
 use Rattle.lists.specs.Tests.{or-left, or-right}
-use Rattle.paths.specs.Table.{placeOf, together, isAmong, pushed}
+use Rattle.paths.specs.Table.{placeOf, half, together, isAmong, pushed}
 use Rattle.paths.specs.Candidate.{firstBelow}
 use Rattle.paths.specs.declared.Candidate.the-variants.{Size}
 
@@ -28,7 +28,7 @@ module _ (v : ℕ) (xs : List ℕ) (i : ℕ) where
   place-end l = rw (drop-of-length-le xs l)
 
 -- four that are compared at once
-four : (xs : List ℕ) (i : ℕ) → i + together ≤ length xs → take together (drop i xs) ≡ getD xs i 0 ∷ getD xs (i + 1) 0 ∷ getD xs (i + 2) 0 ∷ getD xs (i + 3) 0 ∷ []
+four : (xs : List ℕ) (i : ℕ) → i + half ≤ length xs → take half (drop i xs) ≡ getD xs i 0 ∷ getD xs (i + 1) 0 ∷ getD xs (i + 2) 0 ∷ getD xs (i + 3) 0 ∷ []
 four xs i h =
     rw (drop-cons xs i 0 (omega arith), drop-cons xs (suc i) 0 (omega arith), drop-cons xs (suc (suc i)) 0 (omega arith), drop-cons xs (suc (suc (suc i))) 0 (omega arith),
     add-one i, add-two i, add-three i)
@@ -38,17 +38,27 @@ joined true b c d = refl
 joined false true c d = refl
 joined false false c d = ap (λ (e : Bool). c || e) (sym (or-false d))
 
-pub among-four : (v : ℕ) (xs : List ℕ) (i : ℕ) → i + together ≤ length xs
-    → ((eqb (getD xs i 0) v || eqb (getD xs (i + 1) 0) v) || (eqb (getD xs (i + 2) 0) v || eqb (getD xs (i + 3) 0) v)) ≡ isAmong v (take together (drop i xs))
+pub among-four : (v : ℕ) (xs : List ℕ) (i : ℕ) → i + half ≤ length xs
+    → ((eqb (getD xs i 0) v || eqb (getD xs (i + 1) 0) v) || (eqb (getD xs (i + 2) 0) v || eqb (getD xs (i + 3) 0) v)) ≡ isAmong v (take half (drop i xs))
 among-four v xs i h = rw (four xs i h) (joined (eqb (getD xs i 0) v) (eqb (getD xs (i + 1) 0) v) (eqb (getD xs (i + 2) 0) v) (eqb (getD xs (i + 3) 0) v))
+
+-- and eight
+among-both : (v : ℕ) (xs ys : List ℕ) → (isAmong v xs || isAmong v ys) ≡ isAmong v (xs ++ ys)
+among-both v [] ys = refl
+among-both v (x ∷ xs) ys = or-assoc (eqb x v) (isAmong v xs) (isAmong v ys) ∙ ap (λ (e : Bool). eqb x v || e) (among-both v xs ys)
+
+pub among-eight : (v : ℕ) (xs : List ℕ) (i : ℕ) → (isAmong v (take half (drop i xs)) || isAmong v (take half (drop (i + half) xs))) ≡ isAmong v (take together (drop i xs))
+among-eight v xs i =
+    let ys : List ℕ = drop i xs in
+    rw (← drop-drop half i xs) (among-both v (take half ys) (take half (drop half ys)) ∙ ap (isAmong v) (sym (take-add half half ys)))
 
 none-in : (v : ℕ) (xs ys : List ℕ) → isAmong v xs ≡ false → placeOf v (xs ++ ys) ≡ length xs + placeOf v ys
 none-in v [] ys h = sym (zero-add (placeOf v ys))
 none-in v (x ∷ xs) ys h = rw (or-left (eqb x v) (isAmong v xs) h) (omega (arith, none-in v xs ys (or-right (eqb x v) (isAmong v xs) h)))
 
-pub four-miss : (v : ℕ) (xs : List ℕ) (i : ℕ) → i + together ≤ length xs → isAmong v (take together (drop i xs)) ≡ false
+pub eight-miss : (v : ℕ) (xs : List ℕ) (i : ℕ) → i + together ≤ length xs → isAmong v (take together (drop i xs)) ≡ false
     → placeOf v (drop i xs) ≡ together + placeOf v (drop (i + together) xs)
-four-miss v xs i h none =
+eight-miss v xs i h none =
     let parts : take together (drop i xs) ++ drop (i + together) xs ≡ drop i xs = rw (← drop-drop together i xs) (take-append-drop together (drop i xs)) in
     let l : length (take together (drop i xs)) ≡ together = length-take-le together (drop i xs) (omega (arith, length-drop i xs)) in
     ap (placeOf v) (sym parts) ∙ none-in v (take together (drop i xs)) (drop (i + together) xs) none ∙ rw l

@@ -1,5 +1,5 @@
 -- The path table: accepted reports, the newest first, at most one of each neighbour and at most 64.
-use Prim.Native.Nat.{ℕ, suc, _-_, min, max}
+use Prim.Native.Nat.{ℕ, suc, _+_, _-_, min, max}
 use mathlib.Core.Bool.{Bool, cond}
 use mathlib.Core.List.{List, [], _∷_, _++_, map}
 use lib.Dec.{eqb}
@@ -43,10 +43,14 @@ abbrev pub placeOf : ℕ → List ℕ → ℕ
 placeOf v [] = 0
 placeOf v (a ∷ others) = cond (eqb a v) 0 (suc (placeOf v others))
 
--- v is among neighbours, of which so many are compared at once
-abbrev pub together : ℕ
-together = 4
+-- so many neighbours are compared at once, in two halves
+abbrev pub half : ℕ
+half = 4
 
+abbrev pub together : ℕ
+together = half + half
+
+-- v is among neighbours
 abbrev pub isAmong : ℕ → List ℕ → Bool
 isAmong v others = anyOf (λ a. eqb a v) others
 

@@ -4,29 +4,37 @@ ghost use mathlib.Core.Path.{_≡_};
 ghost use Prim.Native.Nat.{_<_, _≤_, _+_};
 ghost use lib.ListN.{length, take, drop};
 ghost use Rattle.paths.specs.Kept.{mostNeighbours};
-ghost use Rattle.paths.specs.Table.{placeOf, together, isAmong, pushed};
+ghost use Rattle.paths.specs.Table.{placeOf, half, together, isAmong, pushed};
 
 // How many numbers are compared at once.
-const TOGETHER: usize = 4;
+const TOGETHER: usize = 8;
 
 // Whether one of the four numbers from i on is the neighbour's.
 fn in_four(used: &[u32], i: usize, neighbour: u32) -> bool
-    requires { ⌜ i + together ≤ length (now used) ⌝ }
-    ensures { λ r. ⌜ r ≡ isAmong neighbour (take together (drop i (now (used .entry)))) ⌝ }
+    requires { ⌜ i + half ≤ length (now used) ⌝ }
+    ensures { λ r. ⌜ r ≡ isAmong neighbour (take half (drop i (now (used .entry)))) ⌝ }
 {
     let first = (used[i] == neighbour) | (used[i + 1] == neighbour);
     let second = (used[i + 2] == neighbour) | (used[i + 3] == neighbour);
     first | second
 }
 
-// How many numbers, four by four, come before the four that the neighbour's is among, or before the last few.
-fn fours_before(used: &[u32], neighbour: u32) -> usize
+// Whether one of those that are compared at once is.
+fn in_eight(used: &[u32], i: usize, neighbour: u32) -> bool
+    requires { ⌜ i + together ≤ length (now used) ⌝ }
+    ensures { λ r. ⌜ r ≡ isAmong neighbour (take together (drop i (now (used .entry)))) ⌝ }
+{
+    in_four(used, i, neighbour) | in_four(used, i + TOGETHER / 2, neighbour)
+}
+
+// How many numbers, eight by eight, come before the eight that the neighbour's is among, or before the last few.
+fn eights_before(used: &[u32], neighbour: u32) -> usize
     ensures { λ r. ⌜ (r ≤ length (now (used .entry)))
         × (placeOf neighbour (now (used .entry)) ≡ r + placeOf neighbour (drop r (now (used .entry)))) ⌝ }
 {
     let mut i: usize = 0;
     while TOGETHER <= used.len() - i {
-        if in_four(used, i, neighbour) {
+        if in_eight(used, i, neighbour) {
             return i;
         }
         i = i + TOGETHER;
@@ -38,7 +46,7 @@ fn fours_before(used: &[u32], neighbour: u32) -> usize
 fn place_in(used: &[u32], neighbour: u32) -> usize
     ensures { λ r. ⌜ r ≡ placeOf neighbour (now (used .entry)) ⌝ }
 {
-    let mut i = fours_before(used, neighbour);
+    let mut i = eights_before(used, neighbour);
     while i < used.len() {
         if used[i] == neighbour {
             return i;

@@ -4,9 +4,9 @@ use native.Mathlib.Omega.{arith}
 use borrow.Author.Needs.{needs}
 use lib.ListN.{length, drop}
 use Rattle.paths.specs.Table.{placeOf}
-use Rattle.paths.proofs.Scan.{four-miss}
-use Rattle.paths.proofs.rows.fours_before.Statement.{statement}
-use Rattle.paths.proofs.rows.fours_before.Tie as tie
+use Rattle.paths.proofs.Scan.{eight-miss}
+use Rattle.paths.proofs.rows.eights_before.Statement.{statement}
+use Rattle.paths.proofs.rows.eights_before.Tie as tie
 
 abbrev Inv-loop : tie.InvT-loop
 Inv-loop used neighbour i₀ i = (i ≤ length used) × (placeOf neighbour used ≡ i + placeOf neighbour (drop i used))
@@ -18,9 +18,9 @@ loop-again : tie.Need-loop-again Inv-loop μ-loop
 loop-again c =
     let b = c .before .before .before in
     let a = b .before .before .args in
-    (omega arith, omega (arith, four-miss (a .neighbour) (a .used .now) (b .loop .i) (omega arith) (sym (c .before .in-four .ensures) ∙ c .if1 .left)))
+    (omega arith, omega (arith, eight-miss (a .neighbour) (a .used .now) (b .loop .i) (omega arith) (sym (c .before .in-eight .ensures) ∙ c .if1 .left)))
 
-pub fours-before-spec : {M : Type 1} → statement M
-fours-before-spec =
+pub eights-before-spec : {M : Type 1} → statement M
+eights-before-spec =
     tie.close
     (tie.spec Inv-loop μ-loop (omega arith) (omega arith) (omega arith) (λ c. c .before .before .before .loop .inv) (omega arith) (omega arith) loop-again (λ c. c .before .loop .inv))
