@@ -30,8 +30,15 @@ module _ (v : ℕ) (xs : List ℕ) (i : ℕ) where
 -- four that are compared at once
 four : (xs : List ℕ) (i : ℕ) → i + half ≤ length xs → take half (drop i xs) ≡ getD xs i 0 ∷ getD xs (i + 1) 0 ∷ getD xs (i + 2) 0 ∷ getD xs (i + 3) 0 ∷ []
 four xs i h =
-    rw (drop-cons xs i 0 (omega arith), drop-cons xs (suc i) 0 (omega arith), drop-cons xs (suc (suc i)) 0 (omega arith), drop-cons xs (suc (suc (suc i))) 0 (omega arith),
-    add-one i, add-two i, add-three i)
+    rw (
+      drop-cons xs i 0 (omega arith),
+      drop-cons xs (suc i) 0 (omega arith),
+      drop-cons xs (suc (suc i)) 0 (omega arith),
+      drop-cons xs (suc (suc (suc i))) 0 (omega arith),
+      add-one i,
+      add-two i,
+      add-three i,
+    )
 
 joined : (a b c d : Bool) → ((a || b) || (c || d)) ≡ (a || (b || (c || (d || false))))
 joined true b c d = refl

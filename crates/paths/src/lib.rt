@@ -4,6 +4,7 @@ pub mod reported;
 mod rows;
 
 use rows::place;
+use rows::place_in_lent;
 use rows::push_number;
 use rows::push_size;
 ghost use mathlib.Core.Path.{_≡_};
@@ -97,7 +98,7 @@ pub fn kept_among<'a>(
 {
     let places = least(least(neighbours.len(), sizes.len()), times.len());
     let used = least(count, places);
-    let p = place(neighbours, used, neighbour);
+    let p = place_in_lent(neighbours, used, neighbour);
     if p < used {
         while_young(sizes[p], times[p], time)
     } else {

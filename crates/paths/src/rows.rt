@@ -42,11 +42,12 @@ fn eights_before(used: &[u32], neighbour: u32) -> usize
     i
 }
 
-// The place of a neighbour, or the number of places.
-fn place_in(used: &[u32], neighbour: u32) -> usize
+// The place of a neighbour, or the number of places, where it is known not to be before `start`.
+fn place_from(used: &[u32], start: usize, neighbour: u32) -> usize
+    requires { ⌜ (start ≤ length (now used)) × (placeOf neighbour (now used) ≡ start + placeOf neighbour (drop start (now used))) ⌝ }
     ensures { λ r. ⌜ r ≡ placeOf neighbour (now (used .entry)) ⌝ }
 {
-    let mut i = eights_before(used, neighbour);
+    let mut i = start;
     while i < used.len() {
         if used[i] == neighbour {
             return i;
@@ -56,12 +57,22 @@ fn place_in(used: &[u32], neighbour: u32) -> usize
     i
 }
 
-// The place of a neighbour among the first `count`, or `count`.
+// The place of a neighbour among the first `count`, or `count`. For a row of its own: the compiler, which knows that all of it may be
+// read, compares several numbers at once by itself.
 pub(crate) fn place(neighbours: &[u32], count: usize, neighbour: u32) -> usize
     requires { ⌜ count ≤ length (now neighbours) ⌝ }
     ensures { λ r. ⌜ r ≡ placeOf neighbour (take count (now (neighbours .entry))) ⌝ }
 {
-    place_in(&neighbours[..count], neighbour)
+    place_from(&neighbours[..count], 0, neighbour)
+}
+
+// The same for a lent row.
+pub(crate) fn place_in_lent(neighbours: &[u32], count: usize, neighbour: u32) -> usize
+    requires { ⌜ count ≤ length (now neighbours) ⌝ }
+    ensures { λ r. ⌜ r ≡ placeOf neighbour (take count (now (neighbours .entry))) ⌝ }
+{
+    let used = &neighbours[..count];
+    place_from(used, eights_before(used, neighbour), neighbour)
 }
 
 // A row with one more in front, and the one at `last` gone.

@@ -5,10 +5,10 @@ use Rattle.paths.proofs.Arrays.{Scanned, kept-at}
 use Rattle.paths.proofs.kept_among.Statement.{statement}
 use Rattle.paths.proofs.kept_among.Tie as tie
 
-scanned : (c : tie.After-place)
+scanned : (c : tie.After-place-in-lent)
     → let a = c .before .before .before .before .before .before .before .args in
-    Scanned (a .neighbours .now) (a .sizes .now) (a .times .now) (a .count) (a .neighbour) (c .before .least3 .result) (c .place .result)
-scanned c = record { used = omega arith; place = c .place .ensures }
+    Scanned (a .neighbours .now) (a .sizes .now) (a .times .now) (a .count) (a .neighbour) (c .before .least3 .result) (c .place-in-lent .result)
+scanned c = record { used = omega arith; place = c .place-in-lent .ensures }
 
 returns : tie.Need-returns
 returns c =

@@ -5,34 +5,34 @@ use borrow.Author.Needs.{needs}
 use lib.ListN.{length, drop}
 use Rattle.paths.specs.Table.{placeOf}
 use Rattle.paths.proofs.Scan.{place-hit, place-miss, place-end}
-use Rattle.paths.proofs.rows.place_in.Statement.{statement}
-use Rattle.paths.proofs.rows.place_in.Tie as tie
+use Rattle.paths.proofs.rows.place_from.Statement.{statement}
+use Rattle.paths.proofs.rows.place_from.Tie as tie
 
 abbrev Inv-loop : tie.InvT-loop
-Inv-loop used neighbour i₀ i = (i ≤ length used) × (placeOf neighbour used ≡ i + placeOf neighbour (drop i used))
+Inv-loop used start neighbour i₀ i = (i ≤ length used) × (placeOf neighbour used ≡ i + placeOf neighbour (drop i used))
 
 abbrev μ-loop : tie.MeasureT-loop
-μ-loop used neighbour i₀ i = length used - i
+μ-loop used start neighbour i₀ i = length used - i
 
 returns : tie.Need-returns Inv-loop μ-loop
 returns c =
     let b = c .before .before .before in
-    let a = b .before .before .before .args in
+    let a = b .before .args in
     omega (arith, place-hit (a .neighbour) (a .used .now) (b .loop .i) (omega arith) (c .if1 .taken))
 
 loop-again : tie.Need-loop-again Inv-loop μ-loop
 loop-again c =
     let b = c .before .before .before in
-    let a = b .before .before .before .args in
+    let a = b .before .args in
     omega (arith, place-miss (a .neighbour) (a .used .now) (b .loop .i) (omega arith) (c .if1 .left))
 
 returns-2 : tie.Need-returns-2 Inv-loop μ-loop
 returns-2 c =
     let b = c .before in
-    let a = b .before .before .before .args in
+    let a = b .before .args in
     omega (arith, place-end (a .neighbour) (a .used .now) (b .loop .i) (omega arith))
 
-pub place-in-spec : {M : Type 1} → statement M
-place-in-spec =
+pub place-from-spec : {M : Type 1} → statement M
+place-from-spec =
     tie.close
-    (tie.spec Inv-loop μ-loop (search needs) (omega arith) (search needs) (omega arith) returns (omega arith) (omega arith) loop-again returns-2)
+    (tie.spec Inv-loop μ-loop (omega arith) (search needs) (omega arith) returns (omega arith) (omega arith) loop-again returns-2)
