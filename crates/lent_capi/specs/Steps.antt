@@ -1,5 +1,10 @@
 -- The calls on a lent node (document 01: "A call takes the node's state and hands back the next state"): the next state stands where the
 -- node stood, and the answer is what is left.
+use Prim.Native.Nat.{ℕ}
+use mathlib.Core.List.{List}
+use Rattle.sending.specs.Sending.{sentOf}
+use Rattle.node.specs.declared.Node.{Node}
+use Rattle.capi.specs.Answers.{plainSent}
 use Rattle.capi.specs.declared.answers.Asked.{Asked}
 use Rattle.capi.specs.declared.answers.Heard.{Heard}
 use Rattle.capi.specs.declared.answers.Reported.{Reported}
@@ -15,9 +20,11 @@ use Rattle.lent_capi.specs.declared.steps.RouterStep.{RouterStep}
 abbrev pub sentAnswer : Sent → SentIn
 sentAnswer s = record { number = s .number; size = s .size; length = s .length }
 
--- document 01, "Sending": the same, and what a sending changes of the node
-unfoldable pub sendStep : Sent → SendStep
-sendStep s = record { answer = sentAnswer s; identification = s .node .service .identification; latest = s .node .latest }
+-- document 01, "Sending": the same of a sending over a path of that size, and the next identification
+unfoldable pub sendStep : Node → ℕ → List ℕ → List ℕ → ℕ → ℕ → SendStep
+sendStep node size packet hop k room =
+    let sent = sentOf (node .service .settings) (node .service .identification) size packet hop k room in
+    record { answer = sentAnswer (plainSent (sent .answer) node); identification = sent .identification }
 
 -- document 01, "Path size": what is given back to a size report, without the node
 abbrev pub reportedAnswer : Reported → ReportedIn

@@ -12,8 +12,8 @@ use steps::SentIn;
 ghost use mathlib.Core.Path.{_≡_};
 ghost use lib.ListN.{length};
 ghost use Rattle.node.specs.Ask.{askOutput};
-ghost use Rattle.node.specs.Node.{sizeOf};
-ghost use Rattle.node.specs.Send.{sendOutput};
+ghost use Rattle.node.specs.Node.{raisedTo, sizeOf};
+ghost use Rattle.node.specs.Send.{sizeToward, sendOutput};
 ghost use Rattle.capi.specs.Calls.{receivedIn, sentIn, reportedIn, replacedIn, askedIn, heardIn};
 ghost use Rattle.lent_capi.specs.Steps.{sentAnswer, reportedAnswer, askedAnswer, heardAnswer};
 
@@ -41,6 +41,15 @@ pub extern "C" fn bogtrumpet_receive_in(node: &Node, d: &[u8], interface: u8) ->
     capi::bogtrumpet_receive(*node, d, interface)
 }
 
+// The size in force toward the tunnel end of a next hop, after the node's latest time is raised.
+fn path_size_toward(node: &mut Node, next_hop: Address, time: u32) -> u16
+    ensures { λ r. ⌜ (r ≡ sizeToward (now (node .entry)) («next_hop» .bytes) time)
+        × (now (node .exit) ≡ raisedTo (now (node .entry)) time) ⌝ }
+{
+    node.latest = steps::later(node.latest, time);
+    bogtrumpet_path_size_in(node, steps::tunnel_end(next_hop))
+}
+
 // Sends a packet: Node::send. Of the node only the next identification and the latest time are written.
 #[no_mangle]
 pub extern "C" fn bogtrumpet_send_in(
@@ -55,9 +64,9 @@ pub extern "C" fn bogtrumpet_send_in(
         × (now (node .exit) ≡ sentIn (now (node .entry)) (now (packet .entry)) («next_hop» .bytes) locator time (length (now (out .entry))) .node)
         × (now (out .exit) ≡ sendOutput (now (node .entry)) (now (packet .entry)) («next_hop» .bytes) locator time (now (out .entry))) ⌝ }
 {
-    let step = steps::sent(*node, packet, next_hop, locator, time, out);
+    let size = path_size_toward(node, next_hop, time);
+    let step = steps::sent(*node, size, packet, next_hop, locator, out);
     node.service.identification = step.identification;
-    node.latest = step.latest;
     step.answer
 }
 

@@ -1,13 +1,16 @@
 // A call's answer without the node, and beside it what the call changes of the node: what the functions over a lent node give and store.
 use capi::Address;
+use capi::answers;
 use node::Node;
 ghost use mathlib.Core.Path.{_≡_};
+ghost use Prim.Native.Nat.{max};
 ghost use lib.ListN.{length};
+ghost use Rattle.address.specs.Address.{lastQuad};
 ghost use Rattle.node.specs.Ask.{askOutput};
-ghost use Rattle.node.specs.Send.{sendOutput};
 ghost use Rattle.paths.specs.Kept.{inForce};
 ghost use Rattle.paths.specs.Table.{keptAmong};
-ghost use Rattle.capi.specs.Calls.{sentIn, reportedIn, askedIn, heardIn};
+ghost use Rattle.sending.specs.Sending.{sentOutput};
+ghost use Rattle.capi.specs.Calls.{reportedIn, askedIn, heardIn};
 ghost use Rattle.lent_capi.specs.Steps.{sendStep, reportStep, askedStep, heardStep};
 
 // The answer to a sending. The length written; with 14 also the size M.
@@ -18,11 +21,10 @@ pub struct SentIn {
     pub length: usize,
 }
 
-// What a sending changes of the node, beside its answer.
+// What a sending changes of the node but for the latest time, beside its answer.
 pub struct SendStep {
     pub answer: SentIn,
     pub identification: u16,
-    pub latest: u32,
 }
 
 // The answer to a size report.
@@ -66,30 +68,55 @@ pub fn size_among<'a>(
     paths::in_force(link, kept)
 }
 
-// What a sending answers and changes: capi::bogtrumpet_send.
+// The later of two times.
+pub fn later(a: u32, b: u32) -> u32
+    ensures { λ r. ⌜ r ≡ max a b ⌝ }
+{
+    if a < b { b } else { a }
+}
+
+// The tunnel end toward a next hop: its last 32 bits.
+pub fn tunnel_end(next_hop: Address) -> u32
+    ensures { λ r. ⌜ r ≡ lastQuad («next_hop» .bytes) ⌝ }
+{
+    let bytes = next_hop.bytes;
+    address::last_quad(bytes)
+}
+
+// What a sending over a path of that size answers, and the next identification: sending::send.
 pub fn sent(
     n: Node,
+    path_size: u16,
     packet: &[u8],
     next_hop: Address,
     locator: usize,
-    time: u32,
     out: &mut [u8],
 ) -> SendStep
-    ensures { λ r. ⌜ (r ≡ sendStep (sentIn n (now (packet .entry)) («next_hop» .bytes) locator time (length (now (out .entry)))))
-        × (now (out .exit) ≡ sendOutput n (now (packet .entry)) («next_hop» .bytes) locator time (now (out .entry))) ⌝ }
+    ensures { λ r. ⌜ (r ≡ sendStep n «path_size» (now (packet .entry)) («next_hop» .bytes) locator (length (now (out .entry))))
+        × (now (out .exit) ≡ sentOutput (n .service .settings) (n .service .identification) «path_size» (now (packet .entry)) («next_hop» .bytes) locator (now (out .entry))) ⌝ }
 {
-    let sent = capi::bogtrumpet_send(n, packet, next_hop, locator, time, out);
-    let next = sent.node;
-    let service = next.service;
+    let service = n.service;
+    let settings = service.settings;
+    let bytes = next_hop.bytes;
+    let sent = sending::send(
+        settings,
+        service.identification,
+        path_size,
+        packet,
+        bytes,
+        locator,
+        out,
+    );
+    let given = sent.answer;
+    let plain = answers::plain_sent(given, n);
     let answer = SentIn {
-        number: sent.number,
-        size: sent.size,
-        length: sent.length,
+        number: plain.number,
+        size: plain.size,
+        length: plain.length,
     };
     SendStep {
         answer,
-        identification: service.identification,
-        latest: next.latest,
+        identification: sent.identification,
     }
 }
 

@@ -1,4 +1,4 @@
--- `steps::sent` meets its contract: what `capi::bogtrumpet_send` answers, and what it changes of the node. Assumes nothing.
+-- `steps::sent` meets its contract: what `sending::send` answers over a path of that size, made plain, and its output. Assumes nothing.
 use native.Mathlib.Omega.{arith}
 use Rattle.lent_capi.specs.Steps.{sendStep}
 use Rattle.lent_capi.proofs.steps.sent.Statement.{statement}
@@ -7,8 +7,8 @@ use Rattle.lent_capi.proofs.steps.sent.Tie as tie
 returns : tie.Need-returns
 unfolding sendStep
 returns c =
-    let sent = c .before .before .before .before .bogtrumpet-send in
-    (rw (sent .ensures .0), sent .ensures .1)
+    let sent = c .before .before .before .send in
+    (rw (c .plain-sent .ensures, sent .ensures .0), sent .ensures .1)
 
 pub sent-spec : {M : Type 1} → statement M
-sent-spec = tie.close (tie.spec (omega arith) (omega arith) returns)
+sent-spec = tie.close (tie.spec (omega arith) (omega arith) (omega arith) returns)
