@@ -120,7 +120,10 @@ pub fn check_outer(n: usize, d: &[u8], o: Outer) -> Check
 pub fn read_outer(d: &[u8]) -> OuterRead
     ensures { λ r. ⌜ r ≡ outerReadOf (now (d .entry)) ⌝ }
 {
-    let o = outer_header(d);
+    if d.len() < 20 {
+        return OuterRead::Refused(Refusal::OuterMalformed);
+    }
+    let o = full_header(d);
     let check = check_outer(d.len(), d, o);
     match check {
         Check::Pass => OuterRead::Header(o),

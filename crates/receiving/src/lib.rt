@@ -5,6 +5,7 @@ use header::inner;
 use header::inner::Inner;
 use header::outer;
 use header::outer::Outer;
+use header::outer::OuterRead;
 use refusals::Check;
 use refusals::Refusal;
 use routers::RouterList;
@@ -130,14 +131,10 @@ fn arrive(settings: Settings, routers: RouterList, d: &[u8], interface: u8, o: O
 pub fn receive(settings: Settings, routers: RouterList, d: &[u8], interface: u8) -> Received
     ensures { λ r. ⌜ r ≡ receivedOf settings (live routers) (now (d .entry)) interface ⌝ }
 {
-    if d.len() < 20 {
-        return Received::Refused(Refusal::OuterMalformed);
-    }
-    let o = outer::outer_header(d);
-    let check = outer::check_outer(d.len(), d, o);
-    match check {
-        Check::Pass => arrive(settings, routers, d, interface, o),
-        Check::Stop(refusal) => Received::Refused(refusal),
+    let read = outer::read_outer(d);
+    match read {
+        OuterRead::Header(o) => arrive(settings, routers, d, interface, o),
+        OuterRead::Refused(refusal) => Received::Refused(refusal),
     }
 }
 

@@ -1,25 +1,42 @@
--- `receiving::receive` meets its contract: by its length, and by cases on the check. Assumes nothing.
+-- `receiving::receive` meets its contract: by cases on the outer header that is read. Assumes nothing.
+use mathlib.Core.Path.{_≡_, refl}
 use borrow.Author.Needs.{needs}
-use borrow.Author.Tests.{lt-ltb}
 use native.Mathlib.Omega.{arith}
-use Rattle.header.specs.Outer.{isOuterMalformed, outerCheck}
-use Rattle.receiving.specs.Receive.{receivedOf}
+use mathlib.Core.List.{List}
+use lib.ListN.{length}
+use Prim.Native.Nat.{ℕ}
+use Rattle.header.specs.Outer.{outerOf, outerCheck, outerReadOf, readWith}
+use Rattle.header.specs.declared.outer.Outer.{Outer}
+use Rattle.header.specs.declared.outer.OuterRead.{OuterRead}
+use Rattle.header.specs.declared.outer.OuterRead.the-variants as read
+use Rattle.refusals.specs.declared.Check.{Check}
+use Rattle.refusals.specs.declared.Check.the-variants.{Pass, Stop}
+use Rattle.routers.specs.declared.Router.{Router}
+use Rattle.settings.specs.declared.Settings.{Settings}
+use Rattle.receiving.specs.Receive.{stopOr, arrived, receivedOf}
+use Rattle.receiving.specs.declared.Received.{Received}
+use Rattle.receiving.specs.declared.Received.the-variants.{Refused}
 use Rattle.receiving.proofs.receive.Statement.{statement}
 use Rattle.receiving.proofs.receive.Tie as tie
 
+-- what comes of a header that is read, or of its refusal
+abbrev ofRead : OuterRead → (Outer → Received) → Received
+ofRead (read.Header o) f = f o
+ofRead (read.Refused r) f = Refused r
+
+by-check : (c : Check) (o : Outer) (f : Outer → Received) → stopOr c (f o) ≡ ofRead (readWith c o) f
+by-check Pass o f = refl
+by-check (Stop r) o f = refl
+
+by-read : (s : Settings) (routers : List Router) (d : List ℕ) (interface : ℕ) → receivedOf s routers d interface ≡ ofRead (outerReadOf d) (arrived s routers d interface)
+unfolding receivedOf outerReadOf
+by-read s routers d interface = by-check (outerCheck (length d) d (outerOf d)) (outerOf d) (arrived s routers d interface)
+
 returns : tie.Need-returns
-unfolding receivedOf outerCheck isOuterMalformed
-returns c = simp (lt-ltb _ _ (c .if1 .taken))
+returns c = rw (by-read, ← c .before .before .before .before .read-outer .ensures, c .before .before .read .given .1) (c .arrive .ensures)
 
 returns-2 : tie.Need-returns-2
-unfolding receivedOf
-returns-2 c = rw (← c .before .before .before .before .outer-header .ensures, ← c .before .before .before .check-outer .ensures, c .before .enum-told .given .1, c .arrive .ensures)
-
-returns-3 : tie.Need-returns-3
-unfolding receivedOf
-returns-3 c = rw (← c .before .before .before .before .outer-header .ensures, ← c .before .before .before .check-outer .ensures, c .before .check .given .1)
+returns-2 c = rw (by-read, ← c .before .before .before .read-outer .ensures, c .before .read2 .given .1)
 
 pub receive-spec : {M : Type 1} → statement M
-receive-spec =
-    tie.close
-    (tie.spec returns (omega arith) (omega arith) (search needs) (omega arith) (search needs) returns-2 returns-3)
+receive-spec = tie.close (tie.spec (omega arith) (search needs) (omega arith) (search needs) returns returns-2)
