@@ -42,10 +42,6 @@ identified-fits h i i-fits was =
     let service = LL.owed S.the-type S′.the-laws (h .service) (LL.vals S.the-type S′.the-laws (h .service)) (node .0) in
     LL.owes T.the-type T′.the-laws (identified h i) (LL.owes S.the-type S′.the-laws (identified h i .service) (service .0, (service .1 .0, ((refl, i-fits), tt))), node .1)
 
--- what reading it gives
-pub latest-fits : (h : Node) → Fits h → h .latest < 2 ^ 32
-latest-fits h was = LL.owed T.the-type T′.the-laws h (mach h ∷ []) was .1 .1 .0 .1
-
 pub time-raised : (h : Node) (t : ℕ) → at-time h (max (h .latest) t) ≡ raisedTo h t
 unfolding raisedTo
 time-raised h t = refl

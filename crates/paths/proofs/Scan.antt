@@ -11,7 +11,8 @@ use lib.Dec.{eqb}
 use lib.ListN.{length, take, drop, getD, set, length-drop, take-append-drop, drop-of-length-le}
 use lib.Seq.{drop-cons, drop-drop, take-add, take-suc, set-at, getD-at, append-snoc, length-take-le}
 use Rattle.lists.specs.Tests.{or-left, or-right}
-use Rattle.paths.specs.Table.{placeOf, half, together, isAmong, pushed}
+use Rattle.paths.specs.Search.{half, together, isAmong}
+use Rattle.paths.specs.Table.{placeOf, pushed}
 use Rattle.paths.specs.Candidate.{firstBelow}
 use Rattle.paths.specs.declared.Candidate.the-variants.{Size}
 

@@ -9,3 +9,4 @@ pub mod Sender
 pub mod Claim
 pub mod Largest
 pub mod Values
+pub mod Search

@@ -1,10 +1,9 @@
 -- The path table: accepted reports, the newest first, at most one of each neighbour and at most 64.
-use Prim.Native.Nat.{ℕ, suc, _+_, _-_, min, max}
-use mathlib.Core.Bool.{Bool, cond}
+use Prim.Native.Nat.{ℕ, suc, _-_, min, max}
+use mathlib.Core.Bool.{cond}
 use mathlib.Core.List.{List, [], _∷_, _++_, map}
 use lib.Dec.{eqb}
 use lib.ListN.{length, take, drop, replicate}
-use Rattle.lists.specs.Any.{anyOf}
 use Rattle.paths.specs.Kept.{Report, mostNeighbours, lastOf, keptFrom}
 use Rattle.paths.specs.declared.Kept.{Kept}
 use Rattle.paths.specs.declared.PathTable.{PathTable}
@@ -42,17 +41,6 @@ keptIn t v now = keptFrom (lastOf v (held t)) now
 abbrev pub placeOf : ℕ → List ℕ → ℕ
 placeOf v [] = 0
 placeOf v (a ∷ others) = cond (eqb a v) 0 (suc (placeOf v others))
-
--- so many neighbours are compared at once, in two halves
-abbrev pub half : ℕ
-half = 4
-
-abbrev pub together : ℕ
-together = half + half
-
--- v is among neighbours
-abbrev pub isAmong : ℕ → List ℕ → Bool
-isAmong v others = anyOf (λ a. eqb a v) others
 
 -- the place of v's last report, or the number of reports
 abbrev pub placeIn : ℕ → List Report → ℕ

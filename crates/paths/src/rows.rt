@@ -4,7 +4,8 @@ ghost use mathlib.Core.Path.{_≡_};
 ghost use Prim.Native.Nat.{_<_, _≤_, _+_};
 ghost use lib.ListN.{length, take, drop};
 ghost use Rattle.paths.specs.Kept.{mostNeighbours};
-ghost use Rattle.paths.specs.Table.{placeOf, half, together, isAmong, pushed};
+ghost use Rattle.paths.specs.Search.{half, together, isAmong};
+ghost use Rattle.paths.specs.Table.{placeOf, pushed};
 
 // How many numbers are compared at once.
 const TOGETHER: usize = 8;

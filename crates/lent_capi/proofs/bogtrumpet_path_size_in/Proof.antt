@@ -51,7 +51,7 @@ use Rattle.lent_capi.proofs.steps.size_among as g
 use Rattle.lent_capi.proofs.steps.size_among.Symbol as g-def
 use Rattle.lent_capi.proofs.steps.size_among.Symbol.{name as #g}
 use Rattle.lent_capi.proofs.steps.size_among.Met as g-thm
-use Rattle.lent_capi.proofs.Lent.{mach, Fits, looks-in, answered, proved}
+use Rattle.lent_capi.proofs.Lent.{mach, Fits, latest-fits, looks-in, answered, proved}
 use Rattle.lent_capi.proofs.Rows.{row-of, row-val, lends-row, neighbours-row, sizes-row, times-row}
 use Rattle.lent_capi.proofs.bogtrumpet_path_size_in.Key.{name as #f}
 use Rattle.lent_capi.proofs.bogtrumpet_path_size_in as f
@@ -67,7 +67,7 @@ Called 𝓤 H A mem run = tripleOf 𝓤 H A g.signature (g.spec 𝓤 H A mem run
 abbrev link : Node → ℕ
 link h = h .service .settings .«link_size»
 
--- the numbers that are read fit their machine values
+-- the numbers that are read fit their machine values; the latest time by `latest-fits`
 module _ (h : Node) (is : Fits h) where
   link-fits : link h < 2 ^ 16
   link-fits =
@@ -79,9 +79,6 @@ module _ (h : Node) (is : Fits h) where
   count-fits =
       let node = LL.owed T.the-type T′.the-laws h (mach h ∷ []) is in
       LL.owed P.the-type P′.the-laws (h .paths) (LL.vals P.the-type P′.the-laws (h .paths)) (node .1 .0) .1 .1 .1 .0 .1
-
-  latest-fits : h .latest < 2 ^ 32
-  latest-fits = LL.owed T.the-type T′.the-laws h (mach h ∷ []) is .1 .1 .0 .1
 
 -- what the callee says of the rows is so of the node
 abbrev size-among : Node → ℕ → ℕ

@@ -43,8 +43,8 @@ use Rattle.node.proofs.Node as T
 use Rattle.capi.specs.declared.Address.{Address}
 use Rattle.capi.proofs.Address as P
 use Rattle.capi.proofs.Address.Laws as P′
-use Rattle.lent_capi.proofs.Changed.{at-time, at-time-fits, latest-fits, time-raised, size-raised}
-use Rattle.lent_capi.proofs.Lent.{ref, Shr, opens-in, closes-in, shares-in, shared-back, answered, proved}
+use Rattle.lent_capi.proofs.Changed.{at-time, at-time-fits, time-raised, size-raised}
+use Rattle.lent_capi.proofs.Lent.{latest-fits, ref, Shr, opens-in, closes-in, shares-in, shared-back, answered, proved}
 use Rattle.lent_capi.proofs.steps.later as later
 use Rattle.lent_capi.proofs.steps.later.Symbol as later-def
 use Rattle.lent_capi.proofs.steps.later.Met as later-thm

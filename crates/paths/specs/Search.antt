@@ -1,0 +1,17 @@
+-- The search of a lent row compares several numbers at once. Only functions of the crate's own cite this.
+use Prim.Native.Nat.{ℕ, _+_}
+use mathlib.Core.Bool.{Bool}
+use mathlib.Core.List.{List}
+use lib.Dec.{eqb}
+use Rattle.lists.specs.Any.{anyOf}
+
+-- so many, in two halves
+abbrev pub half : ℕ
+half = 4
+
+abbrev pub together : ℕ
+together = half + half
+
+-- v is among neighbours
+abbrev pub isAmong : ℕ → List ℕ → Bool
+isAmong v others = anyOf (λ a. eqb a v) others
