@@ -22,7 +22,7 @@ ghost use Rattle.lent_capi.specs.Steps.{sentAnswer, reportedAnswer, aske
 pub extern "C" fn bogtrumpet_path_size_in(node: &Node, neighbour: u32) -> u16
     ensures { λ r. ⌜ r ≡ sizeOf (now (node .entry)) neighbour ⌝ }
 {
-    steps::size_among(
+    paths::size_among(
         node.service.settings.link_size,
         &node.paths.neighbours,
         &node.paths.sizes,

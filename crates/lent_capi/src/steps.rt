@@ -7,8 +7,6 @@ ghost use Prim.Native.Nat.{max};
 ghost use lib.ListN.{length};
 ghost use Rattle.address.specs.Address.{lastQuad};
 ghost use Rattle.node.specs.Ask.{askOutput};
-ghost use Rattle.paths.specs.Kept.{inForce};
-ghost use Rattle.paths.specs.Table.{keptAmong};
 ghost use Rattle.sending.specs.Sending.{sentOutput};
 ghost use Rattle.capi.specs.Calls.{reportedIn, askedIn, heardIn};
 ghost use Rattle.lent_capi.specs.Steps.{sendStep, reportStep, askedStep, heardStep};
@@ -50,22 +48,6 @@ pub struct RouterIn {
 pub struct RouterStep {
     pub answer: RouterIn,
     pub node: Node,
-}
-
-// The size in force toward a neighbour, of a path table whose rows are lent: paths::kept_among.
-pub fn size_among<'a>(
-    link: u16,
-    neighbours: &'a [u32],
-    sizes: &'a [u16],
-    times: &'a [u32],
-    count: usize,
-    neighbour: u32,
-    time: u32,
-) -> u16
-    ensures { λ r. ⌜ r ≡ inForce link (keptAmong (now (neighbours .entry)) (now (sizes .entry)) (now (times .entry)) count neighbour time) ⌝ }
-{
-    let kept = paths::kept_among(neighbours, sizes, times, count, neighbour, time);
-    paths::in_force(link, kept)
 }
 
 // The later of two times.

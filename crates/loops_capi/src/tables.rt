@@ -17,7 +17,7 @@ pub extern "C" fn bogtrumpet_path_table() -> PathTable
 }
 
 // uint16_t bogtrumpet_table_size(struct bogtrumpet_paths table, uint16_t link, uint32_t neighbour, uint32_t now);
-// The size in force toward a neighbour: paths::in_force of paths::kept_among.
+// The size in force toward a neighbour: paths::size_among.
 #[no_mangle]
 pub extern "C" fn bogtrumpet_table_size(
     table: PathTable,
@@ -27,15 +27,15 @@ pub extern "C" fn bogtrumpet_table_size(
 ) -> u16
     ensures { λ r. ⌜ r ≡ inForce link (keptIn table neighbour now) ⌝ }
 {
-    let kept = paths::kept_among(
+    paths::size_among(
+        link,
         &table.neighbours,
         &table.sizes,
         &table.times,
         table.count,
         neighbour,
         now,
-    );
-    paths::in_force(link, kept)
+    )
 }
 
 // struct bogtrumpet_paths bogtrumpet_path_accepted(struct bogtrumpet_paths table, uint32_t neighbour, uint16_t size, uint32_t now);
@@ -68,7 +68,8 @@ pub extern "C" fn bogtrumpet_path_sizes(
     let mut i: u32 = 0;
     while i < count {
         let neighbour = std::num::wrapping_add_u32(first, i);
-        let kept = paths::kept_among(
+        let size = paths::size_among(
+            link,
             &table.neighbours,
             &table.sizes,
             &table.times,
@@ -76,7 +77,7 @@ pub extern "C" fn bogtrumpet_path_sizes(
             neighbour,
             now,
         );
-        sum = sum + wide(paths::in_force(link, kept));
+        sum = sum + wide(size);
         i = i + 1;
     }
     sum

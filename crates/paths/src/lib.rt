@@ -116,6 +116,24 @@ pub fn in_force(link: u16, kept: Kept) -> u16
     }
 }
 
+// The size in force over a link, of a table whose rows are lent.
+pub fn size_among<'a>(
+    link: u16,
+    neighbours: &'a [u32],
+    sizes: &'a [u16],
+    times: &'a [u32],
+    count: usize,
+    neighbour: u32,
+    time: u32,
+) -> u16
+    ensures { λ r. ⌜ r ≡ inForce link (keptAmong (now (neighbours .entry)) (now (sizes .entry)) (now (times .entry)) count neighbour time) ⌝ }
+{
+    in_force(
+        link,
+        kept_among(neighbours, sizes, times, count, neighbour, time),
+    )
+}
+
 // A report's size while that is under 600 s old.
 fn while_young(size: u16, time: u32, now: u32) -> Kept
     ensures { λ r. ⌜ r ≡ whileYoung size time now ⌝ }

@@ -1,5 +1,5 @@
 -- `bogtrumpet_path_size_in` meets its contract: a walk of its MIR. The borrow is looked into for the numbers that are read; the rows of the
--- path table are lent on, and `steps::size_among` is called on them.
+-- path table are lent on, and `paths::size_among` is called on them.
 use mathlib.Core.Path.{_≡_, refl, _∙_}
 use Prim.Native.Nat.{ℕ, _<_, _^_}
 use mathlib.Core.List.{[], _∷_, List}
@@ -47,10 +47,10 @@ use Rattle.node.proofs.Node as T
 use Rattle.node.proofs.Node.Laws as T′
 use Rattle.node.proofs.Service as S
 use Rattle.node.proofs.Service.Laws as S′
-use Rattle.lent_capi.proofs.steps.size_among as g
-use Rattle.lent_capi.proofs.steps.size_among.Symbol as g-def
-use Rattle.lent_capi.proofs.steps.size_among.Symbol.{name as #g}
-use Rattle.lent_capi.proofs.steps.size_among.Met as g-thm
+use Rattle.paths.proofs.size_among as g
+use Rattle.paths.proofs.size_among.Symbol as g-def
+use Rattle.paths.proofs.size_among.Symbol.{name as #g}
+use Rattle.paths.proofs.size_among.Met as g-thm
 use Rattle.lent_capi.proofs.Lent.{mach, Fits, latest-fits, looks-in, answered, proved}
 use Rattle.lent_capi.proofs.Rows.{row-of, row-val, lends-row, neighbours-row, sizes-row, times-row}
 use Rattle.lent_capi.proofs.bogtrumpet_path_size_in.Key.{name as #f}
@@ -166,4 +166,4 @@ bogtrumpet-path-size-in-spec 𝓤 H 𝓜 𝓖 𝓡 =
     (goes-dropped 𝓤 H (𝓖 .A) (givenOf 𝓤 H 𝓜 𝓖) 1 (shrRefTo (0 ∷ []) tt (plain (λ _. T.the-row))) yes (λ κs x f. refl), (goes-dropped 𝓤 H (𝓖 .A) (givenOf 𝓤 H 𝓜 𝓖) 1 (plain (λ _. u32)) yes (λ κs x f. refl), tt))
     (λ κs. (ptr-vals, (uint-vals w32, tt))) (λ κs. (shr-tells (named 0) (κs .0) T.the-row, (uint-tells w32, tt)))
     (λ κs qs bounds a _ are. walk 𝓤 H (𝓖 .A) (givenOf 𝓤 H 𝓜 𝓖) (𝓜 .mem) (𝓡 .run) (κs .0) (qs .0) (a .0 .ptr .0) (a .0 .ptr .1) (a .0 .name) (a .0 .now) (a .1 .0) (are .1 .0 .1) (tables 𝓤 H 𝓜 𝓡 code.env .C) (tables 𝓤 H 𝓜 𝓡 code.env .Λ)
-    (fmOf 𝓤 H (givenOf 𝓤 H 𝓜 𝓖 .laws) (tablesOf 𝓤 H 𝓜 (tables 𝓤 H 𝓜 𝓡 code.env))) (cited 𝓤 H (Called 𝓤 H (𝓖 .A) (𝓜 .mem) (𝓡 .run)) 𝓜 𝓡 code.env #g g-def.routine code.calls-lent-capi·steps·size-among (g-thm.met 𝓤 H 𝓜 𝓖 𝓡)))
+    (fmOf 𝓤 H (givenOf 𝓤 H 𝓜 𝓖 .laws) (tablesOf 𝓤 H 𝓜 (tables 𝓤 H 𝓜 𝓡 code.env))) (cited 𝓤 H (Called 𝓤 H (𝓖 .A) (𝓜 .mem) (𝓡 .run)) 𝓜 𝓡 code.env #g g-def.routine code.calls-paths·size-among (g-thm.met 𝓤 H 𝓜 𝓖 𝓡)))

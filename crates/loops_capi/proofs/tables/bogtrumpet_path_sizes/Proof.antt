@@ -17,11 +17,10 @@ abbrev μ-loop : tie.MeasureT-loop
 loop-again : tie.Need-loop-again Inv-loop μ-loop
 unfolding keptAmong keptIn
 loop-again c =
-    let f = c .before in
-    let k = f .before in
-    let w = k .before .before .before .before .before .before .before .before in
+    let t = c .before in
+    let w = t .before .before .before .before .before .before .before .before in
     let l = w .before .before .loop in
-    (omega arith, omega arith, rw (add-one (l .i), c .wide .ensures .0, f .in-force .ensures, k .kept-among .ensures, w .wrapping-add-u32 .ensures, l .inv .2))
+    (omega arith, omega arith, rw (add-one (l .i), c .wide .ensures .0, t .size-among .ensures, w .wrapping-add-u32 .ensures, l .inv .2))
 
 returns : tie.Need-returns Inv-loop μ-loop
 returns c =
@@ -32,4 +31,4 @@ returns c =
 pub bogtrumpet-path-sizes-spec : {M : Type 1} → statement M
 bogtrumpet-path-sizes-spec =
     tie.close
-    (tie.spec Inv-loop μ-loop (omega arith) (omega arith) (omega arith) (omega arith) (omega arith) (omega arith) (omega arith) (omega arith) loop-again returns)
+    (tie.spec Inv-loop μ-loop (omega arith) (omega arith) (omega arith) (omega arith) (omega arith) (omega arith) (omega arith) loop-again returns)

@@ -5,7 +5,7 @@ use Rattle.loops_capi.proofs.tables.bogtrumpet_table_size.Tie as tie
 
 returns : tie.Need-returns
 unfolding keptAmong keptIn
-returns c = rw (c .in-force .ensures, c .before .kept-among .ensures)
+returns c = c .size-among .ensures
 
 pub bogtrumpet-table-size-spec : {M : Type 1} → statement M
-bogtrumpet-table-size-spec = tie.close (tie.spec (omega arith) (omega arith) returns)
+bogtrumpet-table-size-spec = tie.close (tie.spec (omega arith) returns)

@@ -1,6 +1,6 @@
 use borrow.Author.Needs.{needs}
-use Rattle.lent_capi.proofs.steps.size_among.Statement.{statement}
-use Rattle.lent_capi.proofs.steps.size_among.Tie as tie
+use Rattle.paths.proofs.size_among.Statement.{statement}
+use Rattle.paths.proofs.size_among.Tie as tie
 
 returns : tie.Need-returns
 returns c = rw (c .in-force .ensures, c .before .kept-among .ensures)
