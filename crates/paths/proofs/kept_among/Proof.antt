@@ -1,5 +1,4 @@
 use native.Mathlib.Omega.{arith}
-use borrow.Author.Needs.{needs}
 use borrow.Author.Tests.{lt-ltb, le-ltb}
 use Rattle.paths.proofs.Arrays.{Scanned, kept-at}
 use Rattle.paths.proofs.kept_among.Statement.{statement}
@@ -24,5 +23,5 @@ returns-2 c =
 pub kept-among-spec : {M : Type 1} → statement M
 kept-among-spec =
     tie.close
-    (tie.spec (λ c κs. search needs) (λ c κs. search needs) (λ c κs. search needs) (omega arith) (λ c. search needs) (omega arith) (λ c. search needs) (omega arith)
-    (λ c κs. search needs) returns returns-2)
+    (tie.spec (omega arith) (omega arith) (omega arith) (omega arith) (omega arith) (omega arith) (omega arith) (omega arith)
+    (omega arith) returns returns-2)

@@ -1,4 +1,4 @@
-use borrow.Author.Needs.{needs}
+use native.Mathlib.Omega.{arith}
 use Rattle.paths.proofs.size_among.Statement.{statement}
 use Rattle.paths.proofs.size_among.Tie as tie
 
@@ -6,4 +6,4 @@ returns : tie.Need-returns
 returns c = rw (c .in-force .ensures, c .before .kept-among .ensures)
 
 pub size-among-spec : {M : Type 1} → statement M
-size-among-spec = tie.close (tie.spec (λ c κs. search needs) (λ c κs. search needs) returns)
+size-among-spec = tie.close (tie.spec (omega arith) (omega arith) returns)

@@ -1,5 +1,4 @@
 use native.Mathlib.Omega.{arith}
-use borrow.Author.Needs.{needs}
 use Rattle.paths.proofs.Scan.{among-four}
 use Rattle.paths.proofs.rows.in_four.Statement.{statement}
 use Rattle.paths.proofs.rows.in_four.Tie as tie
@@ -10,4 +9,4 @@ returns c = let a = c .before .before .before .before .args in among-four (a .ne
 pub in-four-spec : {M : Type 1} → statement M
 in-four-spec =
     tie.close
-    (tie.spec (search needs) (omega arith) (search needs) (search needs) (omega arith) (search needs) (search needs) (omega arith) (search needs) (search needs) (omega arith) returns)
+    (tie.spec (omega arith) (omega arith) (omega arith) (omega arith) (omega arith) (omega arith) (omega arith) (omega arith) (omega arith) (omega arith) (omega arith) returns)

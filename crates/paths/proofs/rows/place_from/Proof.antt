@@ -1,7 +1,6 @@
 use mathlib.Core.Path.{_≡_}
 use Prim.Native.Nat.{_+_, _≤_, _-_}
 use native.Mathlib.Omega.{arith}
-use borrow.Author.Needs.{needs}
 use lib.ListN.{length, drop}
 use Rattle.paths.specs.Table.{placeOf}
 use Rattle.paths.proofs.Scan.{place-hit, place-miss, place-end}
@@ -35,4 +34,4 @@ returns-2 c =
 pub place-from-spec : {M : Type 1} → statement M
 place-from-spec =
     tie.close
-    (tie.spec Inv-loop μ-loop (omega arith) (search needs) (omega arith) returns (omega arith) (omega arith) loop-again returns-2)
+    (tie.spec Inv-loop μ-loop (omega arith) (omega arith) (omega arith) returns (omega arith) (omega arith) loop-again returns-2)

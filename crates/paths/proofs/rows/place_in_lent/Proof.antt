@@ -1,5 +1,5 @@
 use mathlib.Core.Path.{sym}
-use borrow.Author.Needs.{needs}
+use native.Mathlib.Omega.{arith}
 use lib.Seq.{length-take-le}
 use Rattle.paths.proofs.rows.place_in_lent.Statement.{statement}
 use Rattle.paths.proofs.rows.place_in_lent.Tie as tie
@@ -8,4 +8,4 @@ counted : tie.Need-slice-aggregate-used
 counted c = let start = c .before .before in sym (length-take-le (start .args .count) (start .args .neighbours .now) (start .pre))
 
 pub place-in-lent-spec : {M : Type 1} → statement M
-place-in-lent-spec = tie.close (tie.spec counted (λ c κs. search needs) (λ c κs. c .eights-before .ensures) (λ c. search needs))
+place-in-lent-spec = tie.close (tie.spec counted (omega arith) (λ c κs. c .eights-before .ensures) (omega arith))
