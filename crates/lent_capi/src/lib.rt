@@ -46,7 +46,7 @@ fn path_size_toward(node: &mut Node, next_hop: Address, time: u32) -> u16
     ensures { λ r. ⌜ (r ≡ sizeToward (now (node .entry)) («next_hop» .bytes) time)
         × (now (node .exit) ≡ raisedTo (now (node .entry)) time) ⌝ }
 {
-    node.latest = steps::later(node.latest, time);
+    node.latest = node::later(node.latest, time);
     bogtrumpet_path_size_in(node, steps::tunnel_end(next_hop))
 }
 

@@ -3,7 +3,6 @@ use capi::Address;
 use capi::answers;
 use node::Node;
 ghost use mathlib.Core.Path.{_≡_};
-ghost use Prim.Native.Nat.{max};
 ghost use lib.ListN.{length};
 ghost use Rattle.address.specs.Address.{lastQuad};
 ghost use Rattle.node.specs.Ask.{askOutput};
@@ -48,13 +47,6 @@ pub struct RouterIn {
 pub struct RouterStep {
     pub answer: RouterIn,
     pub node: Node,
-}
-
-// The later of two times.
-pub fn later(a: u32, b: u32) -> u32
-    ensures { λ r. ⌜ r ≡ max a b ⌝ }
-{
-    if a < b { b } else { a }
 }
 
 // The tunnel end toward a next hop: its last 32 bits.

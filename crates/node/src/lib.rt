@@ -77,7 +77,7 @@ fn no_settings() -> Settings
 }
 
 // The later of two times.
-fn later(a: u32, b: u32) -> u32
+pub fn later(a: u32, b: u32) -> u32
     ensures { λ r. ⌜ r ≡ max a b ⌝ }
 {
     if a < b { b } else { a }

@@ -58,7 +58,6 @@ module _ {vs ss ts : List ℕ} {count v n p : ℕ} (c : Scanned vs ss ts count v
   reads = rw (c .place, number) (found v count vs ss ts)
 
   pub kept-at : keptAmong vs ss ts count v now ≡ cond (ltb p n) (whileYoung (getD ss p 0) (getD ts p 0) now) Nothing
-  unfolding keptAmong
   kept-at = ap (λ (o : Option Report). keptFrom o now) (reads .1) ∙ keptFrom-cond (ltb p n) (some (rowAt vs ss ts p)) now
 
   pub made : (size q m : ℕ) (ns cs ks : List ℕ) → q ≡ min p (mostNeighbours - 1) → m ≡ max n (suc q) → ns ≡ pushed v q vs → cs ≡ pushed size q ss → ks ≡ pushed now q ts

@@ -30,12 +30,12 @@ abbrev pub held : PathTable → List Report
 held t = heldIn (t .neighbours) (t .sizes) (t .times) (t .count)
 
 -- the size kept toward v in the first n places
-unfoldable pub keptAmong : List ℕ → List ℕ → List ℕ → ℕ → ℕ → ℕ → Kept
+abbrev pub keptAmong : List ℕ → List ℕ → List ℕ → ℕ → ℕ → ℕ → Kept
 keptAmong neighbours sizes times n v now = keptFrom (lastOf v (heldIn neighbours sizes times n)) now
 
 -- the size kept toward v
 unfoldable pub keptIn : PathTable → ℕ → ℕ → Kept
-keptIn t v now = keptFrom (lastOf v (held t)) now
+keptIn t v now = keptAmong (t .neighbours) (t .sizes) (t .times) (t .count) v now
 
 -- the place of v among neighbours, or their number
 abbrev pub placeOf : ℕ → List ℕ → ℕ

@@ -52,7 +52,7 @@ impl PathTable {
         }
     }
 
-    // The size kept toward a neighbour at a time. Of a table by value a row is copied where it is read; kept_among copies none.
+    // The size kept toward a neighbour at a time. Of a table by value a row is copied where it is read; size_among copies none.
     pub fn kept(self, neighbour: u32, now: u32) -> Kept
         ensures { λ r. ⌜ r ≡ keptIn self neighbour now ⌝ }
     {
@@ -85,27 +85,6 @@ impl PathTable {
     }
 }
 
-// The size kept toward a neighbour at a time, of a table whose rows are lent: one pass over the places in use, and nothing is copied.
-pub fn kept_among<'a>(
-    neighbours: &'a [u32],
-    sizes: &'a [u16],
-    times: &'a [u32],
-    count: usize,
-    neighbour: u32,
-    time: u32,
-) -> Kept
-    ensures { λ r. ⌜ r ≡ keptAmong (now (neighbours .entry)) (now (sizes .entry)) (now (times .entry)) count neighbour time ⌝ }
-{
-    let places = least(least(neighbours.len(), sizes.len()), times.len());
-    let used = least(count, places);
-    let p = place_in_lent(neighbours, used, neighbour);
-    if p < used {
-        while_young(sizes[p], times[p], time)
-    } else {
-        Kept::Nothing
-    }
-}
-
 // The size in force over a link: the kept one, otherwise the link's.
 pub fn in_force(link: u16, kept: Kept) -> u16
     ensures { λ r. ⌜ r ≡ inForce link kept ⌝ }
@@ -116,7 +95,8 @@ pub fn in_force(link: u16, kept: Kept) -> u16
     }
 }
 
-// The size in force over a link, of a table whose rows are lent.
+// The size in force over a link toward a neighbour at a time, of a table whose rows are lent: one pass over the places in use, and
+// nothing is copied.
 pub fn size_among<'a>(
     link: u16,
     neighbours: &'a [u32],
@@ -128,10 +108,14 @@ pub fn size_among<'a>(
 ) -> u16
     ensures { λ r. ⌜ r ≡ inForce link (keptAmong (now (neighbours .entry)) (now (sizes .entry)) (now (times .entry)) count neighbour time) ⌝ }
 {
-    in_force(
-        link,
-        kept_among(neighbours, sizes, times, count, neighbour, time),
-    )
+    let places = least(least(neighbours.len(), sizes.len()), times.len());
+    let used = least(count, places);
+    let p = place_in_lent(neighbours, used, neighbour);
+    if p < used {
+        in_force(link, while_young(sizes[p], times[p], time))
+    } else {
+        link
+    }
 }
 
 // A report's size while that is under 600 s old.

@@ -4,7 +4,7 @@ ghost use mathlib.Core.Path.{_≡_};
 ghost use Prim.Native.Nat.{_<_, _≤_, _+_};
 ghost use lib.ListN.{length, take, drop};
 ghost use Rattle.paths.specs.Kept.{mostNeighbours};
-ghost use Rattle.paths.specs.Search.{half, together, isAmong};
+ghost use Rattle.paths.specs.Search.{half, together, isAmong, Passed};
 ghost use Rattle.paths.specs.Table.{placeOf, pushed};
 
 // How many numbers are compared at once.
@@ -30,8 +30,7 @@ fn in_eight(used: &[u32], i: usize, neighbour: u32) -> bool
 
 // How many numbers, eight by eight, come before the eight that the neighbour's is among, or before the last few.
 fn eights_before(used: &[u32], neighbour: u32) -> usize
-    ensures { λ r. ⌜ (r ≤ length (now (used .entry)))
-        × (placeOf neighbour (now (used .entry)) ≡ r + placeOf neighbour (drop r (now (used .entry)))) ⌝ }
+    ensures { λ r. ⌜ Passed neighbour (now (used .entry)) r ⌝ }
 {
     let mut i: usize = 0;
     while TOGETHER <= used.len() - i {
@@ -45,7 +44,7 @@ fn eights_before(used: &[u32], neighbour: u32) -> usize
 
 // The place of a neighbour, or the number of places, where it is known not to be before `start`.
 fn place_from(used: &[u32], start: usize, neighbour: u32) -> usize
-    requires { ⌜ (start ≤ length (now used)) × (placeOf neighbour (now used) ≡ start + placeOf neighbour (drop start (now used))) ⌝ }
+    requires { ⌜ Passed neighbour (now used) start ⌝ }
     ensures { λ r. ⌜ r ≡ placeOf neighbour (now (used .entry)) ⌝ }
 {
     let mut i = start;

@@ -85,7 +85,7 @@ abbrev size-among : Node → ℕ → ℕ
 size-among h n = inForce (link h) (keptAmong (h .paths .neighbours) (h .paths .sizes) (h .paths .times) (h .paths .count) n (h .latest))
 
 size-is : (h : Node) (n : ℕ) → size-among h n ≡ sizeOf h n
-unfolding sizeOf sizeAt keptAmong keptIn
+unfolding sizeOf sizeAt keptIn
 size-is h n = refl
 
 module _ {M : Type 1} (𝓤 : URA M) (H : Heap 𝓤) (A : Atoms 𝓤) (W : Given 𝓤 H A) (mem : Memory → SProp 𝓤) (run : Routine → Fun 𝓤) (κ : Lft) (q : Share) (b o : ℕ) (γ : GName) (h : Node) (n : ℕ) (fits : n < 2 ^ 32) where

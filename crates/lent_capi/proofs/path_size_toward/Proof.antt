@@ -45,9 +45,9 @@ use Rattle.capi.proofs.Address as P
 use Rattle.capi.proofs.Address.Laws as P′
 use Rattle.lent_capi.proofs.Changed.{at-time, at-time-fits, time-raised, size-raised}
 use Rattle.lent_capi.proofs.Lent.{latest-fits, ref, Shr, opens-in, closes-in, shares-in, shared-back, answered, proved}
-use Rattle.lent_capi.proofs.steps.later as later
-use Rattle.lent_capi.proofs.steps.later.Symbol as later-def
-use Rattle.lent_capi.proofs.steps.later.Met as later-thm
+use Rattle.node.proofs.later as later
+use Rattle.node.proofs.later.Symbol as later-def
+use Rattle.node.proofs.later.Met as later-thm
 use Rattle.lent_capi.proofs.steps.tunnel_end as end
 use Rattle.lent_capi.proofs.steps.tunnel_end.Symbol as end-def
 use Rattle.lent_capi.proofs.steps.tunnel_end.Met as end-thm
@@ -160,6 +160,6 @@ path-size-toward-spec 𝓤 H 𝓜 𝓖 𝓡 =
     (λ κs. (ptr-vals, (LL.vals P.the-type P′.the-laws, (uint-vals w32, tt)))) (λ κs. (mut-tells (named 0) (κs .0) T.the-row, (LL.tells P.the-type P′.the-laws, (uint-tells w32, tt))))
     (λ κs qs bounds a _ are. walk 𝓤 H (𝓖 .A) W (𝓜 .mem) (𝓡 .run) (κs .0) (qs .0) (a .0 .ptr .0) (a .0 .ptr .1) (a .0 .name) (a .0 .now) (a .1 .0) (a .1 .1 .0) (are .1 .0) (are .1 .1 .0 .1)
     (tables 𝓤 H 𝓜 𝓡 code.env .C) (tables 𝓤 H 𝓜 𝓡 code.env .Λ) (fmOf 𝓤 H (W .laws) (tablesOf 𝓤 H 𝓜 (tables 𝓤 H 𝓜 𝓡 code.env)))
-    (cited 𝓤 H (Later 𝓤 H (𝓖 .A) W (𝓜 .mem) (𝓡 .run)) 𝓜 𝓡 code.env later-def.name later-def.routine code.calls-lent-capi·steps·later (later-thm.met 𝓤 H 𝓜 𝓖 𝓡))
+    (cited 𝓤 H (Later 𝓤 H (𝓖 .A) W (𝓜 .mem) (𝓡 .run)) 𝓜 𝓡 code.env later-def.name later-def.routine code.calls-node·later (later-thm.met 𝓤 H 𝓜 𝓖 𝓡))
     (cited 𝓤 H (End 𝓤 H (𝓖 .A) W (𝓜 .mem) (𝓡 .run)) 𝓜 𝓡 code.env end-def.name end-def.routine code.calls-lent-capi·steps·tunnel-end (end-thm.met 𝓤 H 𝓜 𝓖 𝓡))
     (cited 𝓤 H (Size 𝓤 H (𝓖 .A) W (𝓜 .mem) (𝓡 .run)) 𝓜 𝓡 code.env size-def.name size-def.routine code.calls-lent-capi·bogtrumpet-path-size-in (size-thm.met 𝓤 H 𝓜 𝓖 𝓡)))

@@ -1,9 +1,29 @@
 use native.Mathlib.Omega.{arith}
+use borrow.Author.Tests.{lt-ltb, le-ltb}
+use Rattle.paths.specs.Kept.{inForce}
+use Rattle.paths.proofs.Arrays.{Scanned, kept-at}
 use Rattle.paths.proofs.size_among.Statement.{statement}
 use Rattle.paths.proofs.size_among.Tie as tie
 
+scanned : (c : tie.After-place-in-lent)
+    → let a = c .before .before .before .before .before .before .before .args in
+    Scanned (a .neighbours .now) (a .sizes .now) (a .times .now) (a .count) (a .neighbour) (c .before .least3 .result) (c .place-in-lent .result)
+scanned c = record { used = omega arith; place = c .place-in-lent .ensures }
+
 returns : tie.Need-returns
-returns c = rw (c .in-force .ensures, c .before .kept-among .ensures)
+returns c =
+    let p = c .before .before .before .before .before in
+    rw (kept-at (scanned p) (p .before .before .before .before .before .before .before .args .time), lt-ltb _ _ (c .before .before .before .before .if1 .taken), ← c .before .while-young .ensures)
+    (c .in-force .ensures)
+
+returns-2 : tie.Need-returns-2
+unfolding inForce
+returns-2 c =
+    let p = c .before in
+    rw (kept-at (scanned p) (p .before .before .before .before .before .before .before .args .time), le-ltb _ _ (c .if1 .left))
 
 pub size-among-spec : {M : Type 1} → statement M
-size-among-spec = tie.close (tie.spec (omega arith) (omega arith) returns)
+size-among-spec =
+    tie.close
+    (tie.spec (omega arith) (omega arith) (omega arith) (omega arith) (omega arith) (omega arith) (omega arith) (omega arith) (omega arith) (omega arith)
+    returns returns-2)

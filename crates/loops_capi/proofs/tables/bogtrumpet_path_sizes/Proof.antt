@@ -3,7 +3,7 @@ use mathlib.Core.Path.{_≡_}
 use Prim.Native.Nat.{_≤_, _*_, _-_}
 use native.Mathlib.Numerals.{add-one}
 use native.Mathlib.Omega.{arith}
-use Rattle.paths.specs.Table.{keptAmong, keptIn}
+use Rattle.paths.specs.Table.{keptIn}
 use Rattle.loops_capi.specs.Tables.{sizesToward}
 use Rattle.loops_capi.proofs.tables.bogtrumpet_path_sizes.Statement.{statement}
 use Rattle.loops_capi.proofs.tables.bogtrumpet_path_sizes.Tie as tie
@@ -15,7 +15,7 @@ abbrev μ-loop : tie.MeasureT-loop
 μ-loop link first count now table sum₀ i₀ sum i = count - i
 
 loop-again : tie.Need-loop-again Inv-loop μ-loop
-unfolding keptAmong keptIn
+unfolding keptIn
 loop-again c =
     let t = c .before in
     let w = t .before .before .before .before .before .before .before .before in

@@ -1,10 +1,10 @@
 use native.Mathlib.Omega.{arith}
-use Rattle.paths.specs.Table.{keptAmong, keptIn}
+use Rattle.paths.specs.Table.{keptIn}
 use Rattle.loops_capi.proofs.tables.bogtrumpet_table_size.Statement.{statement}
 use Rattle.loops_capi.proofs.tables.bogtrumpet_table_size.Tie as tie
 
 returns : tie.Need-returns
-unfolding keptAmong keptIn
+unfolding keptIn
 returns c = c .size-among .ensures
 
 pub bogtrumpet-table-size-spec : {M : Type 1} → statement M

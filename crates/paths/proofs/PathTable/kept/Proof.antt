@@ -4,7 +4,7 @@ use borrow.Author.Needs.{needs}
 use borrow.Author.Tests.{lt-ltb, le-ltb}
 use lib.ListN.{length}
 use Rattle.paths.specs.Kept.{mostNeighbours}
-use Rattle.paths.specs.Table.{keptAmong, keptIn}
+use Rattle.paths.specs.Table.{keptIn}
 use Rattle.paths.proofs.Arrays.{Scanned, kept-at, kept-in-none}
 use Rattle.paths.proofs.PathTable.kept.Statement.{statement}
 use Rattle.paths.proofs.PathTable.kept.Tie as tie
@@ -26,13 +26,13 @@ returns : tie.Need-returns
 returns c = kept-in-none _ _ _ (c .if1 .taken)
 
 returns-2 : tie.Need-returns-2
-unfolding keptIn keptAmong
+unfolding keptIn
 returns-2 c =
     let p = c .before .before .before .before in
     rw (kept-at (scanned p) (p .before .before .before .before .before .before .args .now), lt-ltb _ _ (c .before .before .before .if2 .taken)) (c .while-young .ensures)
 
 returns-3 : tie.Need-returns-3
-unfolding keptIn keptAmong
+unfolding keptIn
 returns-3 c =
     let p = c .before in
     rw (kept-at (scanned p) (p .before .before .before .before .before .before .args .now), le-ltb _ _ (c .if2 .left))

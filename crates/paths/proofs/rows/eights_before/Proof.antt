@@ -1,14 +1,14 @@
-use mathlib.Core.Path.{_≡_, sym, _∙_}
-use Prim.Native.Nat.{_+_, _≤_, _-_}
+use mathlib.Core.Path.{sym, _∙_}
+use Prim.Native.Nat.{_-_}
 use native.Mathlib.Omega.{arith}
-use lib.ListN.{length, drop}
-use Rattle.paths.specs.Table.{placeOf}
+use lib.ListN.{length}
+use Rattle.paths.specs.Search.{Passed}
 use Rattle.paths.proofs.Scan.{eight-miss}
 use Rattle.paths.proofs.rows.eights_before.Statement.{statement}
 use Rattle.paths.proofs.rows.eights_before.Tie as tie
 
 abbrev Inv-loop : tie.InvT-loop
-Inv-loop used neighbour i₀ i = (i ≤ length used) × (placeOf neighbour used ≡ i + placeOf neighbour (drop i used))
+Inv-loop used neighbour i₀ i = Passed neighbour used i
 
 abbrev μ-loop : tie.MeasureT-loop
 μ-loop used neighbour i₀ i = length used - i

@@ -1,14 +1,13 @@
-use mathlib.Core.Path.{_≡_}
-use Prim.Native.Nat.{_+_, _≤_, _-_}
+use Prim.Native.Nat.{_-_}
 use native.Mathlib.Omega.{arith}
-use lib.ListN.{length, drop}
-use Rattle.paths.specs.Table.{placeOf}
+use lib.ListN.{length}
+use Rattle.paths.specs.Search.{Passed}
 use Rattle.paths.proofs.Scan.{place-hit, place-miss, place-end}
 use Rattle.paths.proofs.rows.place_from.Statement.{statement}
 use Rattle.paths.proofs.rows.place_from.Tie as tie
 
 abbrev Inv-loop : tie.InvT-loop
-Inv-loop used start neighbour i₀ i = (i ≤ length used) × (placeOf neighbour used ≡ i + placeOf neighbour (drop i used))
+Inv-loop used start neighbour i₀ i = Passed neighbour used i
 
 abbrev μ-loop : tie.MeasureT-loop
 μ-loop used start neighbour i₀ i = length used - i
