@@ -4,22 +4,16 @@ pub mod rules;
 pub mod tables;
 mod worth;
 
+use header::fields;
 ghost use mathlib.Core.Path.{_≡_};
-ghost use Prim.Native.Nat.{min};
 ghost use Rattle.loops_capi.specs.Parts.{partAt};
-
-fn least(a: usize, b: usize) -> usize
-    ensures { λ r. ⌜ r ≡ min a b ⌝ }
-{
-    if a < b { a } else { b }
-}
 
 // Of four parts of a size, one behind the other, the one of turn i: they come in turn, so that no turn repeats the last one. A size
 // that does not fit four times is read as the longest that does.
 pub(crate) fn part_at(all: &[u8], size: usize, i: u32) -> &[u8]
     ensures { λ r. ⌜ now r ≡ partAt (now (all .entry)) size i ⌝ }
 {
-    let size = least(size, all.len() / 4);
+    let size = fields::least(size, all.len() / 4);
     let start = (i % 4) as usize * size;
     let end = start + size;
     &all[start..end]
