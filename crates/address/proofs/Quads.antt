@@ -10,7 +10,7 @@ use mir.Val.{Fits}
 use mir.Syntax.{w8}
 use lib.ListN.{getD}
 use lib.Dec.{eqb}
-use Rattle.lists.specs.Tests.{and-left, and-right}
+use Rattle.lists.proofs.Tests.{and-left, and-right}
 use Rattle.address.specs.Address.{quadOf, wideOf, lastQuad, isUnder, isLinkLocal, isIdentifier, areZero}
 
 -- two tests that pass together are the same

@@ -1,7 +1,7 @@
 -- Answers as plain structs (document 01, "Numbers given back"): the number, 0 where the call is not refused, and the values that go
 -- with it; a value that an answer does not have is 0.
-use Rattle.advertising.specs.declared.HeardAnswer.{HeardAnswer}
-use Rattle.advertising.specs.declared.HeardAnswer.the-variants as heard
+use Rattle.hearing.specs.declared.HeardAnswer.{HeardAnswer}
+use Rattle.hearing.specs.declared.HeardAnswer.the-variants as heard
 use Rattle.asking.specs.declared.AskAnswer.{AskAnswer}
 use Rattle.asking.specs.declared.AskAnswer.the-variants as asked
 use Rattle.node.specs.Node.{setupGiven}

@@ -1,8 +1,8 @@
 -- The number of a plain answer is the one that document 01 gives for it ("Numbers given back").
 use mathlib.Core.Path.{_≡_, refl}
-use Rattle.advertising.specs.Heard.{heardGiven}
-use Rattle.advertising.specs.declared.HeardAnswer.{HeardAnswer}
-use Rattle.advertising.specs.declared.HeardAnswer.the-variants as heard
+use Rattle.hearing.specs.Heard.{heardGiven}
+use Rattle.hearing.specs.declared.HeardAnswer.{HeardAnswer}
+use Rattle.hearing.specs.declared.HeardAnswer.the-variants as heard
 use Rattle.asking.specs.Ask.{askGiven}
 use Rattle.asking.specs.declared.AskAnswer.{AskAnswer}
 use Rattle.asking.specs.declared.AskAnswer.the-variants as asked

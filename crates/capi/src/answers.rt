@@ -1,7 +1,7 @@
 // Each call's answer as a struct of C: document 01's number, 0 where the call was not refused, and the values that go with it. A value
 // that an answer does not have is 0.
-use advertising::HeardAnswer;
 use asking::AskAnswer;
+use hearing::HeardAnswer;
 use node::Node;
 use node::SetupAnswer;
 use node::router_list::ListAnswer;

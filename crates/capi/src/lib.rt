@@ -13,7 +13,7 @@ use node::Node;
 use settings::Settings;
 ghost use mathlib.Core.Path.{_≡_};
 ghost use lib.ListN.{length};
-ghost use Rattle.node.specs.Node.{sizeOf};
+ghost use Rattle.node.specs.Node.{pathSize};
 ghost use Rattle.node.specs.Send.{sendOutput};
 ghost use Rattle.node.specs.Ask.{askOutput};
 ghost use Rattle.capi.specs.Calls.{defaultsOf, setupIn, receivedIn, sentIn, reportedIn, replacedIn, askedIn, heardIn};
@@ -137,7 +137,7 @@ pub extern "C" fn bogtrumpet_hear(n: Node, packet: &[u8], time: u32) -> Heard
 // The size in force toward a neighbour: Node::path_size.
 #[no_mangle]
 pub extern "C" fn bogtrumpet_path_size(n: Node, neighbour: u32) -> u16
-    ensures { λ r. ⌜ r ≡ sizeOf n neighbour ⌝ }
+    ensures { λ r. ⌜ r ≡ pathSize n neighbour ⌝ }
 {
     n.path_size(neighbour)
 }

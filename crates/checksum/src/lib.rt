@@ -4,7 +4,7 @@ ghost use Prim.Native.Nat.{_+_, _*_, _≤_, _<_, min};
 ghost use mathlib.Core.List.{[]};
 ghost use lib.ListN.{length, drop};
 ghost use Rattle.checksum.specs.Sum.{onesSum, onesSumFrom, onesComplement, isRight, isRightFrom};
-ghost use Rattle.checksum.specs.Laws.{wordSum, folded, chunk};
+ghost use Rattle.checksum.specs.Folding.{wordSum, folded, chunk};
 
 // The bytes that are added up before the carries are brought back.
 const CHUNK: usize = 65536;

@@ -15,11 +15,11 @@ use Rattle.paths.specs.Candidate.{isBelow}
 use Rattle.paths.specs.Kept.{inForce}
 use Rattle.paths.specs.Packets.{largestPacket}
 use Rattle.paths.specs.Table.{keptIn}
-use Rattle.paths.specs.Calls.{Call, clock, report, send, Answer, accepted, notBelow, other, table, answer, remembered, latest, history, sendAnswer}
+use Rattle.paths.specs.Calls.{PathCall, clock, report, send, Answer, accepted, notBelow, other, table, answer, remembered, latest, history, sendAnswer}
 use Rattle.paths.specs.Sender.{Event, nothing, packetEvent, eventOf, eventsOf}
 use Rattle.paths.specs.declared.PathTable.{PathTable}
 use Rattle.sending.specs.Plan.{sendCheck}
-use Rattle.sending.specs.Seen.{tooBigSeen, takesMessage, seenAfter, sent-seen}
+use Rattle.sending.proofs.Seen.{tooBigSeen, takesMessage, seenAfter, sent-seen}
 use Rattle.sending.specs.declared.SendAnswer.{SendAnswer}
 use Rattle.sending.specs.declared.SendAnswer.the-variants as sent
 use Rattle.reports.specs.Report.{judgedOf, acceptedBelow, answerAt}
@@ -27,8 +27,8 @@ use Rattle.reports.specs.declared.Judged.{Judged}
 use Rattle.reports.specs.declared.Judged.the-variants as judged
 use Rattle.reports.specs.declared.ReportAnswer.{ReportAnswer}
 use Rattle.reports.specs.declared.ReportAnswer.the-variants as reported
-use Rattle.node.specs.Node.{raisedTo, sizeAt}
-use Rattle.node.specs.Send.{sizeToward, sentBy, sendOf}
+use Rattle.node.specs.Node.{raisedTo, pathSizeAt}
+use Rattle.node.specs.Send.{pathSizeToward, sentBy, sendOf}
 use Rattle.node.specs.Report.{neighbourIn, pathsAfter, reportAnswerOf, reportOf}
 use Rattle.node.specs.RouterList.{replaceOf}
 use Rattle.node.specs.Ask.{askOf}
@@ -43,12 +43,12 @@ passes Pass = true
 passes (Stop r) = false
 
 -- a report that 16, 17 or 18 refuses is none
-abbrev judgedCall : Judged → Call
+abbrev judgedCall : Judged → PathCall
 judgedCall (judged.Report v c) = report v c
 judgedCall (judged.Refused r) = clock 0
 
 -- what is seen of a call
-abbrev callSeen : Settings → Bool → NodeCall → Call
+abbrev callSeen : Settings → Bool → NodeCall → PathCall
 callSeen s mine (receiving d interface) = clock 0
 callSeen s mine (receivingPart d interface) = clock 0
 callSeen s mine (sending packet hop k time out) =
@@ -58,7 +58,7 @@ callSeen s mine (relisting addresses count time) = clock 0
 callSeen s mine (asking k time out) = clock 0
 callSeen s mine (hearing packet time) = clock 0
 
-abbrev pub callsSeen : Settings → (ℕ → Bool) → List NodeCall → List Call
+abbrev pub callsSeen : Settings → (ℕ → Bool) → List NodeCall → List PathCall
 callsSeen s choice [] = []
 callsSeen s choice (x ∷ xs) = clock (timeOf x) ∷ (callSeen s (choice 0) x ∷ callsSeen s (λ k. choice (suc k)) xs)
 
@@ -129,7 +129,7 @@ spaced [] = []
 spaced (e ∷ h) = nothing ∷ (e ∷ spaced h)
 
 -- one more call, whatever is known of its answer
-module _ (v link : ℕ) (t t₂ : PathTable) (now now₂ : ℕ) (x : Call) (a : Answer) (e : Event) (xs : List Call) (h : List Event) where
+module _ (v link : ℕ) (t t₂ : PathTable) (now now₂ : ℕ) (x : PathCall) (a : Answer) (e : Event) (xs : List PathCall) (h : List Event) where
   one-more : answer table largestPacket link t now x ≡ a → remembered table t now a ≡ t₂ → latest now x ≡ now₂ → eventOf v x a ≡ e
       → eventsOf v (history table largestPacket link t₂ now₂ xs) ≡ h → eventsOf v (history table largestPacket link t now (x ∷ xs)) ≡ e ∷ h
   one-more p q l w i = cc
@@ -162,7 +162,7 @@ module _ (v : ℕ) where
       (λ x. (x .service .settings ≡ n .service .settings) × (x .paths ≡ n .paths) × (x .latest ≡ max (n .latest) time)) (refl, refl, refl) (refl, refl, refl)
 
   pub same-events : (choice : ℕ → Bool) (n : Node) (xs : List NodeCall) → Same choice n xs
-  unfolding sendOf sentBy reportOf reportAnswerOf askOf hearOf sizeAt
+  unfolding sendOf sentBy reportOf reportAnswerOf askOf hearOf pathSizeAt
   same-events choice n [] = refl
   same-events choice n (receiving d interface ∷ xs) =
       clocked (λ k. choice (suc k)) n n 0 xs refl refl (omega arith) (same-events (λ k. choice (suc k)) n xs)
@@ -177,8 +177,8 @@ module _ (v : ℕ) where
       ap (λ (h : List Event). nothing ∷ h)
       (one-more v (s .«link_size») (n .paths) (n .paths) now now (callSeen s (choice 0) x) (tooBigSeen a)
       (cond (choice 0 && eqb (lastQuad hop) v) (sentEvent (length packet) a) nothing) (callsSeen s (λ i. choice (suc i)) xs) rest
-      (send-seen (sendCheck s packet hop k) (largestPacket (sizeToward n hop time)) (length packet) (takesMessage packet (length out))
-      ∙ sym (sent-seen s (n .service .identification) (sizeToward n hop time) packet hop k (length out)))
+      (send-seen (sendCheck s packet hop k) (largestPacket (pathSizeToward n hop time)) (length packet) (takesMessage packet (length out))
+      ∙ sym (sent-seen s (n .service .identification) (pathSizeToward n hop time) packet hop k (length out)))
       (sent-remembered (s .«link_size») now (n .paths) a) refl
       (ap (λ (e : Event). cond (choice 0 && eqb (lastQuad hop) v) e nothing) (sent-event a (length packet)))
       (same-events (λ i. choice (suc i)) (nodeNext n x) xs))

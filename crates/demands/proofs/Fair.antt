@@ -9,15 +9,15 @@ use Rattle.settings.specs.Settings.{areRoutersRight}
 use Rattle.lifetimes.specs.Lifetimes.{withoutLifetime}
 use Rattle.routers.specs.Routers.{live, rescheduled}
 use Rattle.routers.specs.declared.Router.{Router}
-use Rattle.routers.specs.Fairness.{Call, asked, heard, other, served, Unheard}
+use Rattle.routers.specs.Fairness.{RouterCall, asked, heard, other, served, Unheard}
 use Rattle.routers.proofs.Fairness.{fair}
 use Rattle.routers.proofs.Live.{live-rescheduled}
-use Rattle.asking.specs.Laws as asking
+use Rattle.asking.proofs.Laws as asking
 use Rattle.asking.specs.declared.AskAnswer.{AskAnswer}
 use Rattle.asking.specs.declared.AskAnswer.the-variants as ask
-use Rattle.advertising.specs.Laws as advertising
-use Rattle.advertising.specs.declared.HeardAnswer.{HeardAnswer}
-use Rattle.advertising.specs.declared.HeardAnswer.the-variants as hear
+use Rattle.hearing.proofs.Laws as hearing
+use Rattle.hearing.specs.declared.HeardAnswer.{HeardAnswer}
+use Rattle.hearing.specs.declared.HeardAnswer.the-variants as hear
 use Rattle.node.specs.Node.{raisedTo}
 use Rattle.node.specs.Send.{sendOf}
 use Rattle.node.specs.Report.{reportOf}
@@ -31,17 +31,17 @@ use Rattle.demands.proofs.One.{unchosen}
 use Rattle.demands.specs.Fair.{routerIn, servedBy, AllQuiet, FairNode}
 
 -- a call on the router list: what a call on the node with that answer is
-abbrev askedCall : AskAnswer → ℕ → Call
+abbrev askedCall : AskAnswer → ℕ → RouterCall
 askedCall (ask.Router a) time = asked time
 askedCall (ask.Refused r) time = other time
 
 module _ (n : Node) (packet : List ℕ) (time : ℕ) where
-  unfoldable heardCall : (a : HeardAnswer) → heardBy n packet time .answer ≡ a → Call
+  unfoldable heardCall : (a : HeardAnswer) → heardBy n packet time .answer ≡ a → RouterCall
   unfolding heardBy
-  heardCall (hear.Router b) e = heard time b (advertising.accepted-puts-off (n .service .settings) (n .service .routers) (max (n .latest) time) packet b e .delay)
+  heardCall (hear.Router b) e = heard time b (hearing.accepted-puts-off (n .service .settings) (n .service .routers) (max (n .latest) time) packet b e .delay)
   heardCall (hear.Refused r) e = other time
 
-abbrev seen : Node → NodeCall → Call
+abbrev seen : Node → NodeCall → RouterCall
 seen n (receiving d interface) = other 0
 seen n (receivingPart d interface) = other 0
 seen n (sending packet hop k time out) = other time
@@ -50,7 +50,7 @@ seen n (relisting addresses count time) = other time
 seen n (asking k time out) = askedCall (askedBy n k time (length out) .answer) time
 seen n (hearing packet time) = heardCall n packet time (heardBy n packet time .answer) refl
 
-abbrev callsOf : Node → List NodeCall → List Call
+abbrev callsOf : Node → List NodeCall → List RouterCall
 callsOf n [] = []
 callsOf n (x ∷ xs) = seen n x ∷ callsOf (nodeNext n x) xs
 
@@ -59,7 +59,7 @@ module _ (v : ℕ) where
   abbrev Same : Node → List NodeCall → Type 0
   Same n xs = served v (n .latest) (live (n .service .routers)) (callsOf n xs) ≡ servedBy n xs
 
-  moved : (t u : ℕ) (rs qs : List Router) (cs : List Call) (l : List ℕ) → t ≡ u → rs ≡ qs → served v t rs cs ≡ l → served v u qs cs ≡ l
+  moved : (t u : ℕ) (rs qs : List Router) (cs : List RouterCall) (l : List ℕ) → t ≡ u → rs ≡ qs → served v t rs cs ≡ l → served v u qs cs ≡ l
   moved t u rs qs cs l p q h = rw (← p, ← q) h
 
   -- a call that leaves the routers
@@ -91,13 +91,13 @@ module _ (v : ℕ) where
   unfolding served hearOf heardBy heardCall
   hearing-step n packet time xs (hear.Router b) e same =
       let now = max (n .latest) time in
-      let p = advertising.accepted-puts-off (n .service .settings) (n .service .routers) now packet b e in
+      let p = hearing.accepted-puts-off (n .service .settings) (n .service .routers) now packet b e in
       let r : live (nodeNext n (hearing packet time) .service .routers) ≡ rescheduled b (now + p .delay) (live (n .service .routers)) =
       rw (p .rescheduled) (live-rescheduled b _ (n .service .routers)) in
       let m = nodeNext n (hearing packet time) in
       moved (m .latest) now _ _ (callsOf m xs) _ refl r same
   hearing-step n packet time xs (hear.Refused x) e same =
-      let l = advertising.refused-unchanged (n .service .settings) (n .service .routers) (max (n .latest) time) packet x e in
+      let l = hearing.refused-unchanged (n .service .settings) (n .service .routers) (max (n .latest) time) packet x e in
       other-step n (nodeNext n (hearing packet time)) time xs l refl same
 
   -- a list that is not taken leaves the node with its latest time raised
@@ -128,17 +128,17 @@ module _ (v : ℕ) where
   same-served a n (hearing packet time ∷ xs) ev q =
       hearing-step n packet time xs _ refl (same-served a (nodeNext n (hearing packet time)) xs ev (q .1))
 
-  asked-unheard : (a : ℕ) (x : AskAnswer) (time : ℕ) (cs : List Call) → Unheard v a cs → Unheard v a (askedCall x time ∷ cs)
+  asked-unheard : (a : ℕ) (x : AskAnswer) (time : ℕ) (cs : List RouterCall) → Unheard v a cs → Unheard v a (askedCall x time ∷ cs)
   unfolding Unheard
   asked-unheard a (ask.Router b) time cs u = u
   asked-unheard a (ask.Refused r) time cs u = u
 
-  heard-unheard : (a : ℕ) (n : Node) (packet : List ℕ) (time : ℕ) (x : HeardAnswer) (e : heardBy n packet time .answer ≡ x) (cs : List Call)
+  heard-unheard : (a : ℕ) (n : Node) (packet : List ℕ) (time : ℕ) (x : HeardAnswer) (e : heardBy n packet time .answer ≡ x) (cs : List RouterCall)
       → n .service .settings .interval ≡ v → v ≤ withoutLifetime → (heardBy n packet time .answer ≡ hear.Router a → ⊥) → Unheard v a cs
       → Unheard v a (heardCall n packet time x e ∷ cs)
   unfolding Unheard heardCall heardBy
   heard-unheard a n packet time (hear.Router b) e cs ev most q u =
-      let p = advertising.accepted-puts-off (n .service .settings) (n .service .routers) (max (n .latest) time) packet b e in
+      let p = hearing.accepted-puts-off (n .service .settings) (n .service .routers) (max (n .latest) time) packet b e in
       let long : v ≤ p .delay = rw (← ev) (p .interval (rw ev most)) in
       (λ (same : b ≡ a). q (e ∙ ap hear.Router same), long, u)
   heard-unheard a n packet time (hear.Refused r) e cs ev most q u = u

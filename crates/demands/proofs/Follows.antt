@@ -12,7 +12,7 @@ use Rattle.sending.specs.Sending.{sentOf}
 use Rattle.reports.specs.Report.{judgedOf}
 use Rattle.reports.specs.declared.ReportAnswer.{ReportAnswer}
 use Rattle.reports.specs.declared.ReportAnswer.the-variants.{Accepted, Refused}
-use Rattle.node.specs.Node.{nodeOf, raisedTo, sizeAt}
+use Rattle.node.specs.Node.{nodeOf, raisedTo, pathSizeAt}
 use Rattle.node.specs.Send.{sentBy, sendOf}
 use Rattle.node.specs.Report.{neighbourIn, pathsAfter, reportAnswerOf, reportOf}
 use Rattle.node.specs.RouterList.{replaceOf}
@@ -40,8 +40,8 @@ module _ (s : Settings) where
 
   module _ (n : Node) (r : Plain) (f : Follows s n r) where
     -- toward any neighbour and at any time both have the same size
-    pub size-at : (v time : ℕ) → sizeAt n v (max (n .latest) time) ≡ plainSize s (raised r time) v
-    unfolding sizeAt
+    pub size-at : (v time : ℕ) → pathSizeAt n v (max (n .latest) time) ≡ plainSize s (raised r time) v
+    unfolding pathSizeAt
     size-at v time = rw (f .settings, f .latest, f .paths) (same-in-force (r .entries) v (max (r .latest) time) (s .«link_size»))
 
     same-report : (m : List ℕ) (time : ℕ) → reportAnswerOf n m (max (n .latest) time) ≡ plainReport s (raised r time) m

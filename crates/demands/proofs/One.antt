@@ -14,23 +14,23 @@ use Rattle.receiving.specs.declared.Received.{Received}
 use Rattle.receiving.specs.declared.Received.the-variants as received
 use Rattle.routers.specs.declared.RouterList.{RouterList}
 use Rattle.sending.specs.Sending.{sendGiven}
-use Rattle.sending.specs.Leaves.{messageOf, refused-leaves, too-big-leaves}
+use Rattle.sending.proofs.Leaves.{messageOf, refused-leaves, too-big-leaves}
 use Rattle.sending.specs.declared.SendAnswer.{SendAnswer}
 use Rattle.sending.specs.declared.SendAnswer.the-variants as sent
 use Rattle.reports.specs.Report.{reportGiven}
 use Rattle.reports.specs.declared.ReportAnswer.{ReportAnswer}
 use Rattle.reports.specs.declared.ReportAnswer.the-variants as reported
 use Rattle.asking.specs.Ask.{askGiven}
-use Rattle.asking.specs.Laws as asking
+use Rattle.asking.proofs.Laws as asking
 use Rattle.asking.specs.declared.AskAnswer.{AskAnswer}
 use Rattle.asking.specs.declared.AskAnswer.the-variants as asked
-use Rattle.advertising.specs.Heard.{heardGiven}
-use Rattle.advertising.specs.Laws as advertising
-use Rattle.advertising.specs.declared.HeardAnswer.{HeardAnswer}
-use Rattle.advertising.specs.declared.HeardAnswer.the-variants as heard
+use Rattle.hearing.specs.Heard.{heardGiven}
+use Rattle.hearing.proofs.Laws as hearing
+use Rattle.hearing.specs.declared.HeardAnswer.{HeardAnswer}
+use Rattle.hearing.specs.declared.HeardAnswer.the-variants as heard
 use Rattle.node.specs.Node.{raisedTo}
 use Rattle.node.specs.Receive.{receiveOf}
-use Rattle.node.specs.Send.{sizeToward, sentBy, sendOf, sendOutput}
+use Rattle.node.specs.Send.{pathSizeToward, sentBy, sendOf, sendOutput}
 use Rattle.node.specs.Report.{reportAnswerOf, reportOf}
 use Rattle.node.specs.RouterList.{listGiven, relisted, replaceOf}
 use Rattle.node.specs.Ask.{askedBy, askOf, askOutput}
@@ -84,7 +84,7 @@ module _ (n : Node) (full : length (n .service .settings .reporting) ≡ 16) (pa
       }
   sending-refusing (sent.TooBig size len) e =
       let s = n .service .settings in
-      let l = too-big-leaves s (n .service .identification) (sizeToward n hop time) packet hop k out size len full e in
+      let l = too-big-leaves s (n .service .identification) (pathSizeToward n hop time) packet hop k out size len full e in
       let told : sendGiven (sendOf n packet hop k time (length out) .answer) ≡ record { number = 14; values = size ∷ len ∷ [] } = rw e in
       record {
         state = λ h. same-service (l .0);
@@ -92,7 +92,7 @@ module _ (n : Node) (full : length (n .service .settings .reporting) ≡ 16) (pa
         tooBig = λ size′ len′ h. record { message = messageOf s size packet; size = l .2 ∙ named _ size len size′ len′ told h; output = l .1 };
       }
   sending-refusing (sent.Refused r) e =
-      let l = refused-leaves (n .service .settings) (n .service .identification) (sizeToward n hop time) packet hop k out r e in
+      let l = refused-leaves (n .service .settings) (n .service .identification) (pathSizeToward n hop time) packet hop k out r e in
       record { state = λ h. same-service (l .0); output = λ h g. l .1; tooBig = λ size len h. plain-message out _ size len r (rw e at h) }
 
 reporting-refusing : (n : Node) (m : List ℕ) (time : ℕ) (a : ReportAnswer) → reportAnswerOf n m (max (n .latest) time) ≡ a → Refusing n (reporting m time)
@@ -140,7 +140,7 @@ hearing-refusing n packet time (heard.Router v) e =
     let zero : heardGiven (hearOf n packet time .answer) .number ≡ 0 = rw e in
     record { state = λ h. absurd (h zero); output = λ h g. refl; tooBig = λ size len h. answered-message [] [] _ size len (rw e at h) }
 hearing-refusing n packet time (heard.Refused r) e =
-    let l = advertising.refused-unchanged (n .service .settings) (n .service .routers) (max (n .latest) time) packet r e in
+    let l = hearing.refused-unchanged (n .service .settings) (n .service .routers) (max (n .latest) time) packet r e in
     record { state = λ h. same-routers n time _ l; output = λ h g. refl; tooBig = λ size len h. plain-message [] [] size len r (rw e at h) }
 
 pub demand-one : DemandOne

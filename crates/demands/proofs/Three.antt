@@ -36,7 +36,7 @@ module _ (s : Settings) (calls : List NodeCall) where
   unfolding nodeOf
   sender-bound choice v =
       let events = nodeEvents choice v (nodeOf s) calls in
-      let abstract = paths.demand-three largestPacket paths.largestPacket-grows (s .«link_size») (callsSeen s choice calls) .senders v in
+      let abstract = paths.all-paths-hold largestPacket paths.largestPacket-grows (s .«link_size») (callsSeen s choice calls) .senders v in
       bound-heard (spaced events) events (heard-spaced events) (rw (same-events v choice (nodeOf s) calls) at abstract)
 
 pub demand-three : DemandThree

@@ -7,7 +7,7 @@ use Rattle.receiving.specs.Receive.{receivedGiven}
 use Rattle.sending.specs.Sending.{sendGiven}
 use Rattle.reports.specs.Report.{reportGiven}
 use Rattle.asking.specs.Ask.{askGiven}
-use Rattle.advertising.specs.Heard.{heardGiven}
+use Rattle.hearing.specs.Heard.{heardGiven}
 use Rattle.node.specs.Receive.{receiveOf, partIn}
 use Rattle.node.specs.Send.{sendOf, sendOutput}
 use Rattle.node.specs.Report.{reportOf}

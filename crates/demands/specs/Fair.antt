@@ -8,7 +8,7 @@ use Rattle.routers.specs.Routers.{live}
 use Rattle.routers.specs.declared.Router.{Router}
 use Rattle.asking.specs.declared.AskAnswer.{AskAnswer}
 use Rattle.asking.specs.declared.AskAnswer.the-variants as ask
-use Rattle.advertising.specs.declared.HeardAnswer.the-variants as hear
+use Rattle.hearing.specs.declared.HeardAnswer.the-variants as hear
 use Rattle.node.specs.RouterList.{replaceOf}
 use Rattle.node.specs.Ask.{askOf}
 use Rattle.node.specs.Hear.{hearOf}

@@ -13,7 +13,7 @@ use Rattle.header.specs.Wrap.{be16, be32, outerBytes}
 use Rattle.settings.specs.Locators.{noLocator}
 use Rattle.settings.specs.Settings.{defaultsFor}
 use Rattle.settings.specs.declared.Settings.{Settings}
-use Rattle.node.specs.Node.{nodeOf, sizeOf}
+use Rattle.node.specs.Node.{nodeOf, pathSize}
 use Rattle.node.specs.declared.Node.{Node}
 use Rattle.demands.specs.Calls.{NodeCall, receiving, sending, reporting, asking, givenTo, outputOf, nodeAfter}
 
@@ -92,8 +92,8 @@ pub record Starred : Type 0 where
       × (givenLast node [] (report 67 1500) ≡ refused SizeUnusable)
       × (givenLast node [] (report 1500 1500) ≡ refused SizeNotBelow)
   -- accepted at 1,000: in force at 1,599, gone at 1,600
-  pub ages : (sizeOf (nodeAfter node (asking 0 1000 [] ∷ report 1300 1500 ∷ asking 0 1599 [] ∷ [])) neighbour ≡ 1300)
-      × (sizeOf (nodeAfter node (asking 0 1000 [] ∷ report 1300 1500 ∷ asking 0 1600 [] ∷ [])) neighbour ≡ 1500)
+  pub ages : (pathSize (nodeAfter node (asking 0 1000 [] ∷ report 1300 1500 ∷ asking 0 1599 [] ∷ [])) neighbour ≡ 1300)
+      × (pathSize (nodeAfter node (asking 0 1000 [] ∷ report 1300 1500 ∷ asking 0 1600 [] ∷ [])) neighbour ≡ 1500)
   -- the header of the program's example gets checksum 6696
   pub checksum : outerBytes 60 (record { identification = 1; «dont_fragment» = false; ttl = 64; protocol = 41; source = neighbour; destination = us })
       ≡ 0x45 ∷ 0x00 ∷ 0x00 ∷ 0x3C ∷ 0x00 ∷ 0x01 ∷ 0x00 ∷ 0x00 ∷ 0x40 ∷ 0x29 ∷ 0x66 ∷ 0x96 ∷ be32 neighbour (be32 us [])

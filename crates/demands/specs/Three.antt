@@ -7,7 +7,7 @@ use lib.ListN.{take}
 use Rattle.settings.specs.Settings.{isAccepted}
 use Rattle.settings.specs.declared.Settings.{Settings}
 use Rattle.paths.specs.Sender.{Bound}
-use Rattle.node.specs.Node.{setupOf, sizeAt}
+use Rattle.node.specs.Node.{setupOf, pathSizeAt}
 use Rattle.node.specs.declared.Node.{Node}
 use Rattle.demands.specs.Calls.{NodeCall, nodeAfter}
 use Rattle.demands.specs.Plain.{freshPlain, raised, plainSize, plainAfter, plainRun, run}
@@ -25,7 +25,7 @@ module _ (s : Settings) (calls : List NodeCall) where
     -- the node's size toward any neighbour v is the record's, before and after each of the calls and at whatever time the next
     -- one, a sending or a report, has
     pub sizes : (k v time : ℕ)
-        → sizeAt (nodeAfter start (take k calls)) v (max (nodeAfter start (take k calls) .latest) time)
+        → pathSizeAt (nodeAfter start (take k calls)) v (max (nodeAfter start (take k calls) .latest) time)
         ≡ plainSize s (raised (plainAfter s freshPlain (take k calls)) time) v
     -- every sender, any choice of the sendings to v, that never offers more than the smallest size that a Too Big has named to it
     -- gets at most one Too Big more than there are accepted reports for v since its first packet

@@ -15,11 +15,11 @@ use Rattle.sending.specs.Wraps.{WrappedExactly}
 use Rattle.receiving.specs.Admitted.{DeliveredExactly, delivered}
 use Rattle.asking.specs.Answered.{Answered}
 use Rattle.asking.specs.declared.AskAnswer.the-variants as ask
-use Rattle.advertising.specs.Accepted as advertising
-use Rattle.advertising.specs.declared.HeardAnswer.the-variants as hear
-use Rattle.node.specs.Node.{sizeAt}
+use Rattle.hearing.specs.Accepted as hearing
+use Rattle.hearing.specs.declared.HeardAnswer.the-variants as hear
+use Rattle.node.specs.Node.{pathSizeAt}
 use Rattle.node.specs.Receive.{partIn}
-use Rattle.node.specs.Send.{sizeToward}
+use Rattle.node.specs.Send.{pathSizeToward}
 use Rattle.node.specs.Report.{neighbourIn, reportAnswerOf}
 use Rattle.node.specs.Ask.{askOf}
 use Rattle.node.specs.Hear.{hearOf}
@@ -31,12 +31,12 @@ pub record Exactly (n : Node) : Type 0 where
   pub part : (d : List ℕ) (interface : ℕ) → partIn n d interface ≡ delivered (n .service .settings) (live (n .service .routers)) d interface
   -- a packet is wrapped exactly when the rules of sending hold for the path size in force, and then those bytes are written
   pub sends : (packet hop : List ℕ) (k time : ℕ) (out : List ℕ)
-      → WrappedExactly (n .service .settings) (n .service .identification) (sizeToward n hop time) packet hop k out
+      → WrappedExactly (n .service .settings) (n .service .identification) (pathSizeToward n hop time) packet hop k out
   -- a report is accepted exactly when 16 to 19 do not hold at the size in force toward its neighbour
   pub reports : (m : List ℕ) (now v c : ℕ)
-      → reports.AcceptedExactly (n .service .settings) m (sizeAt n (neighbourIn (judgedOf (n .service .settings) m)) now) v c
+      → reports.AcceptedExactly (n .service .settings) m (pathSizeAt n (neighbourIn (judgedOf (n .service .settings) m)) now) v c
   pub judged : (m : List ℕ) (now : ℕ)
-      → reportAnswerOf n m now ≡ answerAt (judgedOf (n .service .settings) m) (sizeAt n (neighbourIn (judgedOf (n .service .settings) m)) now)
+      → reportAnswerOf n m now ≡ answerAt (judgedOf (n .service .settings) m) (pathSizeAt n (neighbourIn (judgedOf (n .service .settings) m)) now)
   -- an asking names a router exactly if the rules hold, and then the solicitation is written and the router is due after the interval
   pub asks : (k time : ℕ) (out : List ℕ) (router : ℕ) → askOf n k time (length out) .answer ≡ ask.Router router
       → Answered (n .service .settings) (n .service .routers) (max (n .latest) time) k out router
@@ -47,9 +47,9 @@ pub record Exactly (n : Node) : Type 0 where
       → askOf n k time (length out) .answer ≡ ask.Router router
   -- an advertisement is accepted exactly when it is valid and its source embeds a listed router
   pub hears : (packet : List ℕ) (time router : ℕ) → hearOf n packet time .answer ≡ hear.Router router
-      → advertising.Accepts (n .service .settings) (n .service .routers) (max (n .latest) time) packet router
+      → hearing.Accepts (n .service .settings) (n .service .routers) (max (n .latest) time) packet router
   pub heard : (packet : List ℕ) (time router : ℕ)
-      → advertising.Accepts (n .service .settings) (n .service .routers) (max (n .latest) time) packet router → hearOf n packet time .answer ≡ hear.Router router
+      → hearing.Accepts (n .service .settings) (n .service .routers) (max (n .latest) time) packet router → hearOf n packet time .answer ≡ hear.Router router
 
 unfoldable pub DemandTwo : Type 0
 DemandTwo = (n : Node) → Exactly n

@@ -1,10 +1,5 @@
 pub mod Fields
 pub mod Outer
-pub mod OuterLaws
 pub mod Inner
-pub mod InnerLaws
-pub mod Padded
 pub mod Wrap
-pub mod WriterLaws
-pub mod Right
-pub mod ReadBack
+pub mod Whole

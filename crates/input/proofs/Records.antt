@@ -10,9 +10,9 @@ use borrow.Author.Tests.{leb-true, leb-false}
 use lib.Dec.{leb}
 use lib.ListN.{length, getD, take, drop, set, replicate, length-take, length-map, length-replicate, List·getD-map}
 use lib.Seq.{drop-cons, drop-drop, take-suc, take-all, take-take, set-at}
-use Rattle.lists.specs.Parts.{take-least, drop-least}
+use Rattle.lists.proofs.Parts.{take-least, drop-least}
 use Rattle.lent.specs.Written.{written, placed}
-use Rattle.lent.specs.Laws.{placed-first}
+use Rattle.lent.proofs.Laws.{placed-first}
 use Rattle.input.specs.Section.{countOf, prefixBytes, records, recordsOf, recordAt, filled}
 use Rattle.input.specs.Laws.{length-records, flatten-records}
 

@@ -11,8 +11,8 @@ use Rattle.address.specs.Address.{lastQuad}
 use Rattle.sending.specs.Sending.{sentOutput}
 use Rattle.sending.specs.declared.SendAnswer.{SendAnswer}
 use Rattle.sending.specs.declared.SendAnswer.the-variants.{Wrapped, TooBig, Refused}
-use Rattle.node.specs.Node.{raisedTo, sizeAt, sizeOf}
-use Rattle.node.specs.Send.{sizeToward, sentBy, sendOf, sendOutput}
+use Rattle.node.specs.Node.{raisedTo, pathSizeAt, pathSize}
+use Rattle.node.specs.Send.{pathSizeToward, sentBy, sendOf, sendOutput}
 use Rattle.node.specs.declared.Node.{Node}
 use Rattle.node.proofs.Node as T
 use Rattle.node.proofs.Node.Laws as T′
@@ -46,8 +46,8 @@ pub time-raised : (h : Node) (t : ℕ) → at-time h (max (h .latest) t) ≡ rai
 unfolding raisedTo
 time-raised h t = refl
 
-pub size-raised : (h : Node) (hop : List ℕ) (t : ℕ) → sizeOf (at-time h (max (h .latest) t)) (lastQuad hop) ≡ sizeToward h hop t
-unfolding sizeOf sizeAt
+pub size-raised : (h : Node) (hop : List ℕ) (t : ℕ) → pathSize (at-time h (max (h .latest) t)) (lastQuad hop) ≡ pathSizeToward h hop t
+unfolding pathSize pathSizeAt
 size-raised h hop t = refl
 
 -- the answer without the node, whatever node goes with it
@@ -63,7 +63,7 @@ plain-node (Refused _) h = refl
 
 -- what looking the size up says of it, and of the node that is left
 abbrev pub Sized : Node → List ℕ → ℕ → ℕ → Node → Type 0
-Sized h hop t s n = (s ≡ sizeToward h hop t) × (n ≡ raisedTo h t)
+Sized h hop t s n = (s ≡ pathSizeToward h hop t) × (n ≡ raisedTo h t)
 
 -- what sending from that node over a path of that size says of the step, and of the output that is left
 abbrev pub Said : List ℕ → List ℕ → ℕ → List ℕ → ℕ → Node → SendStep → List ℕ → Type 0
@@ -71,7 +71,7 @@ Said p hop k out s n r zs = (r ≡ sendStep n s p hop k (length out)) × (zs ≡
 
 module _ (h : Node) (p hop : List ℕ) (k t : ℕ) (out : List ℕ) where
   abbrev step : SendStep
-  step = sendStep (raisedTo h t) (sizeToward h hop t) p hop k (length out)
+  step = sendStep (raisedTo h t) (pathSizeToward h hop t) p hop k (length out)
 
   answer-same : step .answer ≡ sentAnswer (sentIn h p hop k t (length out))
   unfolding sendStep raisedTo sentIn sendOf sentBy
@@ -81,7 +81,7 @@ module _ (h : Node) (p hop : List ℕ) (k t : ℕ) (out : List ℕ) where
   unfolding sendStep raisedTo sentIn sendOf sentBy
   next-same = plain-node (sendOf h p hop k t (length out) .answer) (sendOf h p hop k t (length out) .node)
 
-  output-same : sentOutput (raisedTo h t .service .settings) (raisedTo h t .service .identification) (sizeToward h hop t) p hop k out ≡ sendOutput h p hop k t out
+  output-same : sentOutput (raisedTo h t .service .settings) (raisedTo h t .service .identification) (pathSizeToward h hop t) p hop k out ≡ sendOutput h p hop k t out
   unfolding raisedTo sendOutput
   output-same = refl
 

@@ -12,15 +12,15 @@ use steps::SentIn;
 ghost use mathlib.Core.Path.{_≡_};
 ghost use lib.ListN.{length};
 ghost use Rattle.node.specs.Ask.{askOutput};
-ghost use Rattle.node.specs.Node.{raisedTo, sizeOf};
-ghost use Rattle.node.specs.Send.{sizeToward, sendOutput};
+ghost use Rattle.node.specs.Node.{raisedTo, pathSize};
+ghost use Rattle.node.specs.Send.{pathSizeToward, sendOutput};
 ghost use Rattle.capi.specs.Calls.{receivedIn, sentIn, reportedIn, replacedIn, askedIn, heardIn};
 ghost use Rattle.lent_capi.specs.Steps.{sentAnswer, reportedAnswer, askedAnswer, heardAnswer};
 
 // The size in force toward a neighbour: Node::path_size. The rows of the path table are lent to the search, so that none is copied.
 #[no_mangle]
 pub extern "C" fn bogtrumpet_path_size_in(node: &Node, neighbour: u32) -> u16
-    ensures { λ r. ⌜ r ≡ sizeOf (now (node .entry)) neighbour ⌝ }
+    ensures { λ r. ⌜ r ≡ pathSize (now (node .entry)) neighbour ⌝ }
 {
     paths::size_among(
         node.service.settings.link_size,
@@ -43,7 +43,7 @@ pub extern "C" fn bogtrumpet_receive_in(node: &Node, d: &[u8], interface: u8) ->
 
 // The size in force toward the tunnel end of a next hop, after the node's latest time is raised.
 fn path_size_toward(node: &mut Node, next_hop: Address, time: u32) -> u16
-    ensures { λ r. ⌜ (r ≡ sizeToward (now (node .entry)) («next_hop» .bytes) time)
+    ensures { λ r. ⌜ (r ≡ pathSizeToward (now (node .entry)) («next_hop» .bytes) time)
         × (now (node .exit) ≡ raisedTo (now (node .entry)) time) ⌝ }
 {
     node.latest = node::later(node.latest, time);

@@ -9,11 +9,11 @@ use native.Mathlib.Omega.{arith}
 use lib.ListN.{length, getD, take, drop}
 use lib.Dec.{leb}
 use borrow.Author.Tests.{eq-eqb, ne-eqb, leb-true}
-use Rattle.lifetimes.specs.Options.{unitBytes, sizeAt, optionsFrom, optionsOf}
+use Rattle.lifetimes.specs.Options.{unitBytes, optionSize, optionsFrom, optionsOf}
 
 -- an option is within the bytes
-pub size-fits : (bs : List ℕ) → sizeAt bs ≤ length bs
-unfolding sizeAt
+pub size-fits : (bs : List ℕ) → optionSize bs ≤ length bs
+unfolding optionSize
 size-fits bs = go (leb (getD bs 1 0 * unitBytes) (length bs)) refl
   where
     go : (t : Bool) → leb (getD bs 1 0 * unitBytes) (length bs) ≡ t → cond t (getD bs 1 0 * unitBytes) 0 ≤ length bs
@@ -21,26 +21,26 @@ size-fits bs = go (leb (getD bs 1 0 * unitBytes) (length bs)) refl
     go false e = omega arith
 
 -- an option that is not 0 bytes long is as long as its length says
-pub size-units : (bs : List ℕ) → (sizeAt bs ≡ 0 → ⊥) → sizeAt bs ≡ getD bs 1 0 * unitBytes
-unfolding sizeAt
+pub size-units : (bs : List ℕ) → (optionSize bs ≡ 0 → ⊥) → optionSize bs ≡ getD bs 1 0 * unitBytes
+unfolding optionSize
 size-units bs = go (leb (getD bs 1 0 * unitBytes) (length bs))
   where
     go : (t : Bool) → (cond t (getD bs 1 0 * unitBytes) 0 ≡ 0 → ⊥) → cond t (getD bs 1 0 * unitBytes) 0 ≡ getD bs 1 0 * unitBytes
     go true h = refl
     go false h = absurd (h refl)
 
-pub size-least : (bs : List ℕ) → (sizeAt bs ≡ 0 → ⊥) → unitBytes ≤ sizeAt bs
+pub size-least : (bs : List ℕ) → (optionSize bs ≡ 0 → ⊥) → unitBytes ≤ optionSize bs
 size-least bs h = omega (arith, h, size-units bs h)
 
 -- an option that has no length byte
-pub size-short : (bs : List ℕ) → length bs < 2 → 0 ≡ sizeAt bs
-unfolding sizeAt
+pub size-short : (bs : List ℕ) → length bs < 2 → 0 ≡ optionSize bs
+unfolding optionSize
 size-short [] h = refl
 size-short (b ∷ []) h = refl
 size-short (b ∷ d ∷ bs) h = absurd (not-suc-le-zero (le-of-suc-le-suc (le-of-suc-le-suc h)))
 
 -- no option, if the first has length 0 or runs past the end
-pub options-none : (bs : List ℕ) → sizeAt bs ≡ 0 → optionsOf bs ≡ []
+pub options-none : (bs : List ℕ) → optionSize bs ≡ 0 → optionsOf bs ≡ []
 unfolding optionsFrom
 options-none [] e = refl
 options-none (b ∷ bs) e = rw (eq-eqb _ _ e)
@@ -53,10 +53,10 @@ passed (suc k) [] = refl
 passed (suc k) (b ∷ bs) = passed k bs
 
 -- the first option, and the options after it
-pub options-cons : (bs : List ℕ) → (sizeAt bs ≡ 0 → ⊥) → optionsOf bs ≡ take (sizeAt bs) bs ∷ optionsOf (drop (sizeAt bs) bs)
+pub options-cons : (bs : List ℕ) → (optionSize bs ≡ 0 → ⊥) → optionsOf bs ≡ take (optionSize bs) bs ∷ optionsOf (drop (optionSize bs) bs)
 unfolding optionsFrom
 options-cons [] h = absurd (h (sym (size-short [] (omega arith))))
-options-cons (b ∷ bs) h = rw (ne-eqb _ _ h) (go (sizeAt (b ∷ bs)) h)
+options-cons (b ∷ bs) h = rw (ne-eqb _ _ h) (go (optionSize (b ∷ bs)) h)
   where
     go : (n : ℕ) → (n ≡ 0 → ⊥) → take n (b ∷ bs) ∷ optionsFrom (pred n) bs ≡ take n (b ∷ bs) ∷ optionsOf (drop n (b ∷ bs))
     go zero h = absurd (h refl)

@@ -13,7 +13,7 @@ use borrow.Author.Tests.{eq-eqb, ne-eqb}
 use Rattle.lifetimes.specs.declared.Smallest.{Smallest}
 use Rattle.lifetimes.specs.declared.Smallest.the-variants.{Seconds, NoneCounts}
 use Rattle.lifetimes.specs.declared.Options.{Options}
-use Rattle.lifetimes.specs.Options.{sizeAt, optionsFrom, optionsOf, areOptionsWhole}
+use Rattle.lifetimes.specs.Options.{optionSize, optionsFrom, optionsOf, areOptionsWhole}
 use Rattle.lifetimes.specs.Lifetimes.{lifetimeOf, counts, counted, least, smallestOf}
 use Rattle.lifetimes.specs.SoFar.{soFar, shorter, walkOf}
 use Rattle.lifetimes.proofs.Sizes.{size-fits, size-least, options-none, options-cons}
@@ -74,26 +74,26 @@ walk-end [] s h = rw (append-nil, so-far s)
 walk-end (b ∷ bs) s h = absurd (omega arith)
 
 -- an option that has length 0 or runs past the end
-pub walk-bad : (bs : List ℕ) (s : Smallest) → (length bs ≡ 0 → ⊥) → sizeAt bs ≡ 0
+pub walk-bad : (bs : List ℕ) (s : Smallest) → (length bs ≡ 0 → ⊥) → optionSize bs ≡ 0
     → _≡_ {A = Options} (record { whole = false; smallest = s }) (walkOf bs s)
 unfolding areOptionsWhole flatten counted
 walk-bad bs s h e = rw (options-none bs e, append-nil, so-far s, ne-eqb 0 (length bs) (λ z. h (sym z)))
 
-module _ (bs : List ℕ) (good : sizeAt bs ≡ 0 → ⊥) where
-  whole-on : areOptionsWhole bs ≡ areOptionsWhole (drop (sizeAt bs) bs)
+module _ (bs : List ℕ) (good : optionSize bs ≡ 0 → ⊥) where
+  whole-on : areOptionsWhole bs ≡ areOptionsWhole (drop (optionSize bs) bs)
   unfolding areOptionsWhole flatten
   whole-on =
-      let n = sizeAt bs in
+      let n = optionSize bs in
       let rest = drop n bs in
       let all : length bs ≡ n + length rest = omega (arith, size-fits bs, length-drop n bs) in
       let option : length (take n bs) ≡ n = omega (arith, size-fits bs, length-take n bs) in
       rw (options-cons bs good, length-append, option, all, eqb-add)
 
   -- the options after a good one
-  pub walk-on : (s : Smallest) → walkOf (drop (sizeAt bs) bs) (shorter s (lifetimeOf bs)) ≡ walkOf bs s
+  pub walk-on : (s : Smallest) → walkOf (drop (optionSize bs) bs) (shorter s (lifetimeOf bs)) ≡ walkOf bs s
   walk-on s =
-      rw (whole-on, options-cons bs good, lifetime-first (sizeAt bs) bs (size-least bs good))
-      (rw (shorter-counted s (lifetimeOf bs) (map lifetimeOf (optionsOf (drop (sizeAt bs) bs)))))
+      rw (whole-on, options-cons bs good, lifetime-first (optionSize bs) bs (size-least bs good))
+      (rw (shorter-counted s (lifetimeOf bs) (map lifetimeOf (optionsOf (drop (optionSize bs) bs)))))
 
 -- the part of a slice that starts at n
 pub part : (bs : List ℕ) (n : ℕ) → take (length bs - n) (drop n bs) ≡ drop n bs

@@ -9,12 +9,12 @@ use lib.ListN.{length, getD, take, drop, length-append, length-take, take-append
 use lib.Seq.{take-append-seam, drop-append-seam, getD-take}
 use lib.Dec.{eqb}
 use borrow.Author.Tests.{eq-eqb, eqb-true, eqb-false, le-leb}
-use Rattle.lifetimes.specs.Options.{unitBytes, IsOption, AreOptions, sizeAt, optionsFrom, optionsOf, areOptionsWhole}
+use Rattle.lifetimes.specs.Options.{unitBytes, IsOption, AreOptions, optionSize, optionsFrom, optionsOf, areOptionsWhole}
 use Rattle.lifetimes.proofs.Sizes.{size-fits, size-units, size-least, options-cons}
 
 -- an option and whatever stands behind it: the first option has its size
-size-option : (o bs : List ℕ) → IsOption o → sizeAt (o ++ bs) ≡ length o
-unfolding sizeAt
+size-option : (o bs : List ℕ) → IsOption o → optionSize (o ++ bs) ≡ length o
+unfolding optionSize
 size-option o bs h =
     let long = h .0 in
     let units = h .1 in
@@ -36,9 +36,9 @@ unfolding areOptionsWhole
 whole-of-flatten os h = rw (options-of-flatten os h, eq-eqb (length (flatten os)) (length (flatten os)) refl)
 
 -- the first option, where there is one
-first-is : (bs : List ℕ) → (sizeAt bs ≡ 0 → ⊥) → IsOption (take (sizeAt bs) bs)
+first-is : (bs : List ℕ) → (optionSize bs ≡ 0 → ⊥) → IsOption (take (optionSize bs) bs)
 first-is bs good =
-    let n = sizeAt bs in
+    let n = optionSize bs in
     let long = size-least bs good in
     let all : length (take n bs) ≡ n = omega (arith, length-take n bs, size-fits bs) in
     let second : getD (take n bs) 1 0 ≡ getD bs 1 0 = getD-take n bs 1 0 (omega arith) in
@@ -49,10 +49,10 @@ unfolding AreOptions optionsFrom
 from-are zero [] = tt
 from-are (suc k) [] = tt
 from-are (suc k) (b ∷ bs) = from-are k bs
-from-are zero (b ∷ bs) = go (eqb (sizeAt (b ∷ bs)) 0) refl (from-are (pred (sizeAt (b ∷ bs))) bs)
+from-are zero (b ∷ bs) = go (eqb (optionSize (b ∷ bs)) 0) refl (from-are (pred (optionSize (b ∷ bs))) bs)
   where
-    go : (t : Bool) → eqb (sizeAt (b ∷ bs)) 0 ≡ t → AreOptions (optionsFrom (pred (sizeAt (b ∷ bs))) bs)
-        → AreOptions (cond t [] (take (sizeAt (b ∷ bs)) (b ∷ bs) ∷ optionsFrom (pred (sizeAt (b ∷ bs))) bs))
+    go : (t : Bool) → eqb (optionSize (b ∷ bs)) 0 ≡ t → AreOptions (optionsFrom (pred (optionSize (b ∷ bs))) bs)
+        → AreOptions (cond t [] (take (optionSize (b ∷ bs)) (b ∷ bs) ∷ optionsFrom (pred (optionSize (b ∷ bs))) bs))
     go true e later = tt
     go false e later = (first-is (b ∷ bs) (eqb-false _ _ e), later)
 
@@ -65,7 +65,7 @@ unfolding flatten optionsFrom
 from-begins zero [] = ([], refl)
 from-begins (suc k) [] = ([], refl)
 from-begins (suc k) (b ∷ bs) = from-begins k bs
-from-begins zero (b ∷ bs) = go (sizeAt (b ∷ bs)) (eqb (sizeAt (b ∷ bs)) 0) refl (from-begins (pred (sizeAt (b ∷ bs))) bs)
+from-begins zero (b ∷ bs) = go (optionSize (b ∷ bs)) (eqb (optionSize (b ∷ bs)) 0) refl (from-begins (pred (optionSize (b ∷ bs))) bs)
   where
     go : (n : ℕ) (t : Bool) → eqb n 0 ≡ t → (rest : List ℕ) × (drop (pred n) bs ≡ flatten (optionsFrom (pred n) bs) ++ rest)
         → (rest : List ℕ) × (b ∷ bs ≡ flatten (cond t [] (take n (b ∷ bs) ∷ optionsFrom (pred n) bs)) ++ rest)

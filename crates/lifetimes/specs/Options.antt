@@ -20,8 +20,8 @@ AreOptions [] = Unit {0}
 AreOptions (o ∷ os) = IsOption o × AreOptions os
 
 -- the bytes that the first option takes, and 0 if it has length 0 or runs past the end
-unfoldable pub sizeAt : List ℕ → ℕ
-sizeAt bs = cond (leb (getD bs 1 0 * unitBytes) (length bs)) (getD bs 1 0 * unitBytes) 0
+unfoldable pub optionSize : List ℕ → ℕ
+optionSize bs = cond (leb (getD bs 1 0 * unitBytes) (length bs)) (getD bs 1 0 * unitBytes) 0
 
 -- the options one after another, up to the end or to the first that has length 0 or runs past the end; k bytes of the option before are
 -- still to be passed
@@ -29,7 +29,7 @@ unfoldable pub optionsFrom : ℕ → List ℕ → List (List ℕ)
 optionsFrom k [] = []
 optionsFrom (suc k) (b ∷ bs) = optionsFrom k bs
 optionsFrom zero (b ∷ bs) =
-    let size = sizeAt (b ∷ bs) in
+    let size = optionSize (b ∷ bs) in
     cond (eqb size 0) [] (take size (b ∷ bs) ∷ optionsFrom (pred size) bs)
 
 -- the options of a message

@@ -4,7 +4,7 @@ ghost use mathlib.Core.Path.{_≡_};
 ghost use mathlib.Core.Bool.{_||_};
 ghost use Prim.Native.Nat.{_≤_, max, min};
 ghost use lib.ListN.{length};
-ghost use Rattle.lifetimes.specs.Options.{sizeAt, areOptionsWhole};
+ghost use Rattle.lifetimes.specs.Options.{optionSize, areOptionsWhole};
 ghost use Rattle.lifetimes.specs.Lifetimes.{word, isPrefix, isRoute, lifetimeOf, counts, optionsReadOf, delayOf, dueAfter};
 ghost use Rattle.lifetimes.specs.SoFar.{shorter, walkOf};
 
@@ -55,7 +55,7 @@ fn has_lifetime(kind: u8, units: u8) -> bool
 
 // The bytes that the first option takes, and 0 if it has length 0 or runs past the end.
 fn option_size(rest: &[u8]) -> usize
-    ensures { λ r. ⌜ r ≡ sizeAt (now (rest .entry)) ⌝ }
+    ensures { λ r. ⌜ r ≡ optionSize (now (rest .entry)) ⌝ }
 {
     if rest.len() < 2 {
         return 0;

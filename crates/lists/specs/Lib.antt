@@ -1,3 +1,1 @@
 pub mod Any
-pub mod Parts
-pub mod Tests

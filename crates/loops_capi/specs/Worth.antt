@@ -1,7 +1,7 @@
 -- What a call adds to the sum: a refusal its number (document 01, "Numbers given back"), another answer a value of its own.
 use Prim.Native.Nat.{ℕ}
-use Rattle.advertising.specs.declared.HeardAnswer.{HeardAnswer}
-use Rattle.advertising.specs.declared.HeardAnswer.the-variants as heard
+use Rattle.hearing.specs.declared.HeardAnswer.{HeardAnswer}
+use Rattle.hearing.specs.declared.HeardAnswer.the-variants as heard
 use Rattle.asking.specs.declared.AskAnswer.{AskAnswer}
 use Rattle.asking.specs.declared.AskAnswer.the-variants as asked
 use Rattle.receiving.specs.declared.Received.{Received}

@@ -1,6 +1,6 @@
 // What a call adds to the sum: a refusal its number, another answer its length, size or router.
-use advertising::HeardAnswer;
 use asking::AskAnswer;
+use hearing::HeardAnswer;
 use receiving::Received;
 use reports::ReportAnswer;
 use sending::SendAnswer;

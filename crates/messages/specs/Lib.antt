@@ -1,5 +1,2 @@
 pub mod Icmp
 pub mod Sealed
-pub mod WriterLaws
-pub mod Right
-pub mod Examples

@@ -55,9 +55,9 @@ unfoldable pub raisedTo : Node → ℕ → Node
 raisedTo node time = record { service = node .service; paths = node .paths; latest = max (node .latest) time }
 
 -- the size in force toward a neighbour at a time
-unfoldable pub sizeAt : Node → ℕ → ℕ → ℕ
-sizeAt node v now = inForce (node .service .settings .«link_size») (keptIn (node .paths) v now)
+unfoldable pub pathSizeAt : Node → ℕ → ℕ → ℕ
+pathSizeAt node v now = inForce (node .service .settings .«link_size») (keptIn (node .paths) v now)
 
 -- the size in force toward a neighbour, at the latest time seen
-unfoldable pub sizeOf : Node → ℕ → ℕ
-sizeOf node v = sizeAt node v (node .latest)
+unfoldable pub pathSize : Node → ℕ → ℕ
+pathSize node v = pathSizeAt node v (node .latest)

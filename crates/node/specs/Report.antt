@@ -8,7 +8,7 @@ use Rattle.reports.specs.declared.Judged.{Judged}
 use Rattle.reports.specs.declared.Judged.the-variants as judged
 use Rattle.reports.specs.declared.ReportAnswer.{ReportAnswer}
 use Rattle.reports.specs.declared.ReportAnswer.the-variants.{Accepted, Refused}
-use Rattle.node.specs.Node.{sizeAt}
+use Rattle.node.specs.Node.{pathSizeAt}
 use Rattle.node.specs.declared.Node.{Node}
 use Rattle.node.specs.declared.report.Reported.{Reported}
 
@@ -26,7 +26,7 @@ pathsAfter (Refused r) table now = table
 unfoldable pub reportAnswerOf : Node → List ℕ → ℕ → ReportAnswer
 reportAnswerOf node m now =
     let j : Judged = judgedOf (node .service .settings) m in
-    answerAt j (sizeAt node (neighbourIn j) now)
+    answerAt j (pathSizeAt node (neighbourIn j) now)
 
 unfoldable pub reportOf : Node → List ℕ → ℕ → Reported
 reportOf node m time =

@@ -1,7 +1,7 @@
 // The call with a router advertisement.
 use super::Node;
 use super::later;
-use advertising::HeardAnswer;
+use hearing::HeardAnswer;
 ghost use mathlib.Core.Path.{_≡_};
 ghost use Rattle.node.specs.Hear.{hearOf};
 
@@ -18,7 +18,7 @@ impl Node {
         let mut service = self.service;
         let settings = service.settings;
         let old = service.routers;
-        let heard = advertising::hear(settings, old, now, packet);
+        let heard = hearing::hear(settings, old, now, packet);
         let routers = heard.routers;
         service.routers = routers;
         self.service = service;

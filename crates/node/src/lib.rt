@@ -13,7 +13,7 @@ use settings::Settings;
 use settings::locators::Locator;
 ghost use mathlib.Core.Path.{_≡_};
 ghost use Prim.Native.Nat.{max};
-ghost use Rattle.node.specs.Node.{noSettings, nodeOf, setupGiven, setupOf, raisedTo, sizeAt, sizeOf};
+ghost use Rattle.node.specs.Node.{noSettings, nodeOf, setupGiven, setupOf, raisedTo, pathSizeAt, pathSize};
 
 // What one service of a node owns.
 #[repr(C)]
@@ -132,7 +132,7 @@ impl Node {
 
     // The size in force toward a neighbour at a time.
     fn size_at(self, neighbour: u32, now: u32) -> u16
-        ensures { λ r. ⌜ r ≡ sizeAt self neighbour now ⌝ }
+        ensures { λ r. ⌜ r ≡ pathSizeAt self neighbour now ⌝ }
     {
         let service = self.service;
         let settings = service.settings;
@@ -142,7 +142,7 @@ impl Node {
 
     // The size in force toward a neighbour at the latest time seen.
     pub fn path_size(self, neighbour: u32) -> u16
-        ensures { λ r. ⌜ r ≡ sizeOf self neighbour ⌝ }
+        ensures { λ r. ⌜ r ≡ pathSize self neighbour ⌝ }
     {
         self.size_at(neighbour, self.latest)
     }

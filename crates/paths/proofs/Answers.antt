@@ -5,7 +5,7 @@ use Prim.Native.Nat.{ℕ}
 use Rattle.paths.specs.Kept.{Report, inForce}
 use Rattle.paths.specs.Table.{keptIn}
 use Rattle.paths.specs.Record.{recordKept}
-use Rattle.paths.specs.Calls.{Call, clock, report, send, Answer, accepted, notBelow, tooBig, other, table, plain, answer, remembered, latest, history, keptAfter}
+use Rattle.paths.specs.Calls.{PathCall, clock, report, send, Answer, accepted, notBelow, tooBig, other, table, plain, answer, remembered, latest, history, keptAfter}
 use Rattle.paths.specs.Claim.{SameKept, tableOf}
 use Rattle.paths.proofs.Same.{kept-same, tableOf-keeps}
 
@@ -23,18 +23,18 @@ same-remembered es now (tooBig s) = refl
 same-remembered es now other = refl
 
 module _ (limit : ℕ → ℕ) (link : ℕ) where
-  same-answer : (es : List Report) (now : ℕ) (x : Call) → answer table limit link (tableOf es) now x ≡ answer plain limit link es now x
+  same-answer : (es : List Report) (now : ℕ) (x : PathCall) → answer table limit link (tableOf es) now x ≡ answer plain limit link es now x
   same-answer es now (clock t) = refl
   same-answer es now (report v c) = rw (same-kept es v now)
   same-answer es now (send mine v n fits) = rw (same-kept es v now)
 
-  pub same-history : (es : List Report) (now : ℕ) (xs : List Call) → history table limit link (tableOf es) now xs ≡ history plain limit link es now xs
+  pub same-history : (es : List Report) (now : ℕ) (xs : List PathCall) → history table limit link (tableOf es) now xs ≡ history plain limit link es now xs
   same-history es now [] = refl
   same-history es now (x ∷ xs) =
       let a : Answer = answer plain limit link es now x in
       cc (same-answer es now x, same-remembered es now a, same-history (remembered plain es now a) (latest now x) xs)
 
-  pub same-after : (es : List Report) (now : ℕ) (xs : List Call) (v : ℕ) → keptAfter table limit link (tableOf es) now xs v ≡ keptAfter plain limit link es now xs v
+  pub same-after : (es : List Report) (now : ℕ) (xs : List PathCall) (v : ℕ) → keptAfter table limit link (tableOf es) now xs v ≡ keptAfter plain limit link es now xs v
   same-after es now [] v = same-kept es v now
   same-after es now (x ∷ xs) v =
       let a : Answer = answer plain limit link es now x in

@@ -6,7 +6,7 @@ use mathlib.Core.List.{List, [], _∷_}
 use mathlib.Core.Option.{Option, none, some}
 use Prim.Native.Nat.{ℕ, zero, suc, _-_, min, max}
 use native.Mathlib.Omega.{arith}
-use native.Mathlib.Nat.{zero-min, min-zero, suc-min-suc}
+use native.Mathlib.Nat.{zero-min}
 use borrow.Author.Tests.{lt-ltb}
 use lib.Dec.{ltb, eqb, leb·suc-suc}
 use lib.ListN.{length, take, getD, length-take}

@@ -10,7 +10,7 @@ use borrow.Author.Tests.{ltb-true, eqb-true}
 use lib.Dec.{ltb, eqb}
 use Rattle.paths.specs.Candidate.{isBelow}
 use Rattle.paths.specs.Kept.{Report}
-use Rattle.paths.specs.Calls.{Call, clock, report, send, Answer, accepted, notBelow, tooBig, other, plain, sizeToward, remembered, latest, answer, history}
+use Rattle.paths.specs.Calls.{PathCall, clock, report, send, Answer, accepted, notBelow, tooBig, other, plain, sizeToward, remembered, latest, answer, history}
 use Rattle.paths.specs.Sender.{Event, told, passed, lowered, nothing, AtMostAll, Heeds, tooBigs, reports, Bound, packetEvent, eventOf, eventsOf}
 use Rattle.paths.specs.Claim.{Grows}
 use Rattle.paths.proofs.Reports.{tested}
@@ -77,17 +77,17 @@ module _ (limit : ℕ → ℕ) (grows : Grows limit) where
     unsent es now m true = refl
     unsent es now m false = refl
 
-    small-after : (es : List Report) → Small link es → (now : ℕ) (x : Call) → Small link (remembered plain es now (answer plain limit link es now x))
+    small-after : (es : List Report) → Small link es → (now : ℕ) (x : PathCall) → Small link (remembered plain es now (answer plain limit link es now x))
     small-after es small now (clock t) = small
     small-after es small now (report w c) = small-report es small now w c (isBelow c (size es now w)) refl
     small-after es small now (send mine w n fits) = let M : ℕ = limit (size es now w) in rw (unsent es now M (ltb M n && fits)) small
 
     module _ (v : ℕ) where
       -- what the sender meets from then on
-      abbrev met : List Report → ℕ → List Call → List Event
+      abbrev met : List Report → ℕ → List PathCall → List Event
       met es now xs = eventsOf v (history plain limit link es now xs)
 
-      bounded : (xs : List Call) (es : List Report) → Small link es → (now : ℕ) (ms : List ℕ) → Bounded ms (size es now v) (met es now xs)
+      bounded : (xs : List PathCall) (es : List Report) → Small link es → (now : ℕ) (ms : List ℕ) → Bounded ms (size es now v) (met es now xs)
       bounded [] es small now ms = λ heeds. (omega arith, λ f. omega arith)
       bounded (clock t ∷ xs) es small now ms =
           raised (met es (max now t) xs) ms (size es now v) (size es (max now t) v) (size-later link es small v now (max now t) (omega arith))
@@ -107,7 +107,7 @@ module _ (limit : ℕ → ℕ) (grows : Grows limit) where
           (λ big. ltb-true M n (and-left (ltb M n) fits big))
           (bounded xs es small now))
 
-      pub from-first : (xs : List Call) (es : List Report) → Small link es → (now : ℕ) → Bound (met es now xs)
+      pub from-first : (xs : List PathCall) (es : List Report) → Small link es → (now : ℕ) → Bound (met es now xs)
       from-first [] es small now = λ heeds. omega arith
       from-first (x ∷ xs) es small now =
           let a : Answer = answer plain limit link es now x in

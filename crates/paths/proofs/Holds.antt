@@ -7,13 +7,13 @@ use Rattle.paths.specs.Packets.{largestPacket, dontFragment}
 use Rattle.paths.specs.Candidate.{candidateOf, plateauBelow}
 use Rattle.paths.specs.Kept.{whileYoung, inForce}
 use Rattle.paths.specs.Table.{keptIn, tableAfter}
-use Rattle.paths.specs.Claim.{Grows, DemandThree}
+use Rattle.paths.specs.Claim.{Grows, AllPathsHold}
 use Rattle.paths.specs.Values.{Values}
 use Rattle.paths.proofs.Answers.{same-history, same-after}
 use Rattle.paths.proofs.Bound.{from-first}
 
-pub demand-three : DemandThree
-demand-three limit grows link calls =
+pub all-paths-hold : AllPathsHold
+all-paths-hold limit grows link calls =
     record {
       answers = same-history limit link [] 0 calls;
       sizes = λ k v. same-after limit link [] 0 (take k calls) v;

@@ -10,7 +10,7 @@ use borrow.Author.Tests.{eq-eqb, ne-eqb, lt-ltb, le-ltb}
 use lib.Dec.{eqb}
 use lib.ListN.{length, take, drop, getD, set, length-drop, take-append-drop, drop-of-length-le}
 use lib.Seq.{drop-cons, drop-drop, take-add, take-suc, set-at, getD-at, append-snoc, length-take-le}
-use Rattle.lists.specs.Tests.{or-left, or-right}
+use Rattle.lists.proofs.Tests.{or-left, or-right}
 use Rattle.paths.specs.Search.{half, together, isAmong}
 use Rattle.paths.specs.Table.{placeOf, pushed}
 use Rattle.paths.specs.Candidate.{firstBelow}

@@ -11,14 +11,14 @@ use Rattle.paths.specs.Record.{recordKept, recordAfter}
 use Rattle.paths.specs.declared.Kept.{Kept}
 use Rattle.paths.specs.declared.PathTable.{PathTable}
 
-pub data Call : Type 0 where
+pub data PathCall : Type 0 where
   -- a call's time
-  clock : ℕ → Call
+  clock : ℕ → PathCall
   -- a size report that passed 16, 17 and 18: neighbour and candidate
-  report : ℕ → ℕ → Call
+  report : ℕ → ℕ → PathCall
   -- a sending that came to 14: neighbour, length, and whether the output takes the message of 14 (else 15 is given);
   -- first, whether it is one of the watched sender's, on which no answer depends
-  send : Bool → ℕ → ℕ → Bool → Call
+  send : Bool → ℕ → ℕ → Bool → PathCall
 
 pub data Answer : Type 0 where
   -- a report was accepted: neighbour and size
@@ -43,7 +43,7 @@ abbrev pub plain : Memory (List Report)
 plain = record { fresh = []; kept = recordKept; after = recordAfter }
 
 -- the latest time after a call: an earlier one is read as the latest
-abbrev pub latest : ℕ → Call → ℕ
+abbrev pub latest : ℕ → PathCall → ℕ
 latest now (clock t) = max now t
 latest now (report v c) = now
 latest now (send mine v n fits) = now
@@ -70,24 +70,24 @@ sendAnswer M n fits = cond (ltb M n && fits) (tooBig M) other
 
 module _ {M : Type 0} (K : Memory M) (limit : ℕ → ℕ) (link : ℕ) where
   -- the answer to a call, by what is remembered and the latest time
-  abbrev pub answer : M → ℕ → Call → Answer
+  abbrev pub answer : M → ℕ → PathCall → Answer
   answer m now (clock t) = other
   answer m now (report v c) = reportAnswer (sizeToward K link m now v) v c
   answer m now (send mine v n fits) = sendAnswer (limit (sizeToward K link m now v)) n fits
 
   -- each call with its answer
-  abbrev pub history : M → ℕ → List Call → List (Call × Answer)
+  abbrev pub history : M → ℕ → List PathCall → List (PathCall × Answer)
   history m now [] = []
   history m now (x ∷ xs) = let a : Answer = answer m now x in (x, a) ∷ history (remembered K m now a) (latest now x) xs
 
   -- the size kept toward v after the calls
-  abbrev pub keptAfter : M → ℕ → List Call → ℕ → Kept
+  abbrev pub keptAfter : M → ℕ → List PathCall → ℕ → Kept
   keptAfter m now [] v = K .kept m v now
   keptAfter m now (x ∷ xs) v = keptAfter (remembered K m now (answer m now x)) (latest now x) xs v
 
   -- the same for a list of calls that starts on a fresh node: nothing is remembered, and the latest time is 0
-  abbrev pub historyOf : List Call → List (Call × Answer)
+  abbrev pub historyOf : List PathCall → List (PathCall × Answer)
   historyOf calls = history (K .fresh) 0 calls
 
-  abbrev pub keptOf : List Call → ℕ → Kept
+  abbrev pub keptOf : List PathCall → ℕ → Kept
   keptOf calls v = keptAfter (K .fresh) 0 calls v

@@ -6,7 +6,7 @@ use lib.ListN.{take}
 use Rattle.paths.specs.Kept.{Report}
 use Rattle.paths.specs.Table.{noReports, keptIn, tableAfter}
 use Rattle.paths.specs.Record.{recordKept}
-use Rattle.paths.specs.Calls.{Call, table, plain, historyOf, keptOf}
+use Rattle.paths.specs.Calls.{PathCall, table, plain, historyOf, keptOf}
 use Rattle.paths.specs.Sender.{Bound, eventsOf}
 use Rattle.paths.specs.declared.PathTable.{PathTable}
 
@@ -23,7 +23,7 @@ SameKept = (es : List Report) (v now : ℕ) → keptIn (tableOf es) v now ≡ re
 abbrev pub Grows : (ℕ → ℕ) → Type 0
 Grows limit = (P Q : ℕ) → P ≤ Q → limit P ≤ limit Q
 
-pub record PathsHold (limit : ℕ → ℕ) (link : ℕ) (calls : List Call) : Type 0 where
+pub record PathsHold (limit : ℕ → ℕ) (link : ℕ) (calls : List PathCall) : Type 0 where
   -- every call gets the answer that the plain record gives
   pub answers : historyOf table limit link calls ≡ historyOf plain limit link calls
   -- the size kept toward any neighbour is the record's, after any number of the calls
@@ -32,5 +32,5 @@ pub record PathsHold (limit : ℕ → ℕ) (link : ℕ) (calls : List Call) : Ty
   pub senders : (v : ℕ) → Bound (eventsOf v (historyOf table limit link calls))
 
 -- demand 3 of the path sizes, as one statement about a whole list of calls
-abbrev pub DemandThree : Type 0
-DemandThree = (limit : ℕ → ℕ) → Grows limit → (link : ℕ) (calls : List Call) → PathsHold limit link calls
+abbrev pub AllPathsHold : Type 0
+AllPathsHold = (limit : ℕ → ℕ) → Grows limit → (link : ℕ) (calls : List PathCall) → PathsHold limit link calls

@@ -3,7 +3,7 @@ use Prim.Native.Nat.{ℕ, suc, _≤_}
 use mathlib.Core.Bool.{cond, _&&_}
 use mathlib.Core.List.{List, [], _∷_}
 use lib.Dec.{eqb}
-use Rattle.paths.specs.Calls.{Call, clock, report, send, Answer, accepted, notBelow, tooBig, other}
+use Rattle.paths.specs.Calls.{PathCall, clock, report, send, Answer, accepted, notBelow, tooBig, other}
 
 -- what a call is to a sender
 pub data Event : Type 0 where
@@ -74,11 +74,11 @@ reportEvent v notBelow = nothing
 reportEvent v other = nothing
 
 -- a call and its answer, to the sender with neighbour v whose packets are marked
-abbrev pub eventOf : ℕ → Call → Answer → Event
+abbrev pub eventOf : ℕ → PathCall → Answer → Event
 eventOf v (clock t) a = nothing
 eventOf v (report w c) a = reportEvent v a
 eventOf v (send mine w n fits) a = cond (mine && eqb w v) (packetEvent n a) nothing
 
-abbrev pub eventsOf : ℕ → List (Call × Answer) → List Event
+abbrev pub eventsOf : ℕ → List (PathCall × Answer) → List Event
 eventsOf v [] = []
 eventsOf v (x ∷ h) = eventOf v (x .0) (x .1) ∷ eventsOf v h

@@ -6,7 +6,7 @@ use mathlib.Core.List.{List, [], _∷_, map}
 use Rattle.paths.specs.Packets.{largestPacket, dontFragment}
 use Rattle.paths.specs.Candidate.{candidateOf}
 use Rattle.paths.specs.Kept.{inForce}
-use Rattle.paths.specs.Calls.{Call, clock, report, send, Answer, accepted, notBelow, tooBig, other, table, sendAnswer, historyOf, keptOf}
+use Rattle.paths.specs.Calls.{PathCall, clock, report, send, Answer, accepted, notBelow, tooBig, other, table, sendAnswer, historyOf, keptOf}
 use Rattle.paths.specs.Sender.{Event, Heeds, tooBigs, reports, fromFirst, eventsOf}
 use Rattle.paths.specs.declared.Candidate.the-variants.{Size, Unusable}
 
@@ -15,14 +15,14 @@ abbrev pub LetsThrough : ℕ → ℕ → Bool → Type 0
 LetsThrough P n flag =
     (sendAnswer (largestPacket P) n true ≡ other) × (dontFragment P ≡ flag) × (sendAnswer (largestPacket P) (n + 1) true ≡ tooBig n)
 
-abbrev answersTo : List Call → List Answer
-answersTo calls = map (λ (x : Call × Answer). x .1) (historyOf table largestPacket 1500 calls)
+abbrev answersTo : List PathCall → List Answer
+answersTo calls = map (λ (x : PathCall × Answer). x .1) (historyOf table largestPacket 1500 calls)
 
-abbrev sizeToward7 : List Call → ℕ
+abbrev sizeToward7 : List PathCall → ℕ
 sizeToward7 calls = inForce 1500 (keptOf table largestPacket 1500 calls 7)
 
 -- a report of each of n other neighbours
-abbrev others : ℕ → List Call
+abbrev others : ℕ → List PathCall
 others zero = []
 others (suc n) = report (100 + n) 1400 ∷ others n
 

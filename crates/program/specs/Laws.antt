@@ -10,7 +10,7 @@ use lib.Dec.{ltb}
 use lib.ListN.{length, getD, length-append, List·getD-map}
 use lib.Seq.{take-append-seam}
 use Rattle.lent.specs.Written.{written}
-use Rattle.lent.specs.Laws.{placed-first}
+use Rattle.lent.proofs.Laws.{placed-first}
 use Rattle.text.specs.Laws.{Wrote, behind-fits}
 use Rattle.settings.specs.Settings.{isAccepted}
 use Rattle.node.specs.Node.{nodeOf, setupOf}

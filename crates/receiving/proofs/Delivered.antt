@@ -8,17 +8,19 @@ use native.Mathlib.Omega.{arith}
 use borrow.Author.Tests.{eqb-true, not-false, eq-eqb}
 use lib.ListN.{length, take, drop, length-take}
 use lib.Seq.{getD-take}
-use Rattle.lists.specs.Parts.{drop-take}
+use Rattle.lists.proofs.Parts.{drop-take}
 use Rattle.checksum.specs.Sum.{isRight}
 use Rattle.address.specs.Address.{lastQuad, isBadSourceWith}
-use Rattle.refusals.specs.Laws.{all-false}
+use Rattle.refusals.proofs.Laws.{all-false}
 use Rattle.refusals.specs.declared.Check.{Check}
 use Rattle.refusals.specs.declared.Check.the-variants.{Pass, Stop}
 use Rattle.header.specs.Fields.{wordAt}
 use Rattle.header.specs.Outer.{outerOf, isSumWrong, headerRows, protocolRows, pieceRows, outerCheck, payloadOf}
-use Rattle.header.specs.OuterLaws.{WholeOuter, outer-whole, whole-outer}
+use Rattle.header.proofs.OuterLaws.{outer-whole, whole-outer}
+use Rattle.header.specs.Whole.{WholeOuter}
 use Rattle.header.specs.Inner.{innerOf}
-use Rattle.header.specs.InnerLaws.{WholeInner, inner-whole, whole-inner}
+use Rattle.header.proofs.InnerLaws.{inner-whole, whole-inner}
+use Rattle.header.specs.Whole.{WholeInner}
 use Rattle.header.specs.declared.outer.Outer.{Outer}
 use Rattle.header.specs.declared.inner.Inner.{Inner}
 use Rattle.settings.specs.Settings.{forbiddenTo, isOurLocator}
@@ -26,7 +28,7 @@ use Rattle.settings.specs.declared.Settings.{Settings}
 use Rattle.routers.specs.Routers.{listed}
 use Rattle.routers.specs.declared.Router.{Router}
 use Rattle.receiving.specs.Receive.{embeds, stopOr, arrivalRows, arrivalCheck, innerRows, innerCheck, opened, arrived, receivedOf, partOf}
-use Rattle.receiving.specs.Admitted.{Admits, delivered, DemandTwo}
+use Rattle.receiving.specs.Admitted.{Admits, delivered, DeliversExactly}
 use Rattle.receiving.specs.declared.Received.{Received}
 use Rattle.receiving.specs.declared.Received.the-variants.{Delivered}
 
@@ -161,7 +163,7 @@ module _ (s : Settings) (routers : List Router) (d : List ℕ) (interface : ℕ)
         let b = drop (outerOf d .header) d in
         rw (exactly, length-take) (omega (arith, a .innerHeader, ap length rest, length-take m b))
 
-pub demand-two : DemandTwo
-unfolding DemandTwo
-demand-two s routers d interface =
+pub delivers-exactly : DeliversExactly
+unfolding DeliversExactly
+delivers-exactly s routers d interface =
     record { onlyIf = only-if s routers d interface; if = exactly s routers d interface; nonEmpty = long s routers d interface }

@@ -5,7 +5,7 @@ use mathlib.Core.Bool.{true}
 use mathlib.Core.List.{List}
 use borrow.Author.Tests.{eq-eqb}
 use Rattle.address.specs.Address.{isLinkLocalIsatap}
-use Rattle.address.specs.Laws.{link-local-isatap-embeds}
+use Rattle.address.proofs.Laws.{link-local-isatap-embeds}
 use Rattle.address.specs.Prefixes.{rowsOf}
 use Rattle.settings.specs.Settings.{embeddedTo}
 use Rattle.settings.specs.declared.Settings.{Settings}

@@ -62,5 +62,5 @@ module _ (s : Settings) (routers : List Router) (d : List ℕ) (interface : ℕ)
     pub if : Admits → delivered ≡ take (40 + wordAt (drop (outerOf d .header) d) 4) (drop (outerOf d .header) d)
     pub nonEmpty : Admits → 40 ≤ length delivered
 
-unfoldable pub DemandTwo : Type 0
-DemandTwo = (s : Settings) (routers : List Router) (d : List ℕ) (interface : ℕ) → DeliveredExactly s routers d interface
+unfoldable pub DeliversExactly : Type 0
+DeliversExactly = (s : Settings) (routers : List Router) (d : List ℕ) (interface : ℕ) → DeliveredExactly s routers d interface

@@ -36,3 +36,9 @@ numberOf WrappedTooLong = 23
 abbrev pub firstOf : List (Bool × Refusal) → Check
 firstOf [] = Pass
 firstOf (t ∷ ts) = cond (t .0) (Stop (t .1)) (firstOf ts)
+
+module _ {A : Type 0} where
+  -- the refusal, where a row of tests has one, in the form of the call's answer; else what follows
+  abbrev pub stopOr : (Refusal → A) → Check → A → A
+  stopOr refuse Pass follows = follows
+  stopOr refuse (Stop refusal) follows = refuse refusal

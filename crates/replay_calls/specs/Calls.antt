@@ -5,7 +5,7 @@ use lib.ListN.{length, replicate}
 use Rattle.input.specs.Section.{countOf}
 use Rattle.input.specs.Section as section
 use Rattle.node.specs.declared.Node.{Node}
-use Rattle.node.specs.Node.{sizeOf}
+use Rattle.node.specs.Node.{pathSize}
 use Rattle.node.specs.Receive.{receiveOf}
 use Rattle.node.specs.Send.{sendOf, sendOutput}
 use Rattle.node.specs.Report.{reportOf}
@@ -62,7 +62,7 @@ advertisementMade node c =
 
 -- "it changes nothing"
 unfoldable pub sizeMade : Node → List ℕ → Made
-sizeMade node c = record { line = sizeLine (sizeOf node (neighbourOf c)); node = node }
+sizeMade node c = record { line = sizeLine (pathSize node (neighbourOf c)); node = node }
 
 -- the call of the kind; an unknown kind is in no well-formed input
 unfoldable pub madeAs : Kind → Node → List ℕ → Made

@@ -1,7 +1,7 @@
 -- The line of each call's answer, as the replay format lists them.
 use Prim.Native.Nat.{ℕ}
-use Rattle.advertising.specs.declared.HeardAnswer.{HeardAnswer}
-use Rattle.advertising.specs.declared.HeardAnswer.the-variants as heard
+use Rattle.hearing.specs.declared.HeardAnswer.{HeardAnswer}
+use Rattle.hearing.specs.declared.HeardAnswer.the-variants as heard
 use Rattle.asking.specs.declared.AskAnswer.{AskAnswer}
 use Rattle.asking.specs.declared.AskAnswer.the-variants as asked
 use Rattle.node.specs.declared.router_list.ListAnswer.{ListAnswer}

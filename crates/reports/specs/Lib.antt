@@ -1,4 +1,2 @@
 pub mod Report
-pub mod Laws
 pub mod Accepts
-pub mod AcceptsLaws

@@ -15,7 +15,7 @@ use lib.Dec.{leb, ltb, eqb}
 use borrow.Author.Tests.{eq-eqb, ne-eqb, lt-ltb, le-ltb, le-leb, lt-leb}
 use Rattle.routers.specs.declared.Router.{Router}
 use Rattle.routers.specs.Routers.{dueIf, rescheduled}
-use Rattle.routers.specs.Fairness.{Call, asked, heard, other, served, Unheard, Fair}
+use Rattle.routers.specs.Fairness.{RouterCall, asked, heard, other, served, Unheard, Fair}
 use Rattle.routers.proofs.Earliest.{Ahead, next-ahead}
 
 one : Bool → ℕ
@@ -115,7 +115,7 @@ turn t front back a ps front' back' next (suc m) h l = go (ℕ-discrete a (t .ad
     go (yes e) = List·Memᴰ·head (sym e)
     go (no ne) = let k = next ne .0 in List·Memᴰ·tail (next ne .1 m (omega arith) (le-of-suc-le-suc l))
 
-soon : (v : ℕ) (t : Router) → 1 ≤ v → (cs : List Call) → Unheard v (t .address) cs → (latest : ℕ) (front back : List Router) → t .due ≤ latest
+soon : (v : ℕ) (t : Router) → 1 ≤ v → (cs : List RouterCall) → Unheard v (t .address) cs → (latest : ℕ) (front back : List Router) → t .due ≤ latest
     → Soon t front back (served v latest (front ++ t ∷ back) cs)
 unfolding served Unheard
 soon v t pos [] un latest front back due = λ m h l. absurd (omega arith)

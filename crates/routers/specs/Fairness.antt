@@ -10,10 +10,10 @@ use Rattle.routers.specs.Routers.{nextOf, rescheduled}
 
 -- a call, at a time (0 for a call without one): an asking that no number but 22 refuses; an accepted advertisement of the router of an
 -- address, which puts it off by so many seconds; any other call, an asking that is refused by another number among them
-pub data Call : Type 0 where
-  asked : ℕ → Call
-  heard : ℕ → ℕ → ℕ → Call
-  other : ℕ → Call
+pub data RouterCall : Type 0 where
+  asked : ℕ → RouterCall
+  heard : ℕ → ℕ → ℕ → RouterCall
+  other : ℕ → RouterCall
 
 -- the answer of an asking names the router; a refused one names none
 abbrev pub answer : Next → List ℕ
@@ -26,7 +26,7 @@ afterAsking (Due a) d rs = rescheduled a d rs
 afterAsking NoneDue d rs = rs
 
 -- the addresses of the routers that are served, one for each answered asking: v is the interval, t the latest time before the calls
-unfoldable pub served : ℕ → ℕ → List Router → List Call → List ℕ
+unfoldable pub served : ℕ → ℕ → List Router → List RouterCall → List ℕ
 served v t rs [] = []
 served v t rs (asked u ∷ cs) =
     let now = max t u in
@@ -36,7 +36,7 @@ served v t rs (heard u b x ∷ cs) = served v (max t u) (rescheduled b (max t u 
 served v t rs (other u ∷ cs) = served v (max t u) rs cs
 
 -- no advertisement of the router of address a is accepted, and one of another router puts that one off by the interval at least
-unfoldable pub Unheard : ℕ → ℕ → List Call → Type 0
+unfoldable pub Unheard : ℕ → ℕ → List RouterCall → Type 0
 Unheard v a [] = Unit {0}
 Unheard v a (asked u ∷ cs) = Unheard v a cs
 Unheard v a (heard u b x ∷ cs) = (b ≡ a → ⊥) × (v ≤ x) × Unheard v a cs
@@ -46,7 +46,7 @@ Unheard v a (other u ∷ cs) = Unheard v a cs
 -- there are routers
 abbrev pub Fair : Type 0
 Fair =
-    (interval latest : ℕ) (r : Router) (rs : List Router) (cs : List Call)
+    (interval latest : ℕ) (r : Router) (rs : List Router) (cs : List RouterCall)
     → 1 ≤ interval
     → List·Memᴰ r rs
     → r .due ≤ latest

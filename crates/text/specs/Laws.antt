@@ -10,7 +10,7 @@ use lib.Dec.{ltb}
 use lib.ListN.{length, take, drop, length-append, length-take, take-append-drop}
 use lib.Seq.{take-append-seam, drop-append-add, drop-drop}
 use Rattle.lent.specs.Written.{over, placed}
-use Rattle.lent.specs.Laws.{placed-fits, length-over}
+use Rattle.lent.proofs.Laws.{placed-fits, length-over}
 use Rattle.text.specs.Text.{behind, decimalUpTo, decimal, octet, dotted, hex8}
 
 -- behind what fits

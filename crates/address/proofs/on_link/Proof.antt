@@ -5,8 +5,9 @@ use Prim.Native.Nat.{_≤_, _-_, min}
 use mathlib.Core.Path.{_≡_, sym, _∙_}
 use mathlib.Core.List.{[]}
 use lib.ListN.{take, drop, length}
-use Rattle.lists.specs.Any.{anyOf, any-here, any-later, front-end}
-use Rattle.lists.specs.Parts.{take-least}
+use Rattle.lists.specs.Any.{anyOf}
+use Rattle.lists.proofs.AnyLaws.{any-here, any-later, front-end}
+use Rattle.lists.proofs.Parts.{take-least}
 use Rattle.address.specs.Address.{isUnder, isOnLink}
 use Rattle.address.proofs.on_link.Statement.{statement}
 use Rattle.address.proofs.on_link.Tie as tie

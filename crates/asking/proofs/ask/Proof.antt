@@ -4,9 +4,9 @@ use native.Mathlib.Omega.{arith}
 use mathlib.Core.Path.{_∙_}
 use lib.ListN.{length}
 use Rattle.messages.specs.Icmp.{solicitationOutput}
-use Rattle.messages.specs.WriterLaws.{solicitation-pass}
+use Rattle.messages.proofs.WriterLaws.{solicitation-pass}
 use Rattle.asking.specs.Ask.{askedOf, askedOutput}
-use Rattle.asking.specs.Laws.{room-planned}
+use Rattle.asking.proofs.Laws.{room-planned}
 use Rattle.asking.proofs.ask.Statement.{statement}
 use Rattle.asking.proofs.ask.Tie as tie
 

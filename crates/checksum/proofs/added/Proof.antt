@@ -1,7 +1,7 @@
 -- `checksum::added` meets its contract. Assumes nothing.
 use native.Mathlib.Omega.{arith}
 use mathlib.Core.Path.{ap, _∙_}
-use Rattle.checksum.specs.Laws.{folded}
+use Rattle.checksum.specs.Folding.{folded}
 use Rattle.checksum.proofs.added.Statement.{statement}
 use Rattle.checksum.proofs.added.Tie as tie
 

@@ -3,7 +3,7 @@ use native.Mathlib.Omega.{arith}
 use Prim.Native.Nat.{_+_, _*_, _-_, _≤_}
 use mathlib.Core.Path.{_≡_}
 use lib.ListN.{length, drop}
-use Rattle.checksum.specs.Laws.{wordSum}
+use Rattle.checksum.specs.Folding.{wordSum}
 use Rattle.checksum.proofs.Left.{left-one, left-none}
 use Rattle.checksum.proofs.last_words.Statement.{statement}
 use Rattle.checksum.proofs.last_words.Tie as tie

@@ -5,8 +5,9 @@ use Prim.Native.Nat.{ℕ, _+_, _-_, _≤_, _<_, _^_}
 use mathlib.Core.Path.{_≡_, ap, _∙_, sym}
 use mathlib.Core.List.{List}
 use lib.ListN.{length, drop}
-use Rattle.checksum.specs.Bytes.{bytes-of}
-use Rattle.checksum.specs.Laws.{wordSum, folded, sum-folded}
+use Rattle.checksum.proofs.Bytes.{bytes-of}
+use Rattle.checksum.proofs.Laws.{sum-folded}
+use Rattle.checksum.specs.Folding.{wordSum, folded}
 use Rattle.checksum.proofs.Left.{left-chunk, left-part}
 use Rattle.checksum.proofs.sum_from.Statement.{statement}
 use Rattle.checksum.proofs.sum_from.Tie as tie

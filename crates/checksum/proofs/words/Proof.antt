@@ -4,7 +4,7 @@ use Prim.Native.Nat.{ℕ, _+_, _*_, _-_, _≤_, _<_}
 use mathlib.Core.Logic.{⊎-elim}
 use mathlib.Core.Path.{_≡_, ap}
 use lib.ListN.{length, drop}
-use Rattle.checksum.specs.Laws.{wordSum}
+use Rattle.checksum.specs.Folding.{wordSum}
 use Rattle.checksum.proofs.Left.{left-part}
 use Rattle.checksum.proofs.words.Statement.{statement}
 use Rattle.checksum.proofs.words.Tie as tie

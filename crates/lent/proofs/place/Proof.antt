@@ -1,7 +1,7 @@
 -- `lent::place` meets its contract: the part that was lent is back in its place. Assumes nothing.
 use native.Mathlib.Omega.{arith}
 use mathlib.Core.Path.{sym, _∙_}
-use Rattle.lent.specs.Laws.{placed-fits, placed-short, part-over}
+use Rattle.lent.proofs.Laws.{placed-fits, placed-short, part-over}
 use Rattle.lent.proofs.place.Statement.{statement}
 use Rattle.lent.proofs.place.Tie as tie
 

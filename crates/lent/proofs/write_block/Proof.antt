@@ -1,7 +1,7 @@
 -- `lent::write_block` meets its contract: what is read from the array is what was written there. Assumes nothing.
 use native.Mathlib.Omega.{arith}
 use lib.ListN.{length-take}
-use Rattle.lent.specs.Laws.{by-way-of}
+use Rattle.lent.proofs.Laws.{by-way-of}
 use Rattle.lent.proofs.write_block.Statement.{statement}
 use Rattle.lent.proofs.write_block.Tie as tie
 

@@ -6,7 +6,7 @@ use lib.ListN.{length, take, drop, length-take, length-drop}
 use borrow.Rule.Slice.PartMut.{putMid}
 use lib.Seq.{take-all}
 use Rattle.lent.specs.Written.{written, over}
-use Rattle.lent.specs.Laws.{part-over, written-block, length-written}
+use Rattle.lent.proofs.Laws.{part-over, written-block, length-written}
 use Rattle.lent.proofs.write_blocks.Statement.{statement}
 use Rattle.lent.proofs.write_blocks.Tie as tie
 

@@ -41,7 +41,7 @@ use Rattle.paths.proofs.PathTable as P
 use Rattle.paths.proofs.PathTable.Laws as P′
 use Rattle.settings.proofs.Settings as C
 use Rattle.settings.proofs.Settings.Laws as C′
-use Rattle.node.specs.Node.{sizeAt, sizeOf}
+use Rattle.node.specs.Node.{pathSizeAt, pathSize}
 use Rattle.node.specs.declared.Node.{Node}
 use Rattle.node.proofs.Node as T
 use Rattle.node.proofs.Node.Laws as T′
@@ -84,8 +84,8 @@ module _ (h : Node) (is : Fits h) where
 abbrev size-among : Node → ℕ → ℕ
 size-among h n = inForce (link h) (keptAmong (h .paths .neighbours) (h .paths .sizes) (h .paths .times) (h .paths .count) n (h .latest))
 
-size-is : (h : Node) (n : ℕ) → size-among h n ≡ sizeOf h n
-unfolding sizeOf sizeAt keptIn
+size-is : (h : Node) (n : ℕ) → size-among h n ≡ pathSize h n
+unfolding pathSize pathSizeAt keptIn
 size-is h n = refl
 
 module _ {M : Type 1} (𝓤 : URA M) (H : Heap 𝓤) (A : Atoms 𝓤) (W : Given 𝓤 H A) (mem : Memory → SProp 𝓤) (run : Routine → Fun 𝓤) (κ : Lft) (q : Share) (b o : ℕ) (γ : GName) (h : Node) (n : ℕ) (fits : n < 2 ^ 32) where
@@ -117,7 +117,7 @@ module _ {M : Type 1} (𝓤 : URA M) (H : Heap 𝓤) (A : Atoms 𝓤) (W : Given
   asked : (γ₁ γ₂ γ₃ : GName) → ent 𝓤 (sep 𝓤 (sem 𝓤 H A (Rest γ₁ γ₂ γ₃)) (A .lft κ q)) (Called 𝓤 H A mem run .pre (to γ₁ γ₂ γ₃))
   asked γ₁ γ₂ γ₃ = qed W (‵ (Rest γ₁ γ₂ γ₃) ∷ ‵ (flft κ q) ∷ []) ∵ nothing ! $ move ! (2 ∷ 0 ∷ []) $ join ! $ join ! $ frame ! $ done !
 
-  exits : (r : ℕ) (v : Val) → r ≡ sizeOf h n → ent 𝓤 (⋆ 𝓤 H A (‵ (u16 .own r (v ∷ [])) ∷ raw (alive 𝓤 H A g.signature (κ, tt) (q, tt)) ∷ [])) (Post v)
+  exits : (r : ℕ) (v : Val) → r ≡ pathSize h n → ent 𝓤 (⋆ 𝓤 H A (‵ (u16 .own r (v ∷ [])) ∷ raw (alive 𝓤 H A g.signature (κ, tt) (q, tt)) ∷ [])) (Post v)
   exits r v e =
       qed W (‵ (u16 .own r (v ∷ [])) ∷ raw (alive 𝓤 H A g.signature (κ, tt) (q, tt)) ∷ []) ∵
       suffices ! _ (ends-at 𝓤 H A f.ended stayed (f.clauses 𝓤 H A mem run) W (((κ, tt), (q, tt), tt, x, at), tt) v r (tt, (tt, tt)) (tt, (tt, tt))) $ says ! e $

@@ -37,7 +37,7 @@ use denote.Triple.Table.{cited}
 use denote.Triple.Walked.{says, Stays, stay-dropped, stay-ref, walkOf, goes-dropped, goes-ref, ends-at}
 use denote.Exit.{yes}
 use Rattle.address.specs.Address.{lastQuad}
-use Rattle.node.specs.Node.{sizeOf}
+use Rattle.node.specs.Node.{pathSize}
 use Rattle.node.specs.declared.Node.{Node}
 use Rattle.node.proofs.Node as T
 use Rattle.capi.specs.declared.Address.{Address}
@@ -110,12 +110,12 @@ module _ {M : Type 1} (𝓤 : URA M) (H : Heap 𝓤) (A : Atoms 𝓤) (W : Given
         qed W (‵ (flft (ν ∷ []) fullShare) ∷ ‵ (Shr (ν ∷ []) δ n b o) ∷ []) ∵
         nothing ! $ move ! (1 ∷ 0 ∷ []) $ join ! $ nothing ! $ owned ! u32 (Is u32) (uint-makes 𝓤 H A W w32) v _ (refl, v-fits) $ fjoin ! $ move ! (2 ∷ 0 ∷ []) $ fjoin ! $ move ! (1 ∷ 0 ∷ []) $ join ! $ frame ! $ done !
 
-    exits : (r n s : ℕ) (v : Val) → r ≡ max (h .latest) t → n ≡ lastQuad (toward .bytes) → s ≡ sizeOf (at-time h r) n
+    exits : (r n s : ℕ) (v : Val) → r ≡ max (h .latest) t → n ≡ lastQuad (toward .bytes) → s ≡ pathSize (at-time h r) n
         → ent 𝓤 (⋆ 𝓤 H A (‵ (fobs γ (T.the-row .coded .code (at-time h r))) ∷ ‵ (fbor κ (Body (mem T.the-row) b o γ)) ∷ ‵ (flft κ q) ∷ ‵ (u16 .own s (v ∷ [])) ∷ [])) (Post v)
     exits r n s v raised ended sized =
         qed W (‵ (fobs γ (T.the-row .coded .code (at-time h r))) ∷ ‵ (fbor κ (Body (mem T.the-row) b o γ)) ∷ ‵ (flft κ q) ∷ ‵ (u16 .own s (v ∷ [])) ∷ []) ∵
         suffices ! _ (ends-at 𝓤 H A f.ended stayed (f.clauses 𝓤 H A at-mem run) W (((κ, tt), (q, tt), tt, x, at), tt) v s (at-time h r, (tt, (tt, tt))) (tt, (tt, (tt, tt)))) $
-        says ! (sized ∙ (λ i. sizeOf (at-time h (raised i)) (ended i)) ∙ size-raised h (toward .bytes) t, (λ i. at-time h (raised i)) ∙ time-raised h t) $
+        says ! (sized ∙ (λ i. pathSize (at-time h (raised i)) (ended i)) ∙ size-raised h (toward .bytes) t, (λ i. at-time h (raised i)) ∙ time-raised h t) $
         nothing ! $ move ! (3 ∷ 0 ∷ []) $ join ! $ frame ! $ feqI ! (List Val) (vptr b o ∷ []) (vptr b o ∷ []) refl $ fjoin3 ! $
         nothing ! $ nothing ! $ fjoin ! $ nothing ! $ fjoin ! $ move ! (1 ∷ 0 ∷ []) $ fjoin ! $ frame ! $ done !
 
@@ -143,7 +143,7 @@ module _ {M : Type 1} (𝓤 : URA M) (H : Heap 𝓤) (A : Atoms 𝓤) (W : Given
           shares-in ! tt (at-time h r) b o (λ ν δ. use2 W (raw (Size .pre (to-size ν δ (at-time h r) n))) (lent ν δ (at-time h r) n (n-is .1)) $
           -- [what the callee asks; what is kept; _6; …; _5; …; _4; …; _3; …; _2; …; _1; …; _0; …]
           calls-at ! fm Size k-size (to-size ν δ (at-time h r) n) (and-then ! (load ! (from ! (stop !)) (look ! 2 refl)) (and-then ! (load ! (from ! (stop !)) (look ! 6 refl)) (no-more !))) (λ u.
-          answered ! tt size.ended (size.clauses 𝓤 H A at-mem run) (to-size ν δ (at-time h r) n) u (λ s _. s ≡ sizeOf (at-time h r) n) (λ s _. id⊢ 𝓤 _) (λ s _ sized. peeks ! u16 (Is u16) (shows 𝓤 H A u16) s (u ∷ []) (λ s-is.
+          answered ! tt size.ended (size.clauses 𝓤 H A at-mem run) (to-size ν δ (at-time h r) n) u (λ s _. s ≡ pathSize (at-time h r) n) (λ s _. id⊢ 𝓤 _) (λ s _ sized. peeks ! u16 (Is u16) (shows 𝓤 H A u16) s (u ∷ []) (λ s-is.
           -- [the result; …; the token of the call; what is kept; _6; …; _5; …; _4; …; _3; …; _2; …; _1; …; room for _0; …]
           land ! (from ! (stop !)) (init ! 16 refl (uint-lawful 𝓤 H A W w16 .typed s _ s-is .0)) $ move ! (2 ∷ 3 ∷ []) $ shared-back ! tt (at-time h r) b o $
           -- [obs; the borrow; the token; the result; …; _6; …; _5; …; _4; …; _3; …; _2; …; _1; …; _0; …]

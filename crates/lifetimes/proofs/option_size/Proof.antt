@@ -5,7 +5,7 @@ use native.Mathlib.Omega.{arith}
 use denote.Ref.{now}
 use Prim.Native.Nat.{_*_}
 use lib.ListN.{length, getD}
-use Rattle.lifetimes.specs.Options.{unitBytes, sizeAt}
+use Rattle.lifetimes.specs.Options.{unitBytes, optionSize}
 use Rattle.lifetimes.proofs.Sizes.{size-short}
 use Rattle.lifetimes.proofs.option_size.Statement.{statement}
 use Rattle.lifetimes.proofs.option_size.Tie as tie
@@ -20,13 +20,13 @@ mul-size : tie.Need-mul-size
 mul-size c = omega (arith, c .shared-slice-known .given 1)
 
 returns-2 : tie.Need-returns-2
-unfolding sizeAt
+unfolding optionSize
 returns-2 c =
     let bs = now (c .before .before .before .args .rest) in
     rw (le-leb (getD bs 1 0 * unitBytes) (length bs) (c .if2 .taken))
 
 returns-3 : tie.Need-returns-3
-unfolding sizeAt
+unfolding optionSize
 returns-3 c =
     let bs = now (c .before .before .before .args .rest) in
     rw (lt-leb (getD bs 1 0 * unitBytes) (length bs) (c .if2 .left))

@@ -1,13 +1,14 @@
 -- `messages::seal` meets its contract: the checksum stands inside of the packet. Assumes nothing.
 use native.Mathlib.Omega.{arith}
-use Rattle.lent.specs.Laws.{placed-inside}
-use Rattle.messages.specs.Sealed.{sealed, one-pass}
+use Rattle.lent.proofs.Laws.{placed-inside}
+use Rattle.messages.specs.Sealed.{sealed}
+use Rattle.messages.proofs.SealedLaws.{one-pass}
 use Prim.Native.Nat.{ℕ}
 use mathlib.Core.Path.{_≡_, sym, ap, _∙_}
 use mathlib.Core.List.{[], _∷_, _++_}
 use lib.ListN.{length, take, drop, take-append-drop}
 use lib.Seq.{length-take-le}
-use Rattle.checksum.specs.Bytes.{bytes-of}
+use Rattle.checksum.proofs.Bytes.{bytes-of}
 use Rattle.messages.proofs.seal.Statement.{statement}
 use Rattle.messages.proofs.seal.Tie as tie
 

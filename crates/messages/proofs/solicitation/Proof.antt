@@ -1,8 +1,8 @@
 -- `messages::solicitation` meets its contract: the message has no part behind its first 8 bytes. Assumes nothing.
 use native.Mathlib.Omega.{arith}
-use Rattle.messages.specs.Sealed.{sealed-packet}
+use Rattle.messages.proofs.SealedLaws.{sealed-packet}
 use Rattle.messages.specs.Icmp.{solicitationOf, solicitationAnswer, solicitationOutput}
-use Rattle.messages.specs.WriterLaws.{solicitation-short, solicitation-pass}
+use Rattle.messages.proofs.WriterLaws.{solicitation-short, solicitation-pass}
 use Rattle.lent.specs.Written.{written}
 use Prim.Native.Nat.{ℕ}
 use mathlib.Core.Path.{ap, _∙_}

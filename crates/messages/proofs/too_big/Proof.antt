@@ -1,9 +1,9 @@
 -- `messages::too_big` meets its contract: at each return the tests that led there say which case holds. Assumes nothing.
 use native.Mathlib.Omega.{arith}
-use Rattle.messages.specs.Sealed.{sealed-too-big}
+use Rattle.messages.proofs.SealedLaws.{sealed-too-big}
 use Rattle.messages.specs.Icmp.{tooBigOf, tooBigAnswer, tooBigOutput}
-use Rattle.messages.specs.WriterLaws.{too-big-headless, too-big-short, too-big-pass, address-taken}
-use Rattle.lists.specs.Parts.{take-least}
+use Rattle.messages.proofs.WriterLaws.{too-big-headless, too-big-short, too-big-pass, address-taken}
+use Rattle.lists.proofs.Parts.{take-least}
 use Rattle.lent.specs.Written.{written}
 use Prim.Native.Nat.{ℕ}
 use mathlib.Core.Path.{_≡_, ap, _∙_}

@@ -1,6 +1,6 @@
 -- `messages::write_ipv6_header` meets its contract: three writes, each right behind the last. Assumes nothing.
 use native.Mathlib.Omega.{arith}
-use Rattle.lent.specs.Laws.{placed-first, placed-more}
+use Rattle.lent.proofs.Laws.{placed-first, placed-more}
 use Prim.Native.Nat.{ℕ}
 use mathlib.Core.Path.{refl}
 use mathlib.Core.List.{List, [], _∷_, _++_}

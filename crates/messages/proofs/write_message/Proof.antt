@@ -1,8 +1,8 @@
 -- `messages::write_message` meets its contract: three writes, each right behind the last, and the checksum put in. Assumes nothing.
 use native.Mathlib.Omega.{arith}
-use Rattle.lent.specs.Laws.{placed-more}
-use Rattle.messages.specs.Sealed.{sealed-written}
-use Rattle.messages.specs.WriterLaws.{length-ipv6Header}
+use Rattle.lent.proofs.Laws.{placed-more}
+use Rattle.messages.proofs.SealedLaws.{sealed-written}
+use Rattle.messages.proofs.WriterLaws.{length-ipv6Header}
 use Rattle.messages.specs.Icmp.{ipv6Header}
 use Prim.Native.Nat.{_+_}
 use mathlib.Core.Path.{_≡_, _∙_}

@@ -3,7 +3,7 @@ use mathlib.Core.Path.{_≡_}
 use mathlib.Core.Bool.{true}
 use native.Mathlib.Omega.{arith}
 use Rattle.address.specs.Address.{lastQuad, isLinkLocalIsatap}
-use Rattle.address.specs.Laws.{link-local-isatap-good}
+use Rattle.address.proofs.Laws.{link-local-isatap-good}
 use Rattle.settings.specs.Settings.{forbiddenTo}
 use Rattle.routers.specs.Routers.{live, listed}
 use Rattle.receiving.specs.Receive.{isSourceRight, innerCheck}

@@ -2,7 +2,7 @@
 use borrow.Author.Needs.{needs}
 use native.Mathlib.Omega.{arith}
 use lib.ListN.{length-take}
-use Rattle.lists.specs.Parts.{take-least}
+use Rattle.lists.proofs.Parts.{take-least}
 use Rattle.receiving.proofs.part.Statement.{statement}
 use Rattle.receiving.proofs.part.Tie as tie
 

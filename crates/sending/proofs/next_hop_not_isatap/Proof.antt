@@ -2,9 +2,9 @@
 use mathlib.Core.Path.{_≡_}
 use mathlib.Core.Bool.{true, _&&_}
 use native.Mathlib.Omega.{arith}
-use Rattle.lists.specs.Tests.{and-left, and-right}
+use Rattle.lists.proofs.Tests.{and-left, and-right}
 use Rattle.address.specs.Address.{isLinkLocal, isIdentifier}
-use Rattle.address.specs.Laws.{link-local-embeds}
+use Rattle.address.proofs.Laws.{link-local-embeds}
 use Rattle.settings.specs.Settings.{embeddedTo}
 use Rattle.sending.specs.Plan.{isNotIsatap}
 use Rattle.sending.proofs.next_hop_not_isatap.Statement.{statement}

@@ -1,5 +1,5 @@
 -- `sending::wrap_plan` meets its contract: at each return the tests that led there say which case holds. Assumes nothing.
-use Rattle.header.specs.WriterLaws.{wrap-too-long, wrap-short, wrap-pass}
+use Rattle.header.proofs.WriterLaws.{wrap-too-long, wrap-short, wrap-pass}
 use Rattle.sending.specs.Plan.{wrapPlan}
 use native.Mathlib.Omega.{arith}
 use Rattle.sending.proofs.wrap_plan.Statement.{statement}

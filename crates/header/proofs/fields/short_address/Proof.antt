@@ -3,7 +3,7 @@ use native.Mathlib.Omega.{arith}
 use mathlib.Core.Path.{_∙_}
 use lib.ListN.{length}
 use lib.Seq.{take-length}
-use Rattle.header.specs.Padded.{address-padded}
+use Rattle.header.proofs.Padded.{address-padded}
 use Rattle.header.proofs.fields.short_address.Statement.{statement}
 use Rattle.header.proofs.fields.short_address.Tie as tie
 

@@ -1,7 +1,7 @@
 -- `header::fields::tail` meets its contract: the part starts at k or at the end. Assumes nothing.
 use borrow.Author.Needs.{needs}
 use native.Mathlib.Omega.{arith}
-use Rattle.lists.specs.Parts.{part-from}
+use Rattle.lists.proofs.Parts.{part-from}
 use Rattle.header.proofs.fields.tail.Statement.{statement}
 use Rattle.header.proofs.fields.tail.Tie as tie
 

@@ -3,7 +3,7 @@ use native.Mathlib.Omega.{arith}
 use mathlib.Core.Path.{sym, _∙_}
 use lib.ListN.{length-take}
 use Rattle.header.specs.Inner.{innerPacketOf}
-use Rattle.header.specs.InnerLaws.{inner-whole}
+use Rattle.header.proofs.InnerLaws.{inner-whole}
 use Rattle.header.proofs.inner.inner_packet.Statement.{statement}
 use Rattle.header.proofs.inner.inner_packet.Tie as tie
 

@@ -3,7 +3,7 @@ use native.Mathlib.Omega.{arith}
 use mathlib.Core.Path.{_∙_}
 use lib.ListN.{length}
 use lib.Seq.{take-length}
-use Rattle.header.specs.Padded.{inner-padded}
+use Rattle.header.proofs.Padded.{inner-padded}
 use Rattle.header.proofs.inner.short_header.Statement.{statement}
 use Rattle.header.proofs.inner.short_header.Tie as tie
 

@@ -3,7 +3,7 @@ use native.Mathlib.Omega.{arith}
 use mathlib.Core.Path.{_∙_}
 use lib.ListN.{length}
 use lib.Seq.{take-length}
-use Rattle.header.specs.Padded.{outer-padded}
+use Rattle.header.proofs.Padded.{outer-padded}
 use Rattle.header.proofs.outer.short_header.Statement.{statement}
 use Rattle.header.proofs.outer.short_header.Tie as tie
 

@@ -2,7 +2,7 @@
 use native.Mathlib.Omega.{arith}
 use lib.ListN.{length-take}
 use Rattle.header.specs.Outer.{isSumWrong}
-use Rattle.lists.specs.Parts.{take-least}
+use Rattle.lists.proofs.Parts.{take-least}
 use Rattle.header.proofs.outer.sum_wrong.Statement.{statement}
 use Rattle.header.proofs.outer.sum_wrong.Tie as tie
 

@@ -4,7 +4,7 @@ use mathlib.Core.Path.{ap, _∙_}
 use mathlib.Core.List.{[]}
 use Prim.Native.Nat.{ℕ}
 use Rattle.checksum.specs.Sum.{onesSumFrom}
-use Rattle.header.specs.Right.{Fits, headerWords, sum-header}
+use Rattle.header.proofs.Right.{Fits, headerWords, sum-header}
 use Rattle.header.proofs.wrap.header_sum.Statement.{statement}
 use Rattle.header.proofs.wrap.header_sum.Tie as tie
 

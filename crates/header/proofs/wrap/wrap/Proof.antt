@@ -1,8 +1,8 @@
 -- `header::wrap::wrap` meets its contract: two writes, one right behind the other. Assumes nothing.
 use native.Mathlib.Omega.{arith}
 use Rattle.header.specs.Wrap.{outerBytes, wrapped, wrapAnswer, wrapOutput}
-use Rattle.header.specs.WriterLaws.{wrap-too-long, wrap-short, wrap-pass, length-outerBytes}
-use Rattle.lent.specs.Laws.{placed-first, placed-more}
+use Rattle.header.proofs.WriterLaws.{wrap-too-long, wrap-short, wrap-pass, length-outerBytes}
+use Rattle.lent.proofs.Laws.{placed-first, placed-more}
 use lib.ListN.{length}
 use Prim.Native.Nat.{_+_, _≤_}
 use Rattle.header.proofs.wrap.wrap.Statement.{statement}

@@ -1,7 +1,7 @@
 -- `input::section::front` meets its contract: a count past the end is read as the length. Assumes nothing.
 use native.Mathlib.Omega.{arith}
 use lib.ListN.{length-take}
-use Rattle.lists.specs.Parts.{take-least}
+use Rattle.lists.proofs.Parts.{take-least}
 use Rattle.input.proofs.section.front.Statement.{statement}
 use Rattle.input.proofs.section.front.Tie as tie
 

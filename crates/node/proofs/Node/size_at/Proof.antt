@@ -1,11 +1,11 @@
 -- `node::Node::size_at` meets its contract: the kept size, over the link. Assumes nothing.
 use native.Mathlib.Omega.{arith}
-use Rattle.node.specs.Node.{sizeAt}
+use Rattle.node.specs.Node.{pathSizeAt}
 use Rattle.node.proofs.Node.size_at.Statement.{statement}
 use Rattle.node.proofs.Node.size_at.Tie as tie
 
 returns : tie.Need-returns
-unfolding sizeAt
+unfolding pathSizeAt
 returns c = rw (c .in-force .ensures, c .before .kept .ensures)
 
 pub size-at-spec : {M : Type 1} → statement M

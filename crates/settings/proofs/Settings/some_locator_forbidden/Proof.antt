@@ -5,8 +5,9 @@ use Prim.Native.Nat.{_-_}
 use mathlib.Core.Path.{_≡_, refl, _∙_}
 use mathlib.Core.Bool.{_||_}
 use lib.ListN.{take, drop, length}
-use Rattle.lists.specs.Any.{anyOf, any-turn, loop-end}
-use Rattle.lists.specs.Parts.{unmapped}
+use Rattle.lists.specs.Any.{anyOf}
+use Rattle.lists.proofs.AnyLaws.{any-turn, loop-end}
+use Rattle.lists.proofs.Parts.{unmapped}
 use Rattle.settings.specs.Locators.{noLocator}
 use Rattle.settings.specs.Settings.{isForbiddenLocator}
 use Rattle.settings.proofs.Settings.some_locator_forbidden.Statement.{statement}

@@ -5,7 +5,8 @@ use Prim.Native.Nat.{_-_}
 use mathlib.Core.Path.{_≡_, refl, _∙_}
 use mathlib.Core.Bool.{_||_}
 use lib.ListN.{take, drop}
-use Rattle.lists.specs.Any.{anyOf, any-turn, loop-end}
+use Rattle.lists.specs.Any.{anyOf}
+use Rattle.lists.proofs.AnyLaws.{any-turn, loop-end}
 use Rattle.settings.specs.Settings.{isBadEnd}
 use Rattle.settings.proofs.Settings.some_router_bad.Statement.{statement}
 use Rattle.settings.proofs.Settings.some_router_bad.Tie as tie

@@ -5,8 +5,9 @@ use native.Mathlib.Omega.{arith}
 use Prim.Native.Nat.{_-_, min}
 use mathlib.Core.Path.{_≡_, sym, _∙_}
 use lib.ListN.{take, drop, length}
-use Rattle.lists.specs.Any.{anyOf, any-here, any-later, front-end}
-use Rattle.lists.specs.Parts.{take-least, unmapped}
+use Rattle.lists.specs.Any.{anyOf}
+use Rattle.lists.proofs.AnyLaws.{any-here, any-later, front-end}
+use Rattle.lists.proofs.Parts.{take-least, unmapped}
 use Rattle.settings.specs.Locators.{noLocator, isAt}
 use Rattle.settings.proofs.locators.has_address.Statement.{statement}
 use Rattle.settings.proofs.locators.has_address.Tie as tie

@@ -4,8 +4,9 @@ use native.Mathlib.Omega.{arith}
 use Prim.Native.Nat.{_-_, min}
 use mathlib.Core.Path.{_≡_, sym, _∙_}
 use lib.ListN.{take, drop, length}
-use Rattle.lists.specs.Any.{anyOf, any-here, any-later, front-end}
-use Rattle.lists.specs.Parts.{take-least, unmapped}
+use Rattle.lists.specs.Any.{anyOf}
+use Rattle.lists.proofs.AnyLaws.{any-here, any-later, front-end}
+use Rattle.lists.proofs.Parts.{take-least, unmapped}
 use Rattle.settings.specs.Locators.{noLocator, isLocator}
 use Rattle.settings.proofs.locators.has_locator.Statement.{statement}
 use Rattle.settings.proofs.locators.has_locator.Tie as tie

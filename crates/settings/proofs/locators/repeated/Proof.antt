@@ -5,8 +5,9 @@ use Prim.Native.Nat.{_-_}
 use mathlib.Core.Path.{_≡_, refl, _∙_}
 use mathlib.Core.Bool.{_||_}
 use lib.ListN.{take, drop, length}
-use Rattle.lists.specs.Any.{twice, twice-turn, loop-end}
-use Rattle.lists.specs.Parts.{unmapped}
+use Rattle.lists.specs.Any.{twice}
+use Rattle.lists.proofs.AnyLaws.{twice-turn, loop-end}
+use Rattle.lists.proofs.Parts.{unmapped}
 use Rattle.settings.specs.Locators.{noLocator, sameLocator}
 use Rattle.settings.proofs.locators.repeated.Statement.{statement}
 use Rattle.settings.proofs.locators.repeated.Tie as tie

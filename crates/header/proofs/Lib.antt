@@ -1,0 +1,6 @@
+pub mod OuterLaws
+pub mod InnerLaws
+pub mod Padded
+pub mod WriterLaws
+pub mod Right
+pub mod ReadBack

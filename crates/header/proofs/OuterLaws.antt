@@ -1,0 +1,36 @@
+-- What an outer header that is not malformed has. Assumes nothing.
+use Prim.Native.Nat.{ℕ}
+use mathlib.Core.Path.{_≡_}
+use mathlib.Core.Bool.{false, not}
+use borrow.Author.Tests.{ltb-false, eqb-true, not-false, le-ltb, eq-eqb}
+use lib.Dec.{eqb, ltb}
+use Rattle.lists.proofs.Tests.{or-six}
+use Rattle.header.specs.Outer.{isOuterMalformed}
+use Rattle.header.specs.Whole.{WholeOuter}
+use Rattle.header.specs.declared.outer.Outer.{Outer}
+
+module _ (n : ℕ) (o : Outer) where
+  pub outer-whole : isOuterMalformed n o ≡ false → WholeOuter n o
+  unfolding isOuterMalformed
+  outer-whole h =
+      let f = or-six (ltb n 20) (not (eqb (o .version) 4)) (ltb (o .header) 20) (ltb n (o .header)) (ltb (o .total) (o .header)) (ltb n (o .total)) h in
+      record {
+        some = ltb-false _ _ (f .0 .0);
+        version = eqb-true _ _ (not-false _ (f .0 .1));
+        words = ltb-false _ _ (f .0 .2);
+        whole = ltb-false _ _ (f .1 .0);
+        inside = ltb-false _ _ (f .1 .1);
+        all = ltb-false _ _ (f .1 .2);
+      }
+
+  pub whole-outer : WholeOuter n o → isOuterMalformed n o ≡ false
+  unfolding isOuterMalformed
+  whole-outer w =
+      simp (
+        le-ltb n 20 (w .some),
+        eq-eqb (o .version) 4 (w .version),
+        le-ltb (o .header) 20 (w .words),
+        le-ltb n (o .header) (w .whole),
+        le-ltb (o .total) (o .header) (w .inside),
+        le-ltb n (o .total) (w .all),
+      )

@@ -1,0 +1,28 @@
+-- `hearing::hear_from` meets its contract: by cases on what the source embeds, and on whether that is listed. Assumes nothing.
+use borrow.Author.Needs.{needs}
+use native.Mathlib.Omega.{arith}
+use Rattle.settings.specs.Settings.{embeddedTo}
+use Rattle.hearing.specs.Heard.{heardFrom}
+use Rattle.hearing.proofs.hear_from.Statement.{statement}
+use Rattle.hearing.proofs.hear_from.Tie as tie
+
+returns : tie.Need-returns
+unfolding heardFrom embeddedTo
+returns c =
+    let f = c .before .before .before .before .before in
+    rw (← f .before .before .before .rows .ensures, ← f .before .before .isatap .ensures, f .found .given .1, ← c .before .before .before .lists .ensures, c .before .before .if1 .taken, c .rescheduled .ensures, c .before .due .ensures)
+
+returns-2 : tie.Need-returns-2
+unfolding heardFrom embeddedTo
+returns-2 c =
+    let f = c .before .before .before in
+    rw (← f .before .before .before .rows .ensures, ← f .before .before .isatap .ensures, f .found .given .1, ← c .before .lists .ensures, c .if1 .left)
+
+returns-3 : tie.Need-returns-3
+unfolding heardFrom embeddedTo
+returns-3 c = rw (← c .before .before .before .rows .ensures, ← c .before .before .isatap .ensures, c .enum-told .given .1)
+
+pub hear-from-spec : {M : Type 1} → statement M
+hear-from-spec =
+    tie.close
+    (tie.spec (omega arith) (omega arith) (search needs) (omega arith) (omega arith) (omega arith) returns (search needs) returns-2 returns-3)

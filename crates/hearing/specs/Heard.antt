@@ -1,0 +1,83 @@
+-- Advertisements (document 01, "Routers"): the order 8, 20, 21, and the router's next due time.
+use Prim.Native.Nat.{ℕ}
+use mathlib.Core.Bool.{Bool, cond, not, _&&_}
+use mathlib.Core.List.{List, [], _∷_}
+use lib.ListN.{length, take, drop}
+use Rattle.address.specs.Address.{isLinkLocal}
+use Rattle.address.specs.declared.Embedded.{Embedded}
+use Rattle.address.specs.declared.Embedded.the-variants.{Ipv4, Nothing}
+use Rattle.refusals.specs.Refusals.{firstOf}
+use Rattle.refusals.specs.Given.{Given, answered, refused}
+use Rattle.refusals.specs.declared.Refusal.{Refusal}
+use Rattle.refusals.specs.declared.Refusal.the-variants.{InnerMalformed, AdvertisementInvalid, AdvertiserNotListed}
+use Rattle.refusals.specs.declared.Check.{Check}
+use Rattle.refusals.specs.declared.Check.the-variants.{Pass, Stop}
+use Rattle.header.specs.Fields.{wordAt}
+use Rattle.header.specs.Inner.{innerOf, isInnerMalformed}
+use Rattle.header.specs.declared.inner.Inner.{Inner}
+use Rattle.lifetimes.specs.Lifetimes.{optionsReadOf, dueAfter}
+use Rattle.lifetimes.specs.declared.Smallest.{Smallest}
+use Rattle.routers.specs.Routers.{live, listed, rescheduledOf}
+use Rattle.routers.specs.declared.RouterList.{RouterList}
+use Rattle.settings.specs.Settings.{embeddedTo}
+use Rattle.settings.specs.declared.Settings.{Settings}
+use Rattle.hearing.specs.Message.{messageOf, isValidMessage}
+use Rattle.hearing.specs.declared.HeardAnswer.{HeardAnswer}
+use Rattle.hearing.specs.declared.HeardAnswer.the-variants.{Router, Refused}
+use Rattle.hearing.specs.declared.Heard.{Heard}
+
+-- type 134 (RFC 4861, 4.2)
+abbrev pub advertisement : ℕ
+advertisement = 134
+
+-- ICMPv6 length at least 16: the options start there (RFC 4861, 4.2)
+abbrev pub optionsStart : ℕ
+optionsStart = 16
+
+-- valid: the rules of a message of type 134, and a link-local source
+unfoldable pub isValidAdvertisement : Inner → List ℕ → Bool
+isValidAdvertisement i p = isValidMessage advertisement optionsStart i p && isLinkLocal (i .source)
+
+-- the smallest lifetime: the router's, which stands in the message's bytes 6 and 7 (RFC 4861, 4.2), or an option's
+abbrev pub smallestFrom : List ℕ → Smallest
+smallestFrom p = optionsReadOf (wordAt (messageOf p) 6) (drop optionsStart (messageOf p)) .smallest
+
+-- "Due becomes now + the larger of the interval and half the smallest lifetime"
+unfoldable pub dueFrom : ℕ → ℕ → List ℕ → ℕ
+dueFrom now interval p = dueAfter now interval (smallestFrom p)
+
+-- after a refusal the router list is as before
+abbrev pub refusedBy : Refusal → RouterList → Heard
+refusedBy refusal routers = record { answer = Refused refusal; routers = routers }
+
+-- 21: the source embeds no listed router; else the answer is that router, and its due time is set
+abbrev pub heardOfRouter : Embedded → RouterList → ℕ → Heard
+heardOfRouter (Ipv4 a) routers due =
+    cond (listed a (live routers)) (record { answer = Router a; routers = rescheduledOf a due routers }) (refusedBy AdvertiserNotListed routers)
+heardOfRouter Nothing routers due = refusedBy AdvertiserNotListed routers
+
+-- the same of the source of a valid advertisement, in the packet p
+unfoldable pub heardFrom : Settings → RouterList → ℕ → List ℕ → List ℕ → Heard
+heardFrom s routers now source p = heardOfRouter (embeddedTo s source) routers (dueFrom now (s .interval) p)
+
+-- 8 as in receiving; 20: no valid advertisement in the 40 + payload length bytes
+abbrev pub heardRows : List ℕ → List (Bool × Refusal)
+heardRows p =
+    (isInnerMalformed (length p) (innerOf p), InnerMalformed)
+    ∷ ((not (isValidAdvertisement (innerOf p) (take (innerOf p .length) p)), AdvertisementInvalid)
+    ∷ [])
+
+-- the refusal, if there is one; else what comes of the later stage
+abbrev pub stopOr : Check → RouterList → Heard → Heard
+stopOr Pass routers heard = heard
+stopOr (Stop refusal) routers heard = refusedBy refusal routers
+
+-- 8, 20 and then 21; bytes behind 40 + payload length are passed over
+unfoldable pub heardOf : Settings → RouterList → ℕ → List ℕ → Heard
+heardOf s routers now p =
+    stopOr (firstOf (heardRows p)) routers (heardFrom s routers now (innerOf p .source) (take (innerOf p .length) p))
+
+-- document 01's number and values: the router's IPv4 address
+abbrev pub heardGiven : HeardAnswer → Given
+heardGiven (Router a) = answered (a ∷ [])
+heardGiven (Refused refusal) = refused refusal

@@ -1,0 +1,151 @@
+// Router advertisements: whether one is valid and its router listed, and when that router is due again.
+use address::Embedded;
+use address::prefixes;
+use header::fields;
+use header::inner;
+use header::inner::Inner;
+use refusals::Refusal;
+use routers::RouterList;
+use settings::Settings;
+ghost use mathlib.Core.Path.{_≡_};
+ghost use Prim.Native.Nat.{_≤_};
+ghost use lib.ListN.{length};
+ghost use Rattle.hearing.specs.Message.{isSumRight, isValidMessage};
+ghost use Rattle.hearing.specs.Heard.{isValidAdvertisement, dueFrom, heardFrom, heardOf, heardGiven};
+
+// ICMPv6 (RFC 4443, 2.1).
+const ICMP: u8 = 58;
+
+// The hop limit of a packet that no router has passed on (RFC 4861, 6.1).
+const HOP_LIMIT: u8 = 255;
+
+// The type of a router advertisement, and where its options start (RFC 4861, 4.2).
+const ADVERTISEMENT: u8 = 134;
+
+const OPTIONS: usize = 16;
+
+// The advertising router, by its address, or the number.
+pub enum HeardAnswer {
+    Router(u32),
+    Refused(Refusal),
+}
+
+// The answer, and the router list after the advertisement.
+pub struct Heard {
+    pub answer: HeardAnswer,
+    pub routers: RouterList,
+}
+
+impl HeardAnswer {
+    // Document 01's number, 0 where the advertisement is accepted.
+    pub fn number(self) -> u8
+        ensures { λ r. ⌜ r ≡ heardGiven self .number ⌝ }
+    {
+        match self {
+            HeardAnswer::Router(_) => 0,
+            HeardAnswer::Refused(refusal) => refusal.number(),
+        }
+    }
+}
+
+// Whether the checksum of an ICMPv6 packet is right: one pass from the source address on, started with the message's length
+// and the next header.
+fn sum_right(p: &[u8]) -> bool
+    requires { ⌜ (40 ≤ length (now p)) × (length (now p) ≤ 65575) ⌝ }
+    ensures { λ r. ⌜ r ≡ isSumRight (now (p .entry)) ⌝ }
+{
+    checksum::right_from((p.len() - 40 + ICMP as usize) as u32, &p[8..])
+}
+
+// Whether a packet with the header i is a valid neighbour discovery message of that type, with options from `least` on.
+fn valid_message(kind: u8, least: usize, i: Inner, p: &[u8]) -> bool
+    requires { ⌜ (40 ≤ length (now p)) × (length (now p) ≤ 65575) ⌝ }
+    ensures { λ r. ⌜ r ≡ isValidMessage kind least i (now (p .entry)) ⌝ }
+{
+    let message = fields::tail(p, 40);
+    let options = fields::tail(message, least);
+    (i.next == ICMP)
+        & (i.hop == HOP_LIMIT)
+        & sum_right(p)
+        & (fields::byte(message, 0) == kind)
+        & (fields::byte(message, 1) == 0)
+        & (least <= message.len())
+        & lifetimes::options_whole(options)
+}
+
+// Whether a packet with the header i is a valid router advertisement.
+fn valid(i: Inner, p: &[u8]) -> bool
+    requires { ⌜ (40 ≤ length (now p)) × (length (now p) ≤ 65575) ⌝ }
+    ensures { λ r. ⌜ r ≡ isValidAdvertisement i (now (p .entry)) ⌝ }
+{
+    let source = i.source;
+    valid_message(ADVERTISEMENT, OPTIONS, i, p) & address::link_local_prefixed(source)
+}
+
+// When the router is due again that sends the advertisement at a time.
+fn due(time: u32, interval: u16, p: &[u8]) -> u64
+    ensures { λ r. ⌜ r ≡ dueFrom time interval (now (p .entry)) ⌝ }
+{
+    let message = fields::tail(p, 40);
+    let options = fields::tail(message, OPTIONS);
+    let read = lifetimes::options_read(fields::word(message, 6), options);
+    let smallest = read.smallest;
+    lifetimes::due_after(time, interval, smallest)
+}
+
+// What comes of a valid advertisement from a source: 21, or its router's due time.
+fn hear_from(
+    settings: Settings,
+    routers: RouterList,
+    time: u32,
+    source: [u8; 16],
+    p: &[u8],
+) -> Heard
+    ensures { λ r. ⌜ r ≡ heardFrom settings routers time source (now (p .entry)) ⌝ }
+{
+    let on_link = settings.prefixes;
+    let found = address::isatap(prefixes::rows(on_link), settings.prefix_count, source);
+    match found {
+        Embedded::Ipv4(router) => {
+            if routers.lists(router) {
+                let due = due(time, settings.interval, p);
+                let next = routers.rescheduled(router, due);
+                return Heard {
+                    answer: HeardAnswer::Router(router),
+                    routers: next,
+                };
+            }
+            Heard {
+                answer: HeardAnswer::Refused(Refusal::AdvertiserNotListed),
+                routers,
+            }
+        }
+        Embedded::Nothing => Heard {
+            answer: HeardAnswer::Refused(Refusal::AdvertiserNotListed),
+            routers,
+        },
+    }
+}
+
+// What comes of an inner packet that is taken for an advertisement at a time: whose it is, and the router list after it.
+pub fn hear(settings: Settings, routers: RouterList, time: u32, packet: &[u8]) -> Heard
+    ensures { λ r. ⌜ r ≡ heardOf settings routers time (now (packet .entry)) ⌝ }
+{
+    let i = inner::inner_header(packet);
+    if inner::inner_malformed(packet.len(), i) {
+        return Heard {
+            answer: HeardAnswer::Refused(Refusal::InnerMalformed),
+            routers,
+        };
+    }
+    let end = i.length;
+    let p = &packet[..end];
+    if !valid(i, p) {
+        return Heard {
+            answer: HeardAnswer::Refused(Refusal::AdvertisementInvalid),
+            routers,
+        };
+    }
+    let source = i.source;
+    hear_from(settings, routers, time, source, p)
+}

@@ -1,0 +1,4 @@
+pub mod SealedLaws
+pub mod WriterLaws
+pub mod Right
+pub mod Examples

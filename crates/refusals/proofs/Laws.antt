@@ -1,0 +1,32 @@
+-- A row of tests passes exactly if each of them is false; and what is known of what follows a row. Assumes nothing.
+use mathlib.Core.Path.{_≡_, refl}
+use mathlib.Core.Bool.{Bool, true, false, cond}
+use mathlib.Core.List.{List, [], _∷_}
+use Rattle.refusals.specs.Refusals.{firstOf, stopOr}
+use Rattle.refusals.specs.declared.Refusal.{Refusal}
+use Rattle.refusals.specs.declared.Check.{Check}
+use Rattle.refusals.specs.declared.Check.the-variants.{Pass, Stop}
+
+abbrev pub AllFalse : List (Bool × Refusal) → Type 0
+AllFalse [] = Unit {0}
+AllFalse (t ∷ ts) = (t .0 ≡ false) × AllFalse ts
+
+first-pass : (t : Bool) (r : Refusal) (rest : Check) → cond t (Stop r) rest ≡ Pass → (t ≡ false) × (rest ≡ Pass)
+first-pass true r rest h = (cc, cc)
+first-pass false r rest h = (refl, h)
+
+pub all-false : (rows : List (Bool × Refusal)) → firstOf rows ≡ Pass → AllFalse rows
+all-false [] h = tt
+all-false (t ∷ ts) h =
+    let f = first-pass (t .0) (t .1) (firstOf ts) h in
+    (f .0, all-false ts (f .1))
+
+pub all-pass : (rows : List (Bool × Refusal)) → AllFalse rows → firstOf rows ≡ Pass
+all-pass [] h = refl
+all-pass (t ∷ ts) h = rw (h .0) (all-pass ts (h .1))
+
+module _ {A : Type 0} (refuse : Refusal → A) where
+  -- what is no refusal comes from what follows, behind a row that passes
+  pub stop-passed : (c : Check) (follows given : A) → ((r : Refusal) → refuse r ≡ given → ⊥) → stopOr refuse c follows ≡ given → (c ≡ Pass) × (follows ≡ given)
+  stop-passed Pass follows given other h = (refl, h)
+  stop-passed (Stop r) follows given other h = absurd (other r h)

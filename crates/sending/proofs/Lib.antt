@@ -1,0 +1,4 @@
+pub mod Cases
+pub mod Seen
+pub mod WrapsLaws
+pub mod Leaves
