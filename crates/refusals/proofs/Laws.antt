@@ -1,7 +1,7 @@
 -- A row of tests passes exactly if each of them is false; and what is known of what follows a row. Assumes nothing.
 use mathlib.Core.Path.{_≡_, refl}
 use mathlib.Core.Bool.{Bool, true, false, cond}
-use mathlib.Core.List.{List, [], _∷_}
+use mathlib.Core.List.{List, [], _∷_, _++_}
 use Rattle.refusals.specs.Refusals.{firstOf, stopOr}
 use Rattle.refusals.specs.declared.Refusal.{Refusal}
 use Rattle.refusals.specs.declared.Check.{Check}
@@ -30,3 +30,13 @@ module _ {A : Type 0} (refuse : Refusal → A) where
   pub stop-passed : (c : Check) (follows given : A) → ((r : Refusal) → refuse r ≡ given → ⊥) → stopOr refuse c follows ≡ given → (c ≡ Pass) × (follows ≡ given)
   stop-passed Pass follows given other h = (refl, h)
   stop-passed (Stop r) follows given other h = absurd (other r h)
+
+  -- two rows one behind the other: the first row's refusal, else the second's
+  pub stop-append : (xs ys : List (Bool × Refusal)) (follows : A) → stopOr refuse (firstOf (xs ++ ys)) follows ≡ stopOr refuse (firstOf xs) (stopOr refuse (firstOf ys) follows)
+  stop-append [] ys follows = refl
+  stop-append (t ∷ xs) ys follows = go (t .0) (stop-append xs ys follows)
+    where
+      go : (b : Bool) → stopOr refuse (firstOf (xs ++ ys)) follows ≡ stopOr refuse (firstOf xs) (stopOr refuse (firstOf ys) follows)
+          → stopOr refuse (cond b (Stop (t .1)) (firstOf (xs ++ ys))) follows ≡ stopOr refuse (cond b (Stop (t .1)) (firstOf xs)) (stopOr refuse (firstOf ys) follows)
+      go true h = refl
+      go false h = h
