@@ -30,6 +30,11 @@ module _ {F : Type 0} where
   decides-not true d = record { holds = λ h. absurd (true≢false (sym h)); passes = λ n. absurd (n (d .holds refl)) }
   decides-not false d = record { holds = λ h. fails false d refl; passes = λ n. refl }
 
+  -- a test that fails exactly if the fact holds decides that it does not
+  pub decides-lack : (t : Bool) → (t ≡ false → F) → (F → t ≡ false) → Decides t (F → ⊥)
+  decides-lack true to from = record { holds = λ h f. true≢false (from f); passes = λ n. refl }
+  decides-lack false to from = record { holds = λ h. absurd (true≢false (sym h)); passes = λ n. absurd (n (to refl)) }
+
   -- the test decides what is the same fact in other words
   pub decides-as : {G : Type 0} (t : Bool) → Decides t F → (F → G) → (G → F) → Decides t G
   decides-as t d to from = record { holds = λ h. to (d .holds h); passes = λ g. d .passes (from g) }

@@ -1,34 +1,55 @@
 -- Demand 2 holds of receiving. Assumes nothing.
-use Prim.Native.Nat.{ℕ, _+_, _-_, _≤_, _<_}
-use mathlib.Core.Path.{_≡_, refl, ap, sym, _∙_}
-use mathlib.Core.Bool.{Bool, not, false}
-use mathlib.Core.List.{List, [], _∷_}
+use Prim.Native.Nat.{ℕ, _-_, _≤_, _<_}
+use mathlib.Core.Path.{_≡_, refl, ap, _∙_}
+use mathlib.Core.Bool.{Bool, false}
+use mathlib.Core.List.{List}
 use native.Mathlib.Omega.{arith}
 use borrow.Author.Tests.{eqb-true, not-false, eq-eqb}
-use lib.ListN.{length, take, drop, length-take}
+use lib.ListN.{length, take, length-take}
 use lib.Seq.{getD-take}
 use Rattle.lists.proofs.Parts.{drop-take}
-use Rattle.lists.proofs.Decides.{Decides, fails, refutes}
+use Rattle.lists.proofs.Decides.{fails, refutes, decides-eq, decides-not, decides-lack}
 use Rattle.checksum.specs.Sum.{isRightFrom}
-use Rattle.refusals.specs.Refusals.{firstOf, stopOr}
-use Rattle.refusals.proofs.Laws.{AllFalse, all-false, all-pass, stop-passed}
+use Rattle.refusals.specs.Refusals.{firstOf, AnswersFirst}
+use Rattle.refusals.proofs.Laws.{AllFalse, all-false, stop-passed, RowsDecide, end, row, answers-first}
 use Rattle.refusals.specs.declared.Refusal.{Refusal}
-use Rattle.refusals.specs.declared.Check.{Check}
-use Rattle.refusals.specs.declared.Check.the-variants.{Pass, Stop}
-use Rattle.header.specs.Fields.{wordAt, addressAt, quadAt}
-use Rattle.header.specs.Outer.{outerOf, isSumWrong, payloadOf}
-use Rattle.header.specs.Whole.{WholeOuter, WholeInner}
+use Rattle.refusals.specs.declared.Check.the-variants.{Pass}
+use Rattle.header.specs.Fields.{wordAt}
+use Rattle.header.specs.Outer.{outerOf, isOuterMalformed, isSumWrong, payloadOf}
 use Rattle.header.proofs.OuterLaws.{outer-whole, whole-outer}
-use Rattle.header.specs.Inner.{innerOf}
+use Rattle.header.specs.Inner.{innerOf, isInnerMalformed}
 use Rattle.header.proofs.InnerLaws.{inner-whole, whole-inner}
 use Rattle.settings.proofs.Facts.{decides-forbidden-to, decides-our-locator, decides-bad-source-to}
 use Rattle.settings.specs.declared.Settings.{Settings}
 use Rattle.routers.specs.declared.Router.{Router}
 use Rattle.receiving.specs.Receive.{receiveRows, receivedOf, partOf}
-use Rattle.receiving.specs.Admitted.{headerLength, totalLength, behindHeader, innerLength, Admits, delivered, DeliversExactly}
+use Rattle.receiving.specs.Facts.{headerLength, totalLength, behindHeader, encapsulated, innerLength, OuterWhole, InnerWhole, receiveFacts}
+use Rattle.receiving.specs.Admitted.{Admits, delivered, DeliversExactly}
 use Rattle.receiving.specs.declared.Received.{Received}
 use Rattle.receiving.specs.declared.Received.the-variants.{Delivered, Refused}
 use Rattle.receiving.proofs.Facts.{decides-source-right}
+
+module _ (d : List ℕ) where
+  outer-whole-bytes : isOuterMalformed (length d) (outerOf d) ≡ false → OuterWhole d
+  unfolding outerOf
+  outer-whole-bytes h =
+      let w = outer-whole (length d) (outerOf d) h in
+      record { some = w .some; version = w .version; words = w .words; whole = w .whole; inside = w .inside; all = w .all }
+
+  bytes-whole-outer : OuterWhole d → isOuterMalformed (length d) (outerOf d) ≡ false
+  unfolding outerOf
+  bytes-whole-outer w =
+      whole-outer (length d) (outerOf d) (record { some = w .some; version = w .version; words = w .words; whole = w .whole; inside = w .inside; all = w .all })
+
+  inner-whole-bytes : isInnerMalformed (length d) (innerOf d) ≡ false → InnerWhole d
+  unfolding innerOf
+  inner-whole-bytes h =
+      let w = inner-whole (length d) (innerOf d) h in
+      record { some = w .some; version = w .version; whole = w .whole }
+
+  bytes-whole-inner : InnerWhole d → isInnerMalformed (length d) (innerOf d) ≡ false
+  unfolding innerOf
+  bytes-whole-inner w = whole-inner (length d) (innerOf d) (record { some = w .some; version = w .version; whole = w .whole })
 
 module _ (s : Settings) (routers : List Router) (d : List ℕ) (interface : ℕ) where
   abbrev inner : List ℕ
@@ -37,59 +58,55 @@ module _ (s : Settings) (routers : List Router) (d : List ℕ) (interface : ℕ)
   abbrev rows : List (Bool × Refusal)
   rows = receiveRows s routers interface d (outerOf d) (length inner) (innerOf inner)
 
+  -- each test decides its fact
+  rows-decide : RowsDecide rows (receiveFacts s routers d interface (encapsulated d))
+  unfolding outerOf innerOf payloadOf isSumWrong isRightFrom
+  rows-decide =
+      row (decides-lack _ (outer-whole-bytes d) (bytes-whole-outer d))
+      (row (decides-not _ (decides-eq _ _))
+      (row (decides-not _ (decides-eq _ _))
+      (row (decides-not _ (decides-eq _ _))
+      (row (decides-not _ (decides-our-locator s _ _))
+      (row (decides-forbidden-to s _)
+      (row (decides-lack _ (inner-whole-bytes inner) (bytes-whole-inner inner))
+      (row (decides-bad-source-to s _)
+      (row (decides-not _ (decides-source-right s _ _ routers)) end))))))))
+
+  first-fact : AnswersFirst Refused (receiveFacts s routers d interface (encapsulated d)) (Delivered (headerLength d) (innerLength (encapsulated d))) (receivedOf s routers d interface)
+  unfolding receivedOf outerOf innerOf payloadOf
+  first-fact = answers-first Refused rows-decide (Delivered (headerLength d) (innerLength (encapsulated d)))
+
   -- no row holds exactly if the rules hold
   admitted : AllFalse rows → Admits s routers d interface
   unfolding outerOf innerOf payloadOf isSumWrong isRightFrom
   admitted f =
-      let w = outer-whole (length d) (outerOf d) (f .0) in
-      let rest = f .1 .1 .1 .1 in
-      let i = inner-whole (length inner) (innerOf inner) (rest .1 .1 .0) in
+      let arrival = f .1 .1 .1 .1 in
+      let last = arrival .1 .1 in
       record {
-        someHeader = w .some;
-        outerVersion = w .version;
-        headerWords = w .words;
-        headerWhole = w .whole;
-        headerInside = w .inside;
-        datagramWhole = w .all;
+        outerWhole = outer-whole-bytes d (f .0);
         checksumRight = eqb-true _ _ (not-false _ (f .1 .0));
         protocol = eqb-true _ _ (not-false _ (f .1 .1 .0));
         noPiece = eqb-true _ _ (not-false _ (f .1 .1 .1 .0));
-        forUs = decides-our-locator s _ _ .holds (not-false _ (rest .0));
-        outerSource = fails _ (decides-forbidden-to s _) (rest .1 .0);
-        innerHeader = i .some;
-        innerVersion = i .version;
-        innerWhole = i .whole;
-        innerSource = fails _ (decides-bad-source-to s _) (rest .1 .1 .1 .0);
-        sourceMatches = decides-source-right s _ _ routers .holds (not-false _ (rest .1 .1 .1 .1 .0));
+        forUs = decides-our-locator s _ _ .holds (not-false _ (arrival .0));
+        outerSource = fails _ (decides-forbidden-to s _) (arrival .1 .0);
+        innerWhole = inner-whole-bytes inner (last .0);
+        innerSource = fails _ (decides-bad-source-to s _) (last .1 .0);
+        sourceMatches = decides-source-right s _ _ routers .holds (not-false _ (last .1 .1 .0));
       }
 
-  admitting : Admits s routers d interface → AllFalse rows
+  passes : Admits s routers d interface → firstOf rows ≡ Pass
   unfolding outerOf innerOf payloadOf isSumWrong isRightFrom
-  admitting a =
-      let w : WholeOuter (length d) (outerOf d) =
-      record { some = a .someHeader; version = a .outerVersion; words = a .headerWords; whole = a .headerWhole; inside = a .headerInside; all = a .datagramWhole } in
-      let i : WholeInner (length inner) (innerOf inner) = record { some = a .innerHeader; version = a .innerVersion; whole = a .innerWhole } in
-      (
-        whole-outer (length d) (outerOf d) w,
-        (
-          ap not (eq-eqb _ _ (a .checksumRight)),
-          (
-            ap not (eq-eqb _ _ (a .protocol)),
-            (
-              ap not (eq-eqb _ _ (a .noPiece)),
-              (
-                ap not (decides-our-locator s _ _ .passes (a .forUs)),
-                (
-                  refutes _ (decides-forbidden-to s _) (a .outerSource),
-                  (
-                    whole-inner (length inner) (innerOf inner) i,
-                    (refutes _ (decides-bad-source-to s _) (a .innerSource), (ap not (decides-source-right s _ _ routers .passes (a .sourceMatches)), tt)),
-                  ),
-                ),
-              ),
-            ),
-          ),
-        ),
+  passes a =
+      rw (
+        bytes-whole-outer d (a .outerWhole),
+        eq-eqb _ _ (a .checksumRight),
+        eq-eqb _ _ (a .protocol),
+        eq-eqb _ _ (a .noPiece),
+        decides-our-locator s _ _ .passes (a .forUs),
+        refutes _ (decides-forbidden-to s _) (a .outerSource),
+        bytes-whole-inner inner (a .innerWhole),
+        refutes _ (decides-bad-source-to s _) (a .innerSource),
+        decides-source-right s _ _ routers .passes (a .sourceMatches),
       )
 
   only-placed : (offset size : ℕ) → receivedOf s routers d interface ≡ Delivered offset size → Admits s routers d interface
@@ -101,19 +118,19 @@ module _ (s : Settings) (routers : List Router) (d : List ℕ) (interface : ℕ)
   module _ (a : Admits s routers d interface) where
     at : receivedOf s routers d interface ≡ Delivered (outerOf d .header) (innerOf inner .length)
     unfolding receivedOf
-    at = rw (all-pass rows (admitting a))
+    at = rw (passes a)
 
     -- what remains for the inner packet starts as the bytes behind the outer header do
     rest : inner ≡ take (totalLength d - headerLength d) (behindHeader d)
     unfolding payloadOf outerOf
-    rest = drop-take _ _ d (a .headerInside) (a .headerWhole)
+    rest = drop-take _ _ d (a .outerWhole .inside) (a .outerWhole .whole)
 
     size : innerOf inner .length ≡ innerLength (behindHeader d)
     unfolding innerOf wordAt payloadOf outerOf
     size =
         let m = totalLength d - headerLength d in
         let b = behindHeader d in
-        let l : 40 ≤ m = omega (arith, a .innerHeader, ap length rest, length-take m b) in
+        let l : 40 ≤ m = omega (arith, a .innerWhole .some, ap length rest, length-take m b) in
         rw (rest, getD-take m b 4 0 (omega arith), getD-take m b 5 0 (omega arith))
 
     placed : receivedOf s routers d interface ≡ Delivered (headerLength d) (innerLength (behindHeader d))
@@ -128,7 +145,7 @@ module _ (s : Settings) (routers : List Router) (d : List ℕ) (interface : ℕ)
     long =
         let m = totalLength d - headerLength d in
         let b = behindHeader d in
-        rw (exactly, length-take) (omega (arith, a .innerHeader, ap length rest, length-take m b))
+        rw (exactly, length-take) (omega (arith, a .innerWhole .some, ap length rest, length-take m b))
 
   only-if : (r : Received) → receivedOf s routers d interface ≡ r → 0 < length (partOf r d) → Admits s routers d interface
   only-if (Delivered offset size) e h = only-placed offset size e
@@ -147,6 +164,7 @@ module _ (s : Settings) (routers : List Router) (d : List ℕ) (interface : ℕ)
 pub delivers-exactly : DeliversExactly
 unfolding DeliversExactly
 delivers-exactly s routers d interface = record {
+  answers = first-fact s routers d interface;
   placedOnlyIf = only-placed s routers d interface;
   placedIf = placed s routers d interface;
   refusedOnlyIf = never-refused s routers d interface;
