@@ -72,7 +72,7 @@ module _ (s : Settings) (routers : List Router) (d : List ℕ) (interface : ℕ)
       (row (decides-bad-source-to s _)
       (row (decides-not _ (decides-source-right s _ _ routers)) end))))))))
 
-  first-fact : AnswersFirst Refused (receiveFacts s routers d interface (encapsulated d)) (Delivered (headerLength d) (innerLength (encapsulated d))) (receivedOf s routers d interface)
+  pub first-fact : AnswersFirst Refused (receiveFacts s routers d interface (encapsulated d)) (Delivered (headerLength d) (innerLength (encapsulated d))) (receivedOf s routers d interface)
   unfolding receivedOf outerOf innerOf payloadOf
   first-fact = answers-first Refused rows-decide (Delivered (headerLength d) (innerLength (encapsulated d)))
 

@@ -3,3 +3,4 @@ pub mod Stages
 pub mod LinkLocal
 pub mod Facts
 pub mod Delivered
+pub mod Cases
