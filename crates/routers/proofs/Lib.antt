@@ -3,3 +3,4 @@ pub mod Laws
 pub mod Live
 pub mod Earliest
 pub mod Fairness
+pub mod Facts

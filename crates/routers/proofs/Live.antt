@@ -10,7 +10,7 @@ use borrow.Author.Tests.{eq-eqb}
 use Rattle.routers.specs.declared.Router.{Router}
 use Rattle.routers.specs.declared.RouterList.{RouterList}
 use Rattle.routers.specs.declared.Next.the-variants.{Due, NoneDue}
-use Rattle.routers.specs.Routers.{live, any, listed, earlier, earliest, nextOf, dueIf, rescheduled, rescheduledOf}
+use Rattle.routers.specs.Routers.{live, listed, earlier, earliest, nextOf, dueIf, rescheduled, rescheduledOf}
 
 take-map : {A B : Type 0} (f : A → B) (n : ℕ) (xs : List A) → take n (map f xs) ≡ map f (take n xs)
 take-map f zero xs = refl
@@ -22,13 +22,13 @@ live-rescheduled a d l = take-map (dueIf a d) (l .count) (l .routers)
 
 -- a due time does not change who is listed
 pub listed-rescheduled : (b a d : ℕ) (rs : List Router) → listed b (rescheduled a d rs) ≡ listed b rs
-unfolding any dueIf
+unfolding dueIf
 listed-rescheduled b a d [] = refl
 listed-rescheduled b a d (r ∷ rs) = ap (λ (q : Bool). eqb (r .address) b || q) (listed-rescheduled b a d rs)
 
 -- and nothing changes for an address that is not listed
 pub rescheduled-unlisted : (a d : ℕ) (rs : List Router) → listed a rs ≡ false → rescheduled a d rs ≡ rs
-unfolding any dueIf
+unfolding dueIf
 rescheduled-unlisted a d [] h = refl
 rescheduled-unlisted a d (r ∷ rs) h = go (eqb (r .address) a) h (rescheduled-unlisted a d rs)
   where
@@ -43,7 +43,7 @@ or-skip true y z h = refl
 or-skip false y z h = rw (h, or-true)
 
 earliest-listed : (r : Router) (rs : List Router) → listed (earliest r rs .address) (r ∷ rs) ≡ true
-unfolding any earliest earlier
+unfolding earliest earlier
 earliest-listed r [] = rw (eq-eqb (r .address) (r .address) refl)
 earliest-listed r (s ∷ rs) = go (ltb (s .due) (r .due)) (earliest-listed r rs) (earliest-listed s rs)
   where

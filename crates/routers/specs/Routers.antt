@@ -1,9 +1,10 @@
 -- Document 01, "Routers" and "Settings": what the calls of the router list give.
 use Prim.Native.Nat.{ℕ}
 use mathlib.Core.List.{List, [], _∷_, map}
-use mathlib.Core.Bool.{Bool, true, false, cond, not, _&&_, _||_}
+use mathlib.Core.Bool.{Bool, true, cond, not, _&&_}
 use lib.ListN.{take}
 use lib.Dec.{ltb, leb, eqb}
+use Rattle.lists.specs.Any.{anyOf}
 use Rattle.routers.specs.declared.Router.{Router}
 use Rattle.routers.specs.declared.RouterList.{RouterList}
 use Rattle.routers.specs.declared.Next.{Next}
@@ -17,14 +18,9 @@ places = 16
 abbrev pub live : RouterList → List Router
 live l = take (l .count) (l .routers)
 
--- some element passes the test
-unfoldable pub any : {A : Type 0} → (A → Bool) → List A → Bool
-any p [] = false
-any p (x ∷ xs) = p x || any p xs
-
 -- "Receiving": a listed router is one whose address is in the list
 abbrev pub listed : ℕ → List Router → Bool
-listed a rs = any (λ r. eqb (r .address) a) rs
+listed a rs = anyOf (λ r. eqb (r .address) a) rs
 
 -- "Routers": of two routers the one with the earlier due time, the first on a tie
 unfoldable pub earlier : Router → Router → Router
@@ -75,7 +71,7 @@ newOf addresses n = record { routers = map (λ a. record { address = a; due = 0 
 
 -- the address is among the addresses
 abbrev pub among : ℕ → List ℕ → Bool
-among a bs = any (λ b. eqb b a) bs
+among a bs = anyOf (λ b. eqb b a) bs
 
 -- "Settings": routers are distinct
 unfoldable pub areDistinct : List ℕ → Bool
