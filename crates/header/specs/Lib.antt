@@ -4,3 +4,4 @@ pub mod Outer
 pub mod Inner
 pub mod Wrap
 pub mod Whole
+pub mod Draws

@@ -1,4 +1,1 @@
 pub mod Cases
-pub mod Seen
-pub mod WrapsLaws
-pub mod Leaves
