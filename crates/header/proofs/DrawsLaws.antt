@@ -1,6 +1,6 @@
 -- The test passes exactly for the packets that draw a message. Assumes nothing.
 use Prim.Native.Nat.{ℕ}
-use mathlib.Core.Logic.{_⊎_, ⊎-elim, inl, inr}
+use mathlib.Core.Logic.{⊎-elim, inl, inr}
 use mathlib.Core.List.{List}
 use lib.ListN.{getD, length}
 use Rattle.address.proofs.Facts.{decides-multicast-or-unspecified}

@@ -130,11 +130,7 @@ pub(crate) fn send_plan(
 {
     let check = send_check(settings, packet, next_hop, locator);
     match check {
-        Check::Pass => sized_plan(
-            path_size,
-            packet,
-            address_of(source_of(settings, locator)),
-        ),
+        Check::Pass => sized_plan(path_size, packet, address_of(source_of(settings, locator))),
         Check::Stop(refusal) => Plan::Refuse(refusal),
     }
 }
