@@ -1,11 +1,11 @@
 -- When a test decides a fact: it passes exactly if the fact holds. Tests that are joined decide facts that are joined. Assumes nothing.
-use Prim.Native.Nat.{ℕ, _≤_}
+use Prim.Native.Nat.{ℕ, _≤_, _<_}
 use mathlib.Core.Path.{_≡_, refl, sym, ap, _∙_}
 use mathlib.Core.Logic.{_⊎_, ⊎-elim, inl, inr}
 use mathlib.Core.Bool.{Bool, true, false, not, _||_, _&&_, or-true, true≢false}
 use mathlib.Core.List.{List, [], _∷_, List·Memᴰ·head, List·Memᴰ·tail, List·Memᴰ·not-nil, List·Memᴰ·cases-cons}
-use borrow.Author.Tests.{eqb-true, eq-eqb, leb-true, le-leb}
-use lib.Dec.{eqb, leb}
+use borrow.Author.Tests.{eqb-true, eq-eqb, leb-true, le-leb, ltb-true, lt-ltb}
+use lib.Dec.{eqb, leb, ltb}
 use Rattle.lists.specs.Any.{anyOf, Some}
 use Rattle.lists.proofs.Tests.{and-left, and-right}
 
@@ -46,6 +46,10 @@ decides-eq a b = record { holds = eqb-true a b; passes = eq-eqb a b }
 -- one number is at most the other
 pub decides-le : (a b : ℕ) → Decides (leb a b) (a ≤ b)
 decides-le a b = record { holds = leb-true a b; passes = le-leb a b }
+
+-- one number is below the other
+pub decides-lt : (a b : ℕ) → Decides (ltb a b) (a < b)
+decides-lt a b = record { holds = ltb-true a b; passes = lt-ltb a b }
 
 either : (s t : Bool) → (s || t) ≡ true → (s ≡ true) ⊎ (t ≡ true)
 either true t h = inl refl

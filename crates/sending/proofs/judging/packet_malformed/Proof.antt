@@ -1,9 +1,9 @@
--- `sending::packet_malformed` meets its contract: a packet without a whole header is malformed whatever that says. Assumes nothing.
+-- `sending::judging::packet_malformed` meets its contract: a packet without a whole header is malformed whatever that says. Assumes nothing.
 use borrow.Author.Tests.{lt-ltb}
 use Rattle.header.specs.Inner.{isPacketMalformed}
 use native.Mathlib.Omega.{arith}
-use Rattle.sending.proofs.packet_malformed.Statement.{statement}
-use Rattle.sending.proofs.packet_malformed.Tie as tie
+use Rattle.sending.proofs.judging.packet_malformed.Statement.{statement}
+use Rattle.sending.proofs.judging.packet_malformed.Tie as tie
 
 returns : tie.Need-returns
 unfolding isPacketMalformed

@@ -1,8 +1,8 @@
--- `sending::no_locator` meets its contract: by cases. Assumes nothing.
+-- `sending::judging::no_locator` meets its contract: by cases. Assumes nothing.
 use Rattle.sending.specs.Plan.{isNoLocator}
 use borrow.Author.Needs.{needs}
-use Rattle.sending.proofs.no_locator.Statement.{statement}
-use Rattle.sending.proofs.no_locator.Tie as tie
+use Rattle.sending.proofs.judging.no_locator.Statement.{statement}
+use Rattle.sending.proofs.judging.no_locator.Tie as tie
 
 returns : tie.Need-returns
 unfolding isNoLocator

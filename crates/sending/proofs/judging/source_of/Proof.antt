@@ -1,8 +1,8 @@
--- `sending::source_of` meets its contract: the locators that count are asked. Assumes nothing.
+-- `sending::judging::source_of` meets its contract: the locators that count are asked. Assumes nothing.
 use Rattle.sending.specs.Plan.{sourceOf}
 use native.Mathlib.Omega.{arith}
-use Rattle.sending.proofs.source_of.Statement.{statement}
-use Rattle.sending.proofs.source_of.Tie as tie
+use Rattle.sending.proofs.judging.source_of.Statement.{statement}
+use Rattle.sending.proofs.judging.source_of.Tie as tie
 
 returns : tie.Need-returns
 unfolding sourceOf

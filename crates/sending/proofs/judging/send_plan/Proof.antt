@@ -1,9 +1,9 @@
--- `sending::send_plan` meets its contract: by cases on the check. Assumes nothing.
+-- `sending::judging::send_plan` meets its contract: by cases on the check. Assumes nothing.
 use Rattle.sending.specs.Plan.{planOf}
 use native.Mathlib.Omega.{arith}
 use borrow.Author.Needs.{needs}
-use Rattle.sending.proofs.send_plan.Statement.{statement}
-use Rattle.sending.proofs.send_plan.Tie as tie
+use Rattle.sending.proofs.judging.send_plan.Statement.{statement}
+use Rattle.sending.proofs.judging.send_plan.Tie as tie
 
 returns : tie.Need-returns
 unfolding planOf

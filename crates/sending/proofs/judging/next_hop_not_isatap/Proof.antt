@@ -1,4 +1,4 @@
--- `sending::next_hop_not_isatap` meets its contract: a link-local ISATAP address embeds its last 32 bits. Assumes nothing.
+-- `sending::judging::next_hop_not_isatap` meets its contract: a link-local ISATAP address embeds its last 32 bits. Assumes nothing.
 use mathlib.Core.Path.{_≡_}
 use mathlib.Core.Bool.{true, _&&_}
 use native.Mathlib.Omega.{arith}
@@ -7,8 +7,8 @@ use Rattle.address.specs.Address.{isLinkLocal, isIdentifier}
 use Rattle.address.proofs.Laws.{link-local-embeds}
 use Rattle.settings.specs.Settings.{embeddedTo}
 use Rattle.sending.specs.Plan.{isNotIsatap}
-use Rattle.sending.proofs.next_hop_not_isatap.Statement.{statement}
-use Rattle.sending.proofs.next_hop_not_isatap.Tie as tie
+use Rattle.sending.proofs.judging.next_hop_not_isatap.Statement.{statement}
+use Rattle.sending.proofs.judging.next_hop_not_isatap.Tie as tie
 
 returns : tie.Need-returns
 unfolding isNotIsatap embeddedTo

@@ -1,8 +1,8 @@
--- `sending::not_isatap` meets its contract: by cases. Assumes nothing.
+-- `sending::judging::not_isatap` meets its contract: by cases. Assumes nothing.
 use Rattle.sending.specs.Plan.{isNotIsatap}
 use borrow.Author.Needs.{needs}
-use Rattle.sending.proofs.not_isatap.Statement.{statement}
-use Rattle.sending.proofs.not_isatap.Tie as tie
+use Rattle.sending.proofs.judging.not_isatap.Statement.{statement}
+use Rattle.sending.proofs.judging.not_isatap.Tie as tie
 
 returns : tie.Need-returns
 unfolding isNotIsatap

@@ -1,8 +1,8 @@
--- `sending::send_check` meets its contract: at each return the tests that led there say which row holds. Assumes nothing.
+-- `sending::judging::send_check` meets its contract: at each return the tests that led there say which row holds. Assumes nothing.
 use Rattle.sending.specs.Plan.{sendCheck}
 use native.Mathlib.Omega.{arith}
-use Rattle.sending.proofs.send_check.Statement.{statement}
-use Rattle.sending.proofs.send_check.Tie as tie
+use Rattle.sending.proofs.judging.send_check.Statement.{statement}
+use Rattle.sending.proofs.judging.send_check.Tie as tie
 
 returns : tie.Need-returns
 unfolding sendCheck
