@@ -12,11 +12,8 @@ use lib.Seq.{drop-cons, getD-take, take-all}
 use Rattle.lists.specs.Any.{anyOf}
 use borrow.Author.Tests.{eq-eqb, ne-eqb}
 use Rattle.routers.specs.declared.Router.{Router}
-use Rattle.routers.specs.Routers.{earlier, earliest, dueOr, among, areDistinct}
-
--- what a read past the last place gives
-abbrev pub noRouter : Router
-noRouter = record { address = 0; due = 0 }
+use Rattle.routers.specs.Facts.{noRouter}
+use Rattle.routers.specs.Routers.{earlierOf, earliest, dueOr, among, areDistinct}
 
 module _ {A : Type 0} (n i : ℕ) (xs : List A) where
   pub past : length (take n xs) ≤ i → drop i (take n xs) ≡ []
@@ -40,7 +37,7 @@ module _ {A : Type 0} (n i : ℕ) (xs : List A) where
   any-later z h p e = rw (rest z h, e)
 
 module _ (n i : ℕ) (rs : List Router) (within : i < length (take n rs)) where
-  pub earliest-step : (r : Router) → earliest r (drop i (take n rs)) ≡ earliest (earlier r (getD rs i noRouter)) (drop (i + 1) (take n rs))
+  pub earliest-step : (r : Router) → earliest r (drop i (take n rs)) ≡ earliest (earlierOf r (getD rs i noRouter)) (drop (i + 1) (take n rs))
   unfolding earliest
   earliest-step r = rw (rest n i rs noRouter within)
 

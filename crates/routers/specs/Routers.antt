@@ -23,13 +23,13 @@ abbrev pub listed : ℕ → List Router → Bool
 listed a rs = anyOf (λ r. eqb (r .address) a) rs
 
 -- "Routers": of two routers the one with the earlier due time, the first on a tie
-unfoldable pub earlier : Router → Router → Router
-earlier r s = cond (ltb (s .due) (r .due)) s r
+unfoldable pub earlierOf : Router → Router → Router
+earlierOf r s = cond (ltb (s .due) (r .due)) s r
 
 -- "Routers": the router with the earliest due time, lowest place on a tie, of a list that begins with r
 unfoldable pub earliest : Router → List Router → Router
 earliest r [] = r
-earliest r (s ∷ rs) = earliest (earlier r s) rs
+earliest r (s ∷ rs) = earliest (earlierOf r s) rs
 
 -- "Routers": a router is asked if its due time is not in the future
 abbrev pub ifDue : ℕ → Router → Next

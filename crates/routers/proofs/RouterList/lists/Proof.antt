@@ -7,7 +7,8 @@ use lib.ListN.{drop}
 use lib.Dec.{eqb}
 use borrow.Author.Tests.{eq-eqb, ne-eqb}
 use Rattle.routers.specs.Routers.{live, listed}
-use Rattle.routers.proofs.Laws.{noRouter, any-here, any-later, past}
+use Rattle.routers.specs.Facts.{noRouter}
+use Rattle.routers.proofs.Laws.{any-here, any-later, past}
 use Rattle.routers.proofs.RouterList.lists.Statement.{statement}
 use Rattle.routers.proofs.RouterList.lists.Tie as tie
 

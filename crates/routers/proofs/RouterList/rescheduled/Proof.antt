@@ -7,7 +7,8 @@ use mathlib.Core.List.{map, _++_}
 use lib.ListN.{length, take, drop}
 use Rattle.routers.specs.Routers.{places, dueIf}
 use Rattle.lists.proofs.Parts.{unmapped}
-use Rattle.routers.proofs.Laws.{noRouter, fill, filled}
+use Rattle.routers.specs.Facts.{noRouter}
+use Rattle.routers.proofs.Laws.{fill, filled}
 use Rattle.routers.proofs.RouterList.rescheduled.Statement.{statement}
 use Rattle.routers.proofs.RouterList.rescheduled.Tie as tie
 
