@@ -11,6 +11,7 @@ Each module imports only those above it:
     calls           lists of calls in the making
     scenarios       runs of calls that show one rule
     generator       random lists, bad inputs, inputs of the program of document 01
+    double_faults   calls with two faults, also as tests/double_faults.txt
     named           the named set, the fixed batches, the stored list
     checked_values  the values that document 01 states; how often each answer occurs
     wrong           wrong models, and what tells them apart

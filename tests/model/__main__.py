@@ -18,12 +18,12 @@ from pathlib import Path
 sys.dont_write_bytecode = True
 sys.path[0] = str(Path(__file__).resolve().parent.parent)
 
-from model import checked_values, formats, generator, named  # noqa: E402
+from model import checked_values, double_faults, formats, generator, named  # noqa: E402
 
 read, write = sys.stdin.buffer.read, sys.stdout.buffer.write
 COMMANDS = {
     "run": lambda: write(formats.text(formats.replay(read()))), "program": lambda: write(formats.text(formats.program(read()))),
-    "stored": lambda: write(named.stored()), "double-faults": lambda: write(named.double_faults()),
+    "stored": lambda: write(named.stored()), "double-faults": lambda: write(double_faults.lines()),
     "inputs": named.write_inputs,
     "generate": lambda seed, count: write(generator.generate(int(seed), int(count))),
     "bad": lambda seed: write(generator.bad(int(seed))), "longest": lambda: write(generator.longest()),

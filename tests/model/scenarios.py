@@ -2,7 +2,7 @@
 from .builders import option, packet, prefix_option, route_option
 from .calls import ISATAP_IDENTIFIERS, LAST_SECOND
 from .faults import FORBIDDEN, GLOBAL, PLATEAU_BELOW
-from .octets import LINK_LOCAL, UNSPECIFIED, dotted, isatap_address, link_local, number, pseudo_header, u16
+from .octets import LINK_LOCAL, LOOPBACK, UNSPECIFIED, dotted, isatap_address, link_local, number, pseudo_header, u16
 from .rules import Settings, solicitation, too_big_message, wrapped
 
 PREFIXES = [bytes.fromhex(text) for text in ("20010db800000001", "20010db800000002", "2002c00002010000", "fec0000000000000",
@@ -289,6 +289,7 @@ def each_router(calls):
     routers = [router for router, _ in calls.node.routers]
     for router in routers:
         calls.receive(variation={"source": router, "source6": GLOBAL})
+        calls.receive([(9, {"source": router, "source6": LOOPBACK})])
     for router in routers:
         ask(calls, want=dotted(router))
         calls.receive(variation={"source": router, "source6": GLOBAL})
