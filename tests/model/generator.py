@@ -4,7 +4,7 @@ import random
 from .calls import Calls
 from .faults import FAULTS, FORBIDDEN, GLOBAL, NEARLY_FORBIDDEN, VARIATIONS
 from .formats import REPLAY_LIMIT, encode_call, encode_datagrams, encode_lists, encode_settings, replay
-from .octets import LINK_LOCAL, LOOPBACK, forbidden, isatap_address, link_local, u16
+from .octets import LINK_LOCAL, LOOPBACK, forbidden, isatap_address
 from .rules import Settings
 from .scenarios import PREFIXES, SCENARIOS, neighbours, neighbours_moved, plain_settings, times_near_the_end
 
