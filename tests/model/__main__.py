@@ -9,7 +9,7 @@
     python3 tests/model bad SEED                  a replay input that is bad
     python3 tests/model longest                   a good replay input of the greatest length
     python3 tests/model generate-program SEED     an input of the program of document 01
-    python3 tests/model coverage FILES..          how often each answer occurs in expected lines
+    python3 tests/model coverage FILES..          how often each answer occurs in expected lines of `replay`
     python3 tests/model self-test                 the checked values of document 01
 """
 import sys

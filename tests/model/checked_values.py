@@ -28,15 +28,21 @@ def kind_of_answer(line):
     return name, word if word in ANSWERS[name] else "answered"
 
 
+def counted(lines):
+    """How often each answer occurs, and those that can come and do not, or come and cannot."""
+    counts = Counter(kind_of_answer(line) for line in lines)
+    expected = {(name, kind) for name in ANSWERS for kind in ANSWERS[name]}
+    return counts, sorted(expected - set(counts)) + sorted(set(counts) - expected)
+
+
 def coverage(*files):
     """Prints the table; the status is 1 if an answer that can come does not."""
-    counts = Counter(kind_of_answer(line) for file in files for line in Path(file).read_text().splitlines())
-    expected = [(name, kind) for name in ANSWERS for kind in ANSWERS[name]]
-    for name, kind in expected + sorted(set(counts) - set(expected)):
-        print(f"{name:14} {kind:22} {counts[name, kind]:8}" + ("" if (name, kind) in expected else "   not expected"))
-    missing = [kind for kind in expected if not counts[kind]]
-    print(f"{len(expected)} answers, {len(missing)} missing")
-    return 1 if missing or set(counts) - set(expected) else 0
+    counts, wrong = counted(line for file in files for line in Path(file).read_text().splitlines())
+    for (name, kind), count in sorted(counts.items()):
+        print(f"{name:14} {kind:22} {count:8}")
+    for name, kind in wrong:
+        print(f"{name:14} {kind:22} {'not expected' if (name, kind) in counts else 'missing':>8}")
+    return 1 if wrong else 0
 
 
 # ---- The values that document 01 states
@@ -172,13 +178,20 @@ def replay_checks():
         "report accepted 10.0.0.2 700", "routers accepted 1", "ask refuse 15 811c9dc5", "advertisement refuse 8", "size 700"]
 
 
+CHECKS = (size_checks, report_checks, neighbour_checks, receive_checks, program_checks, message_checks, time_checks, replay_checks)
+
+
+def checked():
+    """Text of each value, what the model gives, and what document 01 states."""
+    for checks in CHECKS:
+        yield from checks()
+
+
 def self_test():
     """One line for each value; the status is 1 if one is not as stated."""
     wrong = 0
-    for checks in (size_checks, report_checks, neighbour_checks, receive_checks, program_checks, message_checks, time_checks,
-                   replay_checks):
-        for text, given, stated in checks():
-            wrong += given != stated
-            print(f"{'ok  ' if given == stated else 'FAIL'} {text}" + ("" if given == stated else f": {given!r}, not {stated!r}"))
+    for text, given, stated in checked():
+        wrong += given != stated
+        print(f"{'ok  ' if given == stated else 'FAIL'} {text}" + ("" if given == stated else f": {given!r}, not {stated!r}"))
     print(f"{wrong} wrong")
     return 1 if wrong else 0

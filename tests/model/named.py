@@ -229,9 +229,9 @@ def stored():
 
 
 def write_inputs(directory):
-    """NAME.replay or NAME.program, and NAME.lines."""
+    """NAME.replay or NAME.program, and its lines behind that name and `.lines`."""
     directory = Path(directory)
     directory.mkdir(parents=True, exist_ok=True)
     for name, kind, data, lines in expected():
         (directory / f"{name}.{kind}").write_bytes(data)
-        (directory / f"{name}.lines").write_bytes(text(lines))
+        (directory / f"{name}.{kind}.lines").write_bytes(text(lines))
