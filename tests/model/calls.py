@@ -3,33 +3,42 @@
 Where the answer is known from the faults alone it is compared with the model's, so that the model is not the only one to
 say it.
 """
-from model import CALLS, LINK_LOCAL, Node, answer, dotted, forbidden, link_local, u16, u32
-from model_faults import PLATEAU_BELOW, build_advertisement, build_datagram, build_report, build_send, isatap
-from model_faults import other_option, prefix_option, route_option
+from .builders import advertisement, datagram, option, packet, prefix_option, report, route_option
+from .faults import PLATEAU_BELOW
+from .formats import answer, encode_call, encode_settings
+from .node import Node
+from .octets import LINK_LOCAL, dotted, forbidden, isatap_address, link_local
 
 LAST_SECOND = 0xffffffff
 ISATAP_IDENTIFIERS = ("00005efe", "02005efe")
 
 
-def encode_lists(settings):
-    """Locators, prefixes and routers, each after its count."""
-    locators = [address + bytes([interface]) for address, interface in settings.locators]
-    return b"".join(u16(len(items)) + b"".join(items) for items in (locators, settings.prefixes, settings.routers))
+# ---- A call's bytes from its named fields
+
+def packet_of(f):
+    return packet(f["source6"], f["destination6"], f["payload"], len(f["payload"]) + f["payload_error"], f["version6"], f["flow"],
+                  f["next_header"], f["hop_limit"])
 
 
-def encode_settings(settings):
-    data = encode_lists(settings) + u16(settings.link) + bytes([settings.ttl]) + u16(settings.interval) + u16(settings.identification)
-    return data + (b"\0" if settings.reporting is None else b"\1" + settings.reporting)
+def datagram_of(f):
+    inner = packet_of(f)[:f["inner_cut"]] + f["tail"]
+    options = f["options"][:max(0, 4 * f["words"] - 20)]
+    header, content = 20 + len(options), inner + f["padding"]
+    total = f["total_rule"](header, header + len(content)) if f["total_rule"] else header + len(inner)
+    return datagram(content, f["source"], f["destination"], options, f["words"], total, f["version"], f["service"],
+                    f["identification"], f["flags"], f["ttl"], f["protocol"], f["spoil"])[:f["cut"]]
 
 
-def encode_call(name, arguments):
-    kind = next(kind for kind in CALLS if CALLS[kind][0] == name)
-    data = bytes([kind])
-    for form, value in zip(CALLS[kind][1], arguments):
-        data += {"B": lambda: bytes([value]), "H": lambda: u16(value), "I": lambda: u32(value), "A": lambda: value,
-                 "N": lambda: value, "D": lambda: u16(len(value)) + value,
-                 "R": lambda: u16(len(value)) + b"".join(value)}[form]()
-    return data
+def report_of(f):
+    return report(f["candidate"], f["source"], f["neighbour"], f["total"], f["type"], f["code"], f["unused"], f["version"], f["words"],
+                  f["options"][:max(0, 4 * f["words"] - 20)], f["free"], f["protocol"], f["tail"], f["cut"], f["spoil"])
+
+
+def advertisement_of(f):
+    whole = advertisement(f["source6"], f["destination6"], f["lifetime"], f["options"], f["type"], f["code"], f["free"],
+                          f["message_cut"], f["spoil"], version=f["version6"], flow=f["flow"], next_header=f["next_header"],
+                          hop_limit=f["hop_limit"], payload_error=f["payload_error"])
+    return (whole + f["tail"])[:f["cut"]]
 
 
 class Calls:
@@ -113,25 +122,21 @@ class Calls:
         self.change(f, variation or {})
         for _, changes in faults:
             self.change(f, changes)
-        if "zero_check" in f and not faults:
-            self.make_zero_check(f)
+        if "zero_check" in f and not faults:                  # both 0000 and FFFF are right where the rest sums up to FFFF
+            f.update(identification=bytes(2))
+            f.update(identification=datagram_of(f)[10:12], spoil=f["zero_check"])
         want = f"refuse {faults[-1][0]}" if faults else f"deliver {4 * f['words']} {40 + len(f['payload'])}"
-        data = build_datagram(f)
+        data = datagram_of(f)
         self.call("receive", f["interface"], data, want=want)
         return data
 
-    def make_zero_check(self, f):
-        """Both 0000 and FFFF are right where the rest sums up to FFFF."""
-        f.update(identification=b"\0\0")
-        f.update(identification=build_datagram(f)[10:12], spoil=f["zero_check"])
-
-    def send(self, faults=(), n=None, end=None, time=None):
-        address = end or self.neighbour()
+    def send(self, faults=(), n=None, end=None, time=None, next_hop=None):
+        address = next_hop[12:] if next_hop else end or self.neighbour()
         time = self.time() if time is None else time
         f = self.packet_fields(b"\x20" + self.some(15), self.some(16), b"")
         f.update(address=address, index=self.random.randrange(len(self.settings.locators)), first=None, more=0, short=0,
                  message=True, next_header=17 if faults or n else self.random.choice((0, 17, 58, 59)),
-                 next_hop=isatap(self.prefix(), self.random.choice(ISATAP_IDENTIFIERS), address))
+                 next_hop=next_hop or isatap_address(self.prefix(), self.random.choice(ISATAP_IDENTIFIERS), address))
         for _, changes in faults:
             self.change(f, changes)
         self.node.raise_time(time)
@@ -143,13 +148,13 @@ class Calls:
             f["payload"] = bytes([f["first"]]) + f["payload"][1:]
         written = n + 20 if n <= largest else 1280 if f["message"] else 0
         room = max(0, written - f["short"]) if f["short"] else written + self.random.choice((0, 0, 1, 50))
-        data = build_send(f)
+        data = (packet_of(f) + f["tail"])[:f["cut"]]
         self.call("send", f["index"], time, f["next_hop"], room, data, want=self.send_want(numbers, n, largest, written, room))
         return data
 
     def send_want(self, numbers, n, largest, written, room):
         """"Order 8, 11, 12, 13, 14, 23, 15"."""
-        early = [fault for fault in numbers if fault < 14]
+        early = [fault for fault in numbers if 0 < fault < 14]
         if early:
             return f"refuse {min(early)}"
         if room < written:
@@ -171,9 +176,11 @@ class Calls:
         self.change(f, variation or {})
         for _, changes in faults:
             self.change(f, changes)
+        if "zero_check" in f and not faults:
+            f.update(unused=report_of(f)[2:4], spoil=f["zero_check"])
         candidate = f["candidate"] or PLATEAU_BELOW.get(f["total"], 0)
         accepted = f"accepted {dotted(neighbour)} {candidate}" if candidate < size else "refuse 19"
-        data = build_report(f)
+        data = report_of(f)
         self.call("report", time, data, want=f"refuse {faults[-1][0]}" if faults else accepted)
         return data
 
@@ -193,17 +200,22 @@ class Calls:
             return route_option(4, shown)
         if kind == 5:
             return prefix_option(self.random.choice((1, 2, 3, 5)), shown)
-        return other_option(self.random.choice((1, 5, 25, 2, 4, 23, 255)), self.random.choice((1, 2, 4)), shown)
+        return option(self.random.choice((1, 5, 25, 2, 4, 23, 255)), self.random.choice((1, 2, 4)), shown)
 
-    def advertisement(self, faults=(), router=None, options=None, lifetime=None):
+    def advertisement(self, faults=(), variation=None, router=None, options=None, lifetime=None, time=None):
         router = router or self.listed_router()
-        f = self.packet_fields(isatap(LINK_LOCAL, self.random.choice(ISATAP_IDENTIFIERS), router), self.some(16), b"")
+        time = self.time() if time is None else time
+        f = self.packet_fields(isatap_address(LINK_LOCAL, self.random.choice(ISATAP_IDENTIFIERS), router), self.some(16), b"")
         f.update(address=router, next_header=58, hop_limit=255, type=134, code=0, spoil=0, message_cut=None, free=self.some(10),
                  lifetime=min(65535, self.lifetimes()) if lifetime is None else lifetime,
                  options=[self.option() for _ in range(self.random.randrange(4))] if options is None else options,
                  tail=self.some(self.random.choice((0, 0, 1, 9))))
+        self.change(f, variation or {})
         for _, changes in faults:
             self.change(f, changes)
-        data = build_advertisement(f)
-        self.call("advertisement", self.time(), data, want=f"refuse {faults[-1][0]}" if faults else dotted(router))
+        if "zero_check" in f and not faults:
+            f.update(free=f["free"][:2] + bytes(2) + f["free"][4:])
+            f.update(free=f["free"][:2] + advertisement_of(f)[42:44] + f["free"][4:], spoil=f["zero_check"])
+        data = advertisement_of(f)
+        self.call("advertisement", time, data, want=f"refuse {faults[-1][0]}" if faults else dotted(router))
         return data

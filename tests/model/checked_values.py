@@ -2,8 +2,11 @@
 from collections import Counter
 from pathlib import Path
 
-from model import LINK_LOCAL, Node, Settings, answer, checksum_field, checksum_right, digest, icmpv6_packet, lent
-from model import link_local, program, pseudo_header, replay, u16, wrapped
+from . import builders
+from .formats import answer, digest, encode_datagrams, lent, program, replay
+from .node import Node
+from .octets import LINK_LOCAL, LOOPBACK, checksum_field, checksum_right, isatap_address, link_local, pseudo_header, u16
+from .rules import Settings, wrapped
 
 OWN, PEER, ROUTER = bytes((10, 0, 0, 1)), bytes((10, 0, 0, 2)), bytes((10, 0, 0, 9))
 
@@ -25,15 +28,21 @@ def kind_of_answer(line):
     return name, word if word in ANSWERS[name] else "answered"
 
 
+def counted(lines):
+    """How often each answer occurs, and those that can come and do not, or come and cannot."""
+    counts = Counter(kind_of_answer(line) for line in lines)
+    expected = {(name, kind) for name in ANSWERS for kind in ANSWERS[name]}
+    return counts, sorted(expected - set(counts)) + sorted(set(counts) - expected)
+
+
 def coverage(*files):
     """Prints the table; the status is 1 if an answer that can come does not."""
-    counts = Counter(kind_of_answer(line) for file in files for line in Path(file).read_text().splitlines())
-    expected = [(name, kind) for name in ANSWERS for kind in ANSWERS[name]]
-    for name, kind in expected + sorted(set(counts) - set(expected)):
-        print(f"{name:14} {kind:22} {counts[name, kind]:8}" + ("" if (name, kind) in expected else "   not expected"))
-    missing = [kind for kind in expected if not counts[kind]]
-    print(f"{len(expected)} answers, {len(missing)} missing")
-    return 1 if missing or set(counts) - set(expected) else 0
+    counts, wrong = counted(line for file in files for line in Path(file).read_text().splitlines())
+    for (name, kind), count in sorted(counts.items()):
+        print(f"{name:14} {kind:22} {count:8}")
+    for name, kind in wrong:
+        print(f"{name:14} {kind:22} {'not expected' if (name, kind) in counts else 'missing':>8}")
+    return 1 if wrong else 0
 
 
 # ---- The values that document 01 states
@@ -42,14 +51,12 @@ def node(link=1500, routers=(ROUTER,)):
     return Node(Settings([(OWN, 0)], [], list(routers), link))
 
 
-def packet(n, source=link_local(PEER), next_header=59):
-    return b"\x60\0\0\0" + u16(n - 40) + bytes([next_header, 64]) + source + bytes(15) + b"\1" + bytes(n - 40)
+def packet(n, source=link_local(PEER)):
+    return builders.packet(source, LOOPBACK, bytes(n - 40))
 
 
 def report(candidate, quoted_total=1500, neighbour=PEER):
-    quoted = b"\x45\0" + u16(quoted_total) + b"\0\1\x40\0\x40\x29\0\0" + OWN + neighbour
-    message = b"\3\4\0\0\0\0" + u16(candidate) + quoted + bytes(8)
-    return message[:2] + checksum_field(message) + message[4:]
+    return builders.report(candidate, OWN, neighbour, quoted_total)
 
 
 def said(one, name, *arguments):
@@ -104,8 +111,8 @@ def neighbour_checks():
 HEADER = bytes.fromhex("4500003C00010000402966960A0000020A000001")
 
 
-def example(identifier=b"\0\0\x5e\xfe", last=2):
-    return HEADER + packet(40, LINK_LOCAL + identifier + bytes((10, 0, 0, last)))
+def example(identifier="00005efe", last=2):
+    return HEADER + packet(40, isatap_address(LINK_LOCAL, identifier, bytes((10, 0, 0, last))))
 
 
 def receive_checks():
@@ -113,15 +120,15 @@ def receive_checks():
     yield "the header above gets checksum 6696", checksum_field(HEADER[:10] + HEADER[12:]).hex(), "6696"
     yield "the header above is what wrapping writes", wrapped(b"", 1, False, 64, PEER, OWN)[4:10].hex(), HEADER[4:10].hex()
     for first, given in ((0, "deliver 20 40"), (2, "deliver 20 40"), (1, "refuse 10"), (3, "refuse 10")):
-        yield f"first identifier byte {first:02}: {given}", said(node(), "receive", 0, example(bytes([first]) + b"\0\x5e\xfe")), given
+        yield f"first identifier byte {first:02}: {given}", said(node(), "receive", 0, example(f"{first:02x}005efe")), given
 
 
 def program_checks():
     start = u16(1) + OWN + b"\0" + u16(0) + u16(0)
-    two = start + u16(2) + b"".join(b"\0" + u16(60) + example(last=last) for last in (2, 3))
+    two = start + encode_datagrams([(0, example(last=2)), (0, example(last=3))])
     yield "the program's example", program(two), ["datagrams 2", "1 deliver 40", "2 refuse 10"]
     yield "no datagram", program(start + u16(0)), ["datagrams 0"]
-    full = start + u16(2) + b"\0" + u16(65515) + bytes(65515) + b"\0" + u16(2) + bytes(2)
+    full = start + encode_datagrams([(0, bytes(65515)), (0, bytes(2))])
     yield "65,536 bytes are taken", (len(full), program(full)), (65536, ["datagrams 2", "1 refuse 2", "2 refuse 2"])
     for text, data in (("empty", b""), ("trailing byte", two + b"\0"), ("cut", two[:-1]), ("too long", full + b"\0"),
                        ("no locator", bytes(8))):
@@ -150,8 +157,7 @@ def time_checks():
     one.ask(0, 0xffffffff, lent(48))
     yield "due past the last second", said(one, "ask", 0, 0xffffffff, 0), "refuse 22 811c9dc5"
     yield "exact due time", one.routers, [(ROUTER, 0xffffffff + 120)]
-    message = b"\x86\0\0\0\x40\0" + u16(1800) + bytes(8)
-    one.advertisement(0, icmpv6_packet(link_local(ROUTER), link_local(OWN), 255, message))
+    one.advertisement(0, builders.advertisement(link_local(ROUTER), link_local(OWN), 1800))
     yield "half of the router's lifetime", one.routers, [(ROUTER, 0xffffffff + 900)]
 
 
@@ -172,13 +178,20 @@ def replay_checks():
         "report accepted 10.0.0.2 700", "routers accepted 1", "ask refuse 15 811c9dc5", "advertisement refuse 8", "size 700"]
 
 
+CHECKS = (size_checks, report_checks, neighbour_checks, receive_checks, program_checks, message_checks, time_checks, replay_checks)
+
+
+def checked():
+    """Text of each value, what the model gives, and what document 01 states."""
+    for checks in CHECKS:
+        yield from checks()
+
+
 def self_test():
     """One line for each value; the status is 1 if one is not as stated."""
     wrong = 0
-    for checks in (size_checks, report_checks, neighbour_checks, receive_checks, program_checks, message_checks, time_checks,
-                   replay_checks):
-        for text, given, stated in checks():
-            wrong += given != stated
-            print(f"{'ok  ' if given == stated else 'FAIL'} {text}" + ("" if given == stated else f": {given!r}, not {stated!r}"))
+    for text, given, stated in checked():
+        wrong += given != stated
+        print(f"{'ok  ' if given == stated else 'FAIL'} {text}" + ("" if given == stated else f": {given!r}, not {stated!r}"))
     print(f"{wrong} wrong")
     return 1 if wrong else 0

@@ -3,7 +3,7 @@
 A call is built from named fields. A fault is a number with changes to fields; a variation changes fields and keeps the
 call accepted.
 """
-from model import LINK_LOCAL, LOOPBACK, UNSPECIFIED, checksum_field, link_local, pseudo_header, u16, u32
+from .octets import LINK_LOCAL, LOOPBACK, UNSPECIFIED, isatap_address, link_local
 
 FORBIDDEN = [bytes(parts) for parts in ((0, 0, 0, 0), (127, 0, 0, 0), (127, 0, 0, 1), (127, 255, 255, 255), (224, 0, 0, 0),
                                         (239, 255, 255, 255), (232, 1, 2, 3), (255, 255, 255, 255))]
@@ -16,70 +16,10 @@ PLATEAU_BELOW = {69: 68, 296: 68, 297: 296, 508: 296, 509: 508, 1006: 508, 1007:
                  2002: 1492, 2003: 2002, 4352: 2002, 4353: 4352, 8166: 4352, 8167: 8166, 17914: 8166}
 
 
-def spoiled(check, amount):
-    return u16((int.from_bytes(check, "big") + amount) % 65536)
-
-
-# ---- Building a call's bytes from its fields
-
-def build_packet(f):
-    """An IPv6 packet: version, next header, hop limit, addresses, payload, and an error in the payload length."""
-    head = bytes([f["version6"] << 4 | f["flow"][0] & 15]) + f["flow"][1:] + u16(len(f["payload"]) + f["payload_error"])
-    return head + bytes([f["next_header"], f["hop_limit"]]) + f["source6"] + f["destination6"] + f["payload"]
-
-
-def build_datagram(f):
-    inner = build_packet(f)[:f["inner_cut"]] + f["tail"]
-    options = f["options"][:max(0, 4 * f["words"] - 20)]
-    whole = 20 + len(options) + len(inner) + len(f["padding"])
-    total = f["total_rule"](20 + len(options), whole) if f["total_rule"] else whole - len(f["padding"])
-    start = bytes([f["version"] << 4 | f["words"], f["service"]]) + u16(total) + f["identification"] + u16(f["flags"])
-    start, end = start + bytes([f["ttl"], f["protocol"]]), f["source"] + f["destination"] + options
-    check = spoiled(checksum_field(start + b"\0\0" + end), f["spoil"])
-    return (start + check + end + inner + f["padding"])[:f["cut"]]
-
-
-def build_report(f):
-    free = f["free"]                                          # service, identification, flags, TTL, checksum
-    quoted = bytes([f["version"] << 4 | f["words"], free[0]]) + u16(f["total"]) + free[1:6] + bytes([f["protocol"]]) + free[6:8]
-    quoted += f["source"] + f["neighbour"] + f["options"][:max(0, 4 * f["words"] - 20)] + f["tail"]
-    message = (bytes([f["type"], f["code"], 0, 0]) + f["unused"] + u16(f["candidate"]) + quoted)[:f["cut"]]
-    return (message[:2] + spoiled(checksum_field(message), f["spoil"]) + message[4:])[:len(message)]
-
-
-def build_advertisement(f):
-    message = bytes([f["type"], f["code"], 0, 0]) + f["free"][:2] + u16(f["lifetime"]) + f["free"][2:] + b"".join(f["options"])
-    message = message[:f["message_cut"]]
-    check = checksum_field(pseudo_header(f["source6"], f["destination6"], len(message)) + message)
-    f["payload"] = (message[:2] + spoiled(check, f["spoil"]) + message[4:])[:len(message)]
-    return (build_packet(f) + f["tail"])[:f["cut"]]
-
-
-def build_send(f):
-    return (build_packet(f) + f["tail"])[:f["cut"]]
-
-
-def route_option(length, lifetime):
-    return bytes([24, length, 64, 8]) + u32(lifetime) + b"\1" * (8 * length - 8)
-
-
-def prefix_option(length, lifetime):
-    """A small preferred lifetime stands behind the valid one."""
-    return (bytes([3, length, 64, 0xc0]) + u32(lifetime) + u32(3) + bytes(8 * length))[:8 * length]
-
-
-def other_option(kind, length, lifetime):
-    return bytes([kind, length, 64, 8]) + u32(lifetime) + b"\1" * (8 * length - 8)
-
-
 # ---- Faults and variations; a callable value is given the list of calls and the fields
 
-def isatap(prefix, identifier, address):
-    return prefix + bytes.fromhex(identifier) + address
-
-
 def off_link(calls, f):
-    return isatap(bytes.fromhex("fe80000000000001"), "00005efe", f["address"])
+    return isatap_address(bytes.fromhex("fe80000000000001"), "00005efe", f["address"])
 
 
 def one_of(key, values):
@@ -91,7 +31,7 @@ def faults(number, *changes):
     return [(number, change) for change in changes]
 
 
-NOT_ISATAP = [{"source6": lambda calls, f, text=text: isatap(LINK_LOCAL, text, f["address"])}
+NOT_ISATAP = [{"source6": lambda calls, f, text=text: isatap_address(LINK_LOCAL, text, f["address"])}
               for text in ("01005efe", "03005efe", "04005efe", "00015efe", "00005efd", "00005ffe", "80005efe")]
 UNLISTED = {"source6": lambda calls, f: link_local(calls.fresh())}
 
@@ -99,16 +39,16 @@ UNLISTED = {"source6": lambda calls, f: link_local(calls.fresh())}
 
 BAD_SOURCES = [MULTICAST, bytes([255]) + bytes(15), UNSPECIFIED, LOOPBACK] + [bytes(12) + address for address in FORBIDDEN]
 WRONG_SOURCES = NOT_ISATAP + [
-    UNLISTED, {"source6": off_link}, {"source6": GLOBAL}, {"source6": lambda calls, f: bytes(12) + f["address"]},
+    UNLISTED, {"source6": off_link}, {"source6": GLOBAL}, {"source6": lambda calls, f: link_local(calls.listed_router())}, {"source6": lambda calls, f: bytes(12) + f["address"]},
     {"source6": lambda calls, f: link_local(f["address"][:3] + bytes([f["address"][3] ^ 1]))}]
 TOTALS = [lambda header, whole: header - 1, lambda header, whole: 0,
           lambda header, whole: whole + 1, lambda header, whole: 65535]
 RECEIVE_FAULTS = (
     faults(2, *one_of("cut", (0, 1, 19)), *one_of("version", (5, 6)), *one_of("words", (0, 4)), *one_of("total_rule", TOTALS),
            {"words": 15, "cut": 59}, {"words": 6, "cut": 20})
-    + faults(3, *one_of("spoil", (1, 0x100, 0x8000)))
+    + faults(3, *one_of("spoil", (1, 0x100, 0x8000, None)))
     + faults(4, *one_of("protocol", (0, 4, 40, 42, 255)))
-    + faults(5, *one_of("flags", (0x2000, 0x6000, 1, 0x100, 0x1fff, 0x2001)))
+    + faults(5, *one_of("flags", (0x2000, 0x6000, 1, 0x100, 0x1000, 0x1fff, 0x2001)))
     + faults(6, {"interface": lambda calls, f: calls.other_interface(f["destination"])},
              {"destination": lambda calls, f: calls.fresh()})
     + faults(7, *one_of("source", FORBIDDEN))
@@ -116,18 +56,20 @@ RECEIVE_FAULTS = (
              {"payload_error": 1, "tail": b""}, {"payload_error": 1, "tail": b"", "padding": bytes(9)})
     + faults(9, *one_of("source6", BAD_SOURCES))
     + faults(10, *[dict(change, source=lambda calls, f: f["address"]) for change in WRONG_SOURCES]))
-BY_ROUTER = [GLOBAL, bytes(12) + b"\x0a\1\1\1", isatap(LINK_LOCAL, "01005efe", b"\x0a\1\1\1"), bytes(11) + b"\1" + bytes(4)]
+BY_ROUTER = [GLOBAL, bytes(12) + b"\x0a\1\1\1", isatap_address(LINK_LOCAL, "01005efe", b"\x0a\1\1\1"), bytes(11) + b"\1" + bytes(4),
+             b"\xfe" + bytes(15), link_local(FORBIDDEN[2]), bytes(10) + b"\xff\xff\x0a\1\1\1", bytes(10) + b"\xff\xff" + FORBIDDEN[2]]
 RECEIVE_VARIATIONS = (
     one_of("words", (5, 6, 9, 15)) + one_of("padding", (b"\1", bytes(26))) + one_of("flags", (0x4000, 0x8000, 0xc000))
     + one_of("zero_check", (0, 0xffff)) + [{"payload": b""}, {"tail": b"\7"}, {"tail": bytes(9), "words": 7, "padding": b"\1"}]
-    + [{"source6": lambda calls, f, text=text: isatap(calls.prefix(), text, f["source"])} for text in ("00005efe", "02005efe")]
+    + [{"source6": lambda calls, f, text=text: isatap_address(calls.prefix(), text, f["source"])} for text in ("00005efe", "02005efe")]
     + [{"source": address, "source6": link_local(address)} for address in NEARLY_FORBIDDEN]
     + [{"source": lambda calls, f: calls.listed_router(), "source6": source} for source in BY_ROUTER]
     + [{"source": lambda calls, f: f["destination"], "source6": lambda calls, f: link_local(f["source"])}])
 
 # Sending; `more` bytes above M, `short` bytes of room missing, `first` byte of the payload
 
-MESSAGE = [{}, {"more": 7}, {"source6": LOOPBACK}, {"source6": bytes([0xfe]) + bytes(15)}, {"next_header": 17, "first": 1}]
+MESSAGE = [{}, {"more": 7}, {"source6": LOOPBACK}, {"source6": bytes([0xfe]) + bytes(15)}, {"next_header": 17, "first": 1},
+           {"destination6": MULTICAST}]
 MESSAGE += [{"next_header": 58, "first": first} for first in (128, 133, 136, 138, 255)]
 NO_MESSAGE = one_of("source6", (MULTICAST, bytes([255]) + bytes(15), UNSPECIFIED))
 NO_MESSAGE += [{"next_header": 58, "first": first} for first in (0, 1, 2, 127, 137)]
@@ -135,7 +77,7 @@ SEND_FAULTS = (
     faults(8, *one_of("cut", (0, 39)), *one_of("version6", (4, 5)), {"tail": b"\0"}, {"payload_error": 1})
     + faults(11, {"index": lambda calls, f: len(calls.settings.locators)}, {"index": 255})
     + faults(12, *one_of("next_hop", (off_link, GLOBAL, UNSPECIFIED)),
-             *[{"next_hop": lambda calls, f, text=text: isatap(calls.prefix(), text, f["address"])}
+             *[{"next_hop": lambda calls, f, text=text: isatap_address(calls.prefix(), text, f["address"])}
                for text in ("01005efe", "03005efe", "00005efd", "00015efe")])
     + faults(13, *one_of("next_hop", [link_local(address) for address in FORBIDDEN]),
              {"index": 0, "next_hop": lambda calls, f: link_local(calls.settings.locators[0][0])},
@@ -147,7 +89,7 @@ SEND_FAULTS = (
 # Size reports
 
 REPORT_FAULTS = (
-    faults(16, *one_of("cut", (0, 1, 8, 27)), *one_of("spoil", (1, 0x200)), *one_of("words", (0, 4)), {"version": 6},
+    faults(16, *one_of("cut", (0, 1, 8, 27)), *one_of("spoil", (1, 0x200, None)), *one_of("words", (0, 4)), {"version": 6},
            {"words": 6, "cut": 31}, {"words": 15, "cut": 28},
            *[{"type": kind, "code": code} for kind, code in ((3, 3), (3, 5), (11, 4), (0, 0), (4, 3))])
     + faults(17, *one_of("protocol", (4, 40, 42)), {"source": lambda calls, f: calls.fresh()}, *one_of("neighbour", FORBIDDEN),
@@ -158,7 +100,7 @@ REPORT_FAULTS = (
              {"candidate": 0, "total": 65535},
              {"candidate": 0, "total": 17914, "neighbour": lambda calls, f: calls.small()}))
 REPORT_VARIATIONS = (
-    one_of("tail", (b"", b"\1\2\3")) + [{"words": 6}, {"words": 15, "tail": b""}, {"unused": b"\1\2"}, {"candidate": 68}]
+    one_of("tail", (b"", b"\1\2\3")) + one_of("zero_check", (0, 0xffff)) + [{"words": 6}, {"words": 15, "tail": b""}, {"unused": b"\1\2"}, {"candidate": 68}]
     + [{"source": lambda calls, f: calls.random.choice(calls.settings.locators)[0]},
        {"candidate": lambda calls, f: calls.node.size(f["neighbour"]) - 1}]
     + [{"candidate": 0, "total": total} for total in PLATEAU_BELOW])
@@ -169,9 +111,9 @@ BROKEN_OPTIONS = [[b"\1\0" + bytes(6)], [b"\1\1" + bytes(6), b"\5\0"], [b"\1"], 
                   [b"\1\1" + bytes(5)], [b"\3\4" + bytes(29)], [b"\1\2" + bytes(6)], [b"\1\1" + bytes(7)], [b"\xff\xff" + bytes(64)]]
 ADVERTISEMENT_FAULTS = (
     faults(8, *one_of("cut", (0, 39)), {"version6": 4}, {"payload_error": 1, "tail": b""})
-    + faults(20, {"next_header": 59}, *one_of("hop_limit", (0, 254)), {"spoil": 1}, *one_of("type", (133, 135)), {"code": 1},
+    + faults(20, {"next_header": 59}, *one_of("hop_limit", (0, 254)), *one_of("spoil", (1, None)), *one_of("type", (133, 135)), {"code": 1},
              *one_of("message_cut", (0, 1, 4, 8, 15)), *one_of("options", BROKEN_OPTIONS),
-             *one_of("source6", (off_link, GLOBAL)), {"source6": lambda calls, f: isatap(calls.prefix(False), "00005efe", f["address"])})
+             *one_of("source6", (off_link, GLOBAL)), {"source6": lambda calls, f: isatap_address(calls.prefix(False), "00005efe", f["address"])})
     + faults(21, UNLISTED, *NOT_ISATAP))
 FAULTS = {"receive": RECEIVE_FAULTS, "send": SEND_FAULTS, "report": REPORT_FAULTS, "advertisement": ADVERTISEMENT_FAULTS}
-VARIATIONS = {"receive": RECEIVE_VARIATIONS, "report": REPORT_VARIATIONS}
+VARIATIONS = {"receive": RECEIVE_VARIATIONS, "report": REPORT_VARIATIONS, "advertisement": one_of("zero_check", (0, 0xffff))}
