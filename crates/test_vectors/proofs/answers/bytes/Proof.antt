@@ -1,9 +1,9 @@
--- `vectors::answers::bytes` is safe and ends. Assumes nothing.
+-- `test_vectors::answers::bytes` is safe and ends. Assumes nothing.
 use Prim.Native.Nat.{_≤_, _-_}
 use native.Mathlib.Omega.{arith}
 use lib.ListN.{length}
-use Rattle.vectors.proofs.answers.bytes.Statement.{statement}
-use Rattle.vectors.proofs.answers.bytes.Tie as tie
+use Rattle.test_vectors.proofs.answers.bytes.Statement.{statement}
+use Rattle.test_vectors.proofs.answers.bytes.Tie as tie
 
 abbrev Inv-loop : tie.InvT-loop
 Inv-loop s i₀ i = i ≤ length s

@@ -1,9 +1,9 @@
--- `vectors::run` is safe and ends: a case takes at least a byte. Assumes nothing.
+-- `test_vectors::run` is safe and ends: a case takes at least a byte. Assumes nothing.
 use native.Mathlib.Omega.{arith}
 use borrow.Author.Needs.{needs}
 use lib.ListN.{length, length-drop}
-use Rattle.vectors.proofs.run.Statement.{statement}
-use Rattle.vectors.proofs.run.Tie as tie
+use Rattle.test_vectors.proofs.run.Statement.{statement}
+use Rattle.test_vectors.proofs.run.Tie as tie
 
 abbrev Inv-loop : tie.InvT-loop
 Inv-loop cases feed rest₀ list₀ rest list = Unit {0}
