@@ -216,7 +216,8 @@ def expected(batches=True):
 # ---- Stored data
 
 STORED_LAST = ("long_ages", "times_near_the_end")             # they leave no time for others
-NOT_STORED = ("longest_packets", "longest_lifetime", "neighbours_65", "neighbours_64_reported_again")  # long, or shown by others
+NOT_STORED = ("longest_packets", "longest_lifetime", "neighbours_64", "neighbours_65", "neighbours_64_reported_again",
+              "identifications")                              # long, or shown by others
 
 
 def stored():
