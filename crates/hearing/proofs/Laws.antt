@@ -34,7 +34,7 @@ use Rattle.settings.specs.Settings.{embeddedTo}
 use Rattle.settings.specs.declared.Settings.{Settings}
 use Rattle.settings.proofs.Facts.{embedded-to, isatap-to}
 use Rattle.hearing.specs.Message.{messageOf, isValidMessage}
-use Rattle.hearing.specs.Heard.{advertisement, optionsStart, optionsIn, refusedBy, heardOfRouter, heardFrom, heardRows, heardOf}
+use Rattle.hearing.specs.Heard.{advertisementType, optionsStart, optionsIn, refusedBy, heardOfRouter, heardFrom, heardRows, heardOf}
 use Rattle.hearing.specs.Facts.{ValidAdvertisement, routerLifetime, HeardExactly}
 use Rattle.hearing.proofs.MessageLaws.{message-rules, rules-message}
 use Rattle.hearing.specs.declared.HeardAnswer.the-variants.{Router, Refused}
@@ -124,8 +124,8 @@ module _ (s : Settings) (routers : RouterList) (now : ℕ) (p : List ℕ) where
       record {
         whole = inner-whole (length p) i (f .0);
         options = optionsOf (drop optionsStart (messageOf q));
-        valid = message-rules advertisement optionsStart i q (and-right (isLinkLocal (i .source)) (isValidMessage advertisement optionsStart i q) v);
-        linkLocal = decides-link-local (i .source) .holds (and-left (isLinkLocal (i .source)) (isValidMessage advertisement optionsStart i q) v);
+        valid = message-rules advertisementType optionsStart i q (and-right (isLinkLocal (i .source)) (isValidMessage advertisementType optionsStart i q) v);
+        linkLocal = decides-link-local (i .source) .holds (and-left (isLinkLocal (i .source)) (isValidMessage advertisementType optionsStart i q) v);
         embeds = embedded-to s (i .source) router (g .1);
         inList = decides-listed router (live routers) .holds (g .2);
       }
@@ -138,7 +138,7 @@ module _ (s : Settings) (routers : RouterList) (now : ℕ) (p : List ℕ) where
       let q = take (i .length) p in
       simp (
         whole-inner (length p) i (a .whole),
-        rules-message advertisement optionsStart i q (a .options) (a .valid),
+        rules-message advertisementType optionsStart i q (a .options) (a .valid),
         decides-link-local (i .source) .passes (a .linkLocal),
         isatap-to s (i .source) router (a .embeds),
         decides-listed router (live routers) .passes (a .inList),
