@@ -44,7 +44,7 @@ impl Node {
         let table = self.paths;
         let paths = paths_after(answer, table, now);
         self.paths = paths;
-        self.latest = now;
-        Reported { answer, node: self }
+        let node = self.put_back(service, time);
+        Reported { answer, node }
     }
 }
