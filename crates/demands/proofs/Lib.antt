@@ -1,3 +1,4 @@
+pub mod Left
 pub mod Follows
 pub mod Events
 pub mod Three
