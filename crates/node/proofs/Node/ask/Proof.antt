@@ -9,7 +9,7 @@ unfolding askOf askedBy askOutput
 returns c =
     let d = c .before .before .before .before in
     let at = d .before .before .before .before .before .later .ensures in
-    (rw (c .put-back .ensures, d .ask .ensures .0, at), rw (d .ask .ensures .1, at))
+    (rw (c .put-back .ensures .0, d .ask .ensures .0, at), rw (d .ask .ensures .1, at))
 
 pub ask-spec : {M : Type 1} → statement M
 ask-spec =

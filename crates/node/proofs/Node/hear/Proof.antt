@@ -8,7 +8,7 @@ returns : tie.Need-returns
 unfolding hearOf heardBy
 returns c =
     let d = c .before .before in
-    rw (c .put-back .ensures, d .hear .ensures, d .before .before .before .before .later .ensures)
+    rw (c .put-back .ensures .0, d .hear .ensures, d .before .before .before .before .later .ensures)
 
 pub hear-spec : {M : Type 1} → statement M
 hear-spec =

@@ -9,13 +9,13 @@ returns : tie.Need-returns
 unfolding replaceOf
 returns c =
     let d = c .before .before .before .before in
-    simp (← d .routers-right .ensures, c .before .before .before .if1 .taken, c .put-back .ensures, c .before .replaced .ensures, d .before .before .before .later .ensures)
+    simp (← d .routers-right .ensures, c .before .before .before .if1 .taken, c .put-back .ensures .0, c .before .replaced .ensures, d .before .before .before .later .ensures)
 
 returns-2 : tie.Need-returns-2
 unfolding replaceOf raisedTo
 returns-2 c =
     let d = c .before .before in
-    simp (← d .routers-right .ensures, c .before .if1 .left, c .put-back2 .ensures)
+    simp (← d .routers-right .ensures, c .before .if1 .left, c .put-back2 .ensures .0)
 
 pub replace-routers-spec : {M : Type 1} → statement M
 replace-routers-spec =

@@ -8,7 +8,7 @@ returns : tie.Need-returns
 unfolding reportOf reportAnswerOf
 returns c =
     let d = c .before in
-    rw (c .put-back .ensures, d .paths-after .ensures, d .before .before .answer .ensures, d .before .before .before .size-at .ensures, d .before .before .before .before .neighbour-in .ensures, d .before .before .before .before .before .judge .ensures, d .before .before .before .before .before .before .before .before .later .ensures)
+    rw (c .put-back .ensures .0, d .paths-after .ensures, d .before .before .answer .ensures, d .before .before .before .size-at .ensures, d .before .before .before .before .neighbour-in .ensures, d .before .before .before .before .before .judge .ensures, d .before .before .before .before .before .before .before .before .later .ensures)
 
 pub report-spec : {M : Type 1} → statement M
 report-spec =

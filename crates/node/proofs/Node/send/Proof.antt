@@ -11,7 +11,7 @@ returns c =
     let size = d .before .before .before .before .size-at .ensures in
     let end = d .before .before .before .before .before .last-quad .ensures in
     let at = d .before .before .before .before .before .before .later .ensures in
-    (rw (c .put-back .ensures, d .send .ensures .0, size, end, at), rw (d .send .ensures .1, size, end, at))
+    (rw (c .put-back .ensures .0, d .send .ensures .0, size, end, at), rw (d .send .ensures .1, size, end, at))
 
 pub send-spec : {M : Type 1} → statement M
 send-spec =
