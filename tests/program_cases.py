@@ -1,10 +1,12 @@
 #!/usr/bin/env python3
-"""program_cases.py FOLDER: writes the inputs of the program tunnel_cases to FOLDER/data, one file a case, and to FOLDER/stdout what
+"""program_cases.py FOLDER: writes the inputs of the program test_tunnel to FOLDER/data, one file a case, and to FOLDER/stdout what
 the program of document 01 must print for each, by the model."""
 import sys
 from pathlib import Path
 
-from model import checksum_field, link_local, program, u16
+from model import builders
+from model.formats import program
+from model.octets import isatap_address, link_local, u16
 
 OWN, PEER, OTHER, ROUTER = (bytes((10, 0, 0, last)) for last in (1, 2, 3, 9))
 PREFIX = bytes.fromhex("20010db800000001")
@@ -24,16 +26,11 @@ def settings(locators=(locator(OWN),), prefixes=(), routers=()):
 
 
 def inner(source=link_local(PEER), payload=b"", length=None, version=6):
-    return bytes([16 * version, 0, 0, 0]) + u16(len(payload) if length is None else length) + bytes([59, 64]) + source + OWN_LINK_LOCAL + payload
+    return builders.packet(source, OWN_LINK_LOCAL, payload, length, version)
 
 
-def outer(packet, source=PEER, destination=OWN, options=b"", version=4, words=None, total=None, fragment=0, protocol=41, spoil=0):
-    words = 5 + len(options) // 4 if words is None else words
-    total = 20 + len(options) + len(packet) if total is None else total
-    start = bytes([16 * version + words, 0]) + u16(total) + u16(1) + u16(fragment) + bytes([64, protocol])
-    check = bytearray(checksum_field(start + source + destination + options))
-    check[1] ^= spoil
-    return start + bytes(check) + source + destination + options + packet
+def outer(packet, source=PEER, destination=OWN, fragment=0, **fields):
+    return builders.datagram(packet, source, destination, flags=fragment, **fields)
 
 
 def datagram(content, interface=0):
@@ -41,7 +38,7 @@ def datagram(content, interface=0):
 
 
 def isatap(prefix, first, address):
-    return prefix + bytes([first, 0, 0x5E, 0xFE]) + address
+    return isatap_address(prefix, f"{first:02x}005efe", address)
 
 
 LINK = bytes.fromhex("fe80000000000000")

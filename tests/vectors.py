@@ -1,5 +1,5 @@
 #!/usr/bin/env python3
-"""Writes the cases of the program `vectors`, crates/vectors/stdin, and the lines that it must print, crates/vectors/stdout.
+"""Writes the cases of the program `test_vectors`, crates/test_vectors/stdin, and the lines that it must print, crates/test_vectors/stdout.
 The lines are computed from document 01 and the RFCs with struct and ipaddress alone."""
 import sys
 from pathlib import Path
@@ -17,7 +17,7 @@ def main():
         part()
     data, text = b"".join(cases), "\n".join(lines) + "\n"
     assert len(data) <= 65536, "the program reads 65,536 bytes"
-    crate = Path(__file__).resolve().parent.parent / "crates" / "vectors"
+    crate = Path(__file__).resolve().parent.parent / "crates" / "test_vectors"
     (crate / "stdin").write_bytes(data)
     (crate / "stdout").write_text(text)
     print(f"{len(cases)} cases, {len(data)} bytes")

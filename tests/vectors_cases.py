@@ -1,4 +1,4 @@
-"""A case of the program `vectors`, its line, and what the cases are made with."""
+"""A case of the program `test_vectors`, its line, and what the cases are made with."""
 import ipaddress
 import random
 import struct

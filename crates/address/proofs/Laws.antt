@@ -29,7 +29,7 @@ agree-first (suc n) p a h = agree-first n p a (and-left (agree (suc n) p a) (eqb
 pub link-local-good : (forbidden : Bool) (a : List ℕ) → isLinkLocal a ≡ true → isBadSourceWith forbidden a ≡ false
 unfolding isUnder isBadSourceWith isMulticastOrUnspecified
 link-local-good forbidden a h =
-    let first : 254 ≡ getD a 0 0 = eqb-true 254 (getD a 0 0) (agree-first 7 linkLocalPrefix a h) in
+    let first : 0xFE ≡ getD a 0 0 = eqb-true 0xFE (getD a 0 0) (agree-first 7 linkLocalPrefix a h) in
     rw (← first)
 
 module _ (a : List ℕ) (v : ℕ) (h : isLinkLocalIsatap a v ≡ true) where

@@ -89,12 +89,12 @@ module _ (a : List ℕ) (byte : (i : ℕ) → Fits w8 (getD a i 0)) where
       quad-same _ _ _ _ b c d e (byte (suc i) .fits) (byte (suc (suc i)) .fits) (byte (suc (suc (suc i))) .fits)
 
   -- 00-00-5E-FE or 02-00-5E-FE as one number
-  pub identifier-quad : (eqb (quadAt a 8) (quadOf 0 0 94 254) || eqb (quadAt a 8) (quadOf 2 0 94 254)) ≡ isIdentifier a
+  pub identifier-quad : (eqb (quadAt a 8) (quadOf 0 0 0x5E 0xFE) || eqb (quadAt a 8) (quadOf 2 0 0x5E 0xFE)) ≡ isIdentifier a
   unfolding isIdentifier
   identifier-quad =
       rw (
-        quad-is 8 0 0 94 254 (omega arith) (omega arith) (omega arith),
-        quad-is 8 2 0 94 254 (omega arith) (omega arith) (omega arith),
+        quad-is 8 0 0 0x5E 0xFE (omega arith) (omega arith) (omega arith),
+        quad-is 8 2 0 0x5E 0xFE (omega arith) (omega arith) (omega arith),
         either-first,
       )
 
@@ -115,26 +115,26 @@ module _ (a : List ℕ) (byte : (i : ℕ) → Fits w8 (getD a i 0)) where
   last-fits = quad-fits 12
 
   -- fe80::/64 as one number
-  pub prefix-wide : eqb (wideOf (quadAt a 0) (quadAt a 4)) (wideOf (quadOf 254 128 0 0) 0) ≡ isLinkLocal a
+  pub prefix-wide : eqb (wideOf (quadAt a 0) (quadAt a 4)) (wideOf (quadOf 0xFE 0x80 0 0) 0) ≡ isLinkLocal a
   unfolding isUnder
   prefix-wide =
       rw (
-        wide-same (quadAt a 0) (quadAt a 4) (quadOf 254 128 0 0) 0 (quad-fits 4) (omega arith),
-        swapped (quadAt a 0) (quadOf 254 128 0 0),
+        wide-same (quadAt a 0) (quadAt a 4) (quadOf 0xFE 0x80 0 0) 0 (quad-fits 4) (omega arith),
+        swapped (quadAt a 0) (quadOf 0xFE 0x80 0 0),
         swapped (quadAt a 4) 0,
-        quad-same 254 128 0 0 _ _ _ _ (omega arith) (omega arith) (omega arith) (byte 1 .fits) (byte 2 .fits) (byte 3 .fits),
+        quad-same 0xFE 0x80 0 0 _ _ _ _ (omega arith) (omega arith) (omega arith) (byte 1 .fits) (byte 2 .fits) (byte 3 .fits),
         quad-same 0 0 0 0 _ _ _ _ (omega arith) (omega arith) (omega arith) (byte 5 .fits) (byte 6 .fits) (byte 7 .fits),
         groups,
       )
 
   -- the identifier and the embedded address as one number
   pub identifier-wide : (v : ℕ) → v < 4294967296
-      → (eqb (wideOf (quadAt a 8) (lastQuad a)) (wideOf (quadOf 0 0 94 254) v) || eqb (wideOf (quadAt a 8) (lastQuad a)) (wideOf (quadOf 2 0 94 254) v))
+      → (eqb (wideOf (quadAt a 8) (lastQuad a)) (wideOf (quadOf 0 0 0x5E 0xFE) v) || eqb (wideOf (quadAt a 8) (lastQuad a)) (wideOf (quadOf 2 0 0x5E 0xFE) v))
       ≡ (isIdentifier a && eqb (lastQuad a) v)
   identifier-wide v h =
       rw (
-        wide-same (quadAt a 8) (lastQuad a) (quadOf 0 0 94 254) v last-fits h,
-        wide-same (quadAt a 8) (lastQuad a) (quadOf 2 0 94 254) v last-fits h,
+        wide-same (quadAt a 8) (lastQuad a) (quadOf 0 0 0x5E 0xFE) v last-fits h,
+        wide-same (quadAt a 8) (lastQuad a) (quadOf 2 0 0x5E 0xFE) v last-fits h,
         ← and-or-distrib-right,
         identifier-quad,
       )

@@ -3,18 +3,26 @@ use Prim.Native.Nat.{ℕ, zero, suc, _+_, _*_, _/_, _%_}
 use mathlib.Core.Bool.{Bool, true, cond, _&&_, _||_}
 use mathlib.Core.List.{List, [], _∷_}
 use lib.ListN.{getD, take}
-use lib.Dec.{eqb}
+use lib.Dec.{eqb, leb}
 use Rattle.lists.specs.Any.{anyOf}
 use Rattle.address.specs.declared.Embedded.{Embedded}
 use Rattle.address.specs.declared.Embedded.the-variants.{Ipv4, Nothing}
 
--- document 01, "Settings": 0.0.0.0, 127.0.0.0/8, 224.0.0.0/4, 255.255.255.255
-unfoldable pub isForbidden : ℕ → Bool
-isForbidden a = eqb a 0 || eqb (a / 16777216) 127 || eqb (a / 268435456) 14 || eqb a 4294967295
-
 -- four bytes as one number, big-endian
 abbrev pub quadOf : ℕ → ℕ → ℕ → ℕ → ℕ
 quadOf a b c d = a * 16777216 + b * 65536 + c * 256 + d
+
+-- the number is in the range, ends included
+abbrev pub isWithin : ℕ → ℕ → ℕ → Bool
+isWithin low high a = leb low a && leb a high
+
+-- document 01, "Settings": 0.0.0.0, 127.0.0.0/8, 224.0.0.0/4, 255.255.255.255
+unfoldable pub isForbidden : ℕ → Bool
+isForbidden a =
+    eqb a (quadOf 0 0 0 0)
+    || (isWithin (quadOf 127 0 0 0) (quadOf 127 255 255 255) a
+    || (isWithin (quadOf 224 0 0 0) (quadOf 239 255 255 255) a
+    || eqb a (quadOf 255 255 255 255)))
 
 -- two numbers of 32 bits as one of 64, the first the higher
 abbrev pub wideOf : ℕ → ℕ → ℕ
@@ -35,7 +43,7 @@ isUnder a p = agree 8 p a
 
 -- fe80::/64
 abbrev pub linkLocalPrefix : List ℕ
-linkLocalPrefix = 254 ∷ 128 ∷ 0 ∷ 0 ∷ 0 ∷ 0 ∷ 0 ∷ 0 ∷ []
+linkLocalPrefix = 0xFE ∷ 0x80 ∷ 0 ∷ 0 ∷ 0 ∷ 0 ∷ 0 ∷ 0 ∷ []
 
 -- document 01, "Routers": link-local (fe80::/64)
 abbrev pub isLinkLocal : List ℕ → Bool
@@ -48,7 +56,7 @@ isOnLink prefixes count a = isLinkLocal a || anyOf (isUnder a) (take count prefi
 -- document 01, "Receiving": behind the prefix 00 or 02, 00, 5E, FE
 unfoldable pub isIdentifier : List ℕ → Bool
 isIdentifier a =
-    (eqb (getD a 8 0) 0 || eqb (getD a 8 0) 2) && eqb (getD a 9 0) 0 && eqb (getD a 10 0) 94 && eqb (getD a 11 0) 254
+    (eqb (getD a 8 0) 0x00 || eqb (getD a 8 0) 0x02) && eqb (getD a 9 0) 0x00 && eqb (getD a 10 0) 0x5E && eqb (getD a 11 0) 0xFE
 
 -- document 01, "Receiving": an ISATAP address has an on-link prefix, the identifier, and then the IPv4 address
 unfoldable pub embeddedIn : List (List ℕ) → ℕ → List ℕ → Embedded
@@ -65,7 +73,7 @@ firstIdentifierByte = 0
 -- the link-local ISATAP address that we form: fe80::5efe:a
 unfoldable pub linkLocalOf : ℕ → List ℕ
 linkLocalOf a =
-    254 ∷ 128 ∷ 0 ∷ 0 ∷ 0 ∷ 0 ∷ 0 ∷ 0 ∷ firstIdentifierByte ∷ 0 ∷ 94 ∷ 254
+    0xFE ∷ 0x80 ∷ 0 ∷ 0 ∷ 0 ∷ 0 ∷ 0 ∷ 0 ∷ firstIdentifierByte ∷ 0x00 ∷ 0x5E ∷ 0xFE
     ∷ a / 16777216 ∷ a / 65536 % 256 ∷ a / 256 % 256 ∷ a % 256 ∷ []
 
 -- the first n bytes are 0
@@ -75,7 +83,7 @@ areZero (suc n) a = areZero n a && eqb (getD a n 0) 0
 
 -- ff00::/8
 abbrev pub isMulticast : List ℕ → Bool
-isMulticast a = eqb (getD a 0 0) 255
+isMulticast a = eqb (getD a 0 0) 0xFF
 
 -- document 01, "Sending" and "Settings": multicast, or `::`
 unfoldable pub isMulticastOrUnspecified : List ℕ → Bool

@@ -25,7 +25,9 @@ pub enum Embedded {
 pub fn forbidden(a: u32) -> bool
     ensures { λ r. ⌜ r ≡ isForbidden a ⌝ }
 {
-    (a == 0) | (a / 16777216 == 127) | (a / 268435456 == 14) | (a == 4294967295)
+    (a == 0)
+        | (((0x7f000000 <= a) & (a <= 0x7fffffff))
+            | (((0xe0000000 <= a) & (a <= 0xefffffff)) | (a == 0xffffffff)))
 }
 
 // Four bytes as a number, the first the highest.

@@ -9,17 +9,23 @@ use lib.ListN.{length}
 use lib.Dec.{ltb}
 use Rattle.refusals.specs.declared.Refusal.{Refusal}
 use Rattle.refusals.specs.declared.Refusal.the-variants.{OutputShort, NoRouterDue}
-use Rattle.messages.specs.Icmp.{solicitationLength}
-use Rattle.routers.specs.Routers.{live, nextOf}
+use Rattle.address.specs.Address.{linkLocalOf}
+use Rattle.lent.specs.Written.{written}
+use Rattle.messages.specs.Icmp.{icmpSum, icmpMessage, icmpPacket, solicitationOf, solicitationLength}
+use Rattle.routers.specs.Routers.{live, nextOf, rescheduledOf}
+use Rattle.routers.specs.Facts.{NoneIsDue, OnlyDue}
+use Rattle.routers.proofs.Due.{earliest-due, due-earliest, none-due, due-none, only-due}
 use Rattle.routers.specs.declared.RouterList.{RouterList}
 use Rattle.routers.specs.declared.Next.{Next}
 use Rattle.routers.specs.declared.Next.the-variants.{Due, NoneDue}
 use Rattle.settings.specs.Locators.{locatorFound}
+use Rattle.settings.specs.Facts.{LocatorAt}
+use Rattle.settings.proofs.Facts.{found-locator, locator-found}
 use Rattle.settings.specs.declared.Settings.{Settings}
 use Rattle.settings.specs.declared.locators.Found.{Found}
 use Rattle.settings.specs.declared.locators.Found.the-variants.{Address, Nothing}
 use Rattle.asking.specs.Ask.{planFor, askPlan, carriedOut, plannedOutput, askedOf, askedOutput}
-use Rattle.asking.specs.Answered.{Answered}
+use Rattle.asking.specs.Facts.{MayAsk, solicitationBytes, AskedExactly}
 use Rattle.asking.specs.declared.AskAnswer.the-variants.{Router, Refused}
 use Rattle.asking.specs.declared.Plan.{Plan}
 use Rattle.asking.specs.declared.Plan.the-variants.{Ask, Refuse}
@@ -46,12 +52,12 @@ unfolding askPlan
 room-planned s routers now number room {p} {from} {router} e h =
     planned (locatorFound (s .locators) (s .«locator_count») number) (nextOf now (live routers)) room from router (sym e ∙ h) .2
 
--- 22 is given only if no router is due
-none-planned : (found : Found) (next : Next) (room : ℕ) → planFor found next room ≡ Refuse NoRouterDue → next ≡ NoneDue
+-- 22 is given only from a locator that there is, if no router is due
+none-planned : (found : Found) (next : Next) (room : ℕ) → planFor found next room ≡ Refuse NoRouterDue → ((from : ℕ) × (found ≡ Address from)) × (next ≡ NoneDue)
 unfolding planFor
-none-planned Nothing next room h = cc
-none-planned (Address f) NoneDue room h = refl
-none-planned (Address f) (Due a) room h = never (ltb room solicitationLength) h
+none-planned Nothing next room h = let z : _≡_ {A = ℕ} 0 1 = cc in absurd (omega arith)
+none-planned (Address f) NoneDue room h = ((f, refl), refl)
+none-planned (Address f) (Due a) room h = ((f, refl), never (ltb room solicitationLength) h)
   where
     never : (short : Bool) → cond short (Refuse OutputShort) (Ask f a) ≡ Refuse NoRouterDue → Due a ≡ NoneDue
     never true h = cc
@@ -74,6 +80,14 @@ refused-plan : (p : Plan) (due : ℕ) (routers : RouterList) (out : List ℕ) (r
 refused-plan (Ask f a) due routers out r h = (cc, cc)
 refused-plan (Refuse x) due routers out r h = (refl, refl)
 
+-- the definitions that an answered asking went by, for the laws over lists of calls
+pub record AskedNext (s : Settings) (routers : RouterList) (now number : ℕ) (out : List ℕ) (router : ℕ) : Type 0 where
+  pub from : ℕ
+  pub locator : locatorFound (s .locators) (s .«locator_count») number ≡ Address from
+  pub next : nextOf now (live routers) ≡ Due router
+  pub long : solicitationLength ≤ length out
+  pub rescheduled : askedOf s routers now number (length out) .routers ≡ rescheduledOf router (now + s .interval) routers
+
 module _ (s : Settings) (routers : RouterList) (now number : ℕ) (out : List ℕ) where
   -- after a refusal the router list and the output are as before
   pub refused-unchanged : (r : Refusal) → askedOf s routers now number (length out) .answer ≡ Refused r
@@ -81,32 +95,61 @@ module _ (s : Settings) (routers : RouterList) (now number : ℕ) (out : List �
   unfolding askedOf askedOutput
   refused-unchanged r h = refused-plan (askPlan s routers now number (length out)) (now + s .interval) routers out r h
 
-  -- after 22 no router is due
-  pub refused-none-due : askedOf s routers now number (length out) .answer ≡ Refused NoRouterDue → nextOf now (live routers) ≡ NoneDue
+  -- what an answered asking passed, and what it leaves
+  pub answered-next : (router : ℕ) → askedOf s routers now number (length out) .answer ≡ Router router → AskedNext s routers now number out router
   unfolding askedOf askPlan
-  refused-none-due h =
-      none-planned (locatorFound (s .locators) (s .«locator_count») number) (nextOf now (live routers)) (length out)
-      (asked-refused (askPlan s routers now number (length out)) (now + s .interval) routers NoRouterDue h)
-
-  -- an asking names a router only if it is the next one, the locator is there and a solicitation fits
-  pub answered-only-if : (router : ℕ) → askedOf s routers now number (length out) .answer ≡ Router router → Answered s routers now number out router
-  unfolding askedOf askedOutput askPlan
-  answered-only-if router h =
+  answered-next router h =
       let found = locatorFound (s .locators) (s .«locator_count») number in
-      let p = askPlan s routers now number (length out) in
-      let f = asked-from p (now + s .interval) routers router h in
+      let f = asked-from (askPlan s routers now number (length out)) (now + s .interval) routers router h in
       let w = planned found (nextOf now (live routers)) (length out) (f .from) router (f .is) in
       record {
         from = f .from;
         locator = w .0;
         next = w .1;
-        room = w .2;
+        long = w .2;
         rescheduled = ap (λ (q : Plan). carriedOut q (now + s .interval) routers .routers) (f .is);
-        output = ap (λ (q : Plan). plannedOutput q out) (f .is);
       }
 
-  -- and then it does
-  pub answered-if : (from router : ℕ) → locatorFound (s .locators) (s .«locator_count») number ≡ Address from → nextOf now (live routers) ≡ Due router
-      → solicitationLength ≤ length out → askedOf s routers now number (length out) .answer ≡ Router router
+  only-if : (router : ℕ) → askedOf s routers now number (length out) .answer ≡ Router router → (from : ℕ) × MayAsk s routers now number (length out) from router
+  only-if router h =
+      let n = answered-next router h in
+      (n .from, record { locator = found-locator s number (n .from) (n .locator); next = earliest-due now router (live routers) (n .next); long = n .long })
+
+  module _ (from router : ℕ) (m : MayAsk s routers now number (length out) from router) where
+    plan : askPlan s routers now number (length out) ≡ Ask from router
+    unfolding askPlan planFor
+    plan = rw (locator-found s number from (m .locator), due-earliest now router (live routers) (m .next), le-ltb (length out) solicitationLength (m .long))
+
+    whenever : askedOf s routers now number (length out) .answer ≡ Router router
+    unfolding askedOf
+    whenever = ap (λ (q : Plan). carriedOut q (now + s .interval) routers .answer) plan
+
+    output : askedOutput s routers now number out ≡ written (solicitationBytes from router) out
+    unfolding askedOutput solicitationOf icmpPacket icmpMessage icmpSum linkLocalOf
+    output = ap (λ (q : Plan). plannedOutput q out) plan
+
+    due : OnlyDue routers router (now + s .interval) (askedOf s routers now number (length out) .routers)
+    unfolding askedOf
+    due = rw plan (only-due routers router (now + s .interval))
+
+  none-due-found : askedOf s routers now number (length out) .answer ≡ Refused NoRouterDue → ((from : ℕ) × LocatorAt s number from) × NoneIsDue now (live routers)
+  unfolding askedOf askPlan
+  none-due-found h =
+      let found = locatorFound (s .locators) (s .«locator_count») number in
+      let p = asked-refused (askPlan s routers now number (length out)) (now + s .interval) routers NoRouterDue h in
+      let n = none-planned found (nextOf now (live routers)) (length out) p in
+      ((n .0 .0, found-locator s number (n .0 .0) (n .0 .1)), none-due now (live routers) (n .1))
+
+  when-none-due : (from : ℕ) → LocatorAt s number from → NoneIsDue now (live routers) → askedOf s routers now number (length out) .answer ≡ Refused NoRouterDue
   unfolding askedOf askPlan planFor
-  answered-if from router f n room = rw (f, n, le-ltb (length out) solicitationLength room)
+  when-none-due from l n = rw (locator-found s number from l, due-none now (live routers) n)
+
+  pub asked-exactly : AskedExactly s routers now number out
+  asked-exactly = record {
+    onlyIf = only-if;
+    whenever = whenever;
+    output = output;
+    due = due;
+    noneDue = none-due-found;
+    whenNoneDue = when-none-due;
+  }

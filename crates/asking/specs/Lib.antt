@@ -1,2 +1,2 @@
 pub mod Ask
-pub mod Answered
+pub mod Facts

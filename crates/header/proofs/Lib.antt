@@ -1,5 +1,6 @@
 pub mod OuterLaws
 pub mod InnerLaws
+pub mod DrawsLaws
 pub mod Padded
 pub mod WriterLaws
 pub mod Right

@@ -11,6 +11,7 @@ use Rattle.refusals.specs.declared.Refusal.{Refusal}
 use Rattle.refusals.specs.declared.Refusal.the-variants.{OuterMalformed, OuterChecksum, OtherProtocol, Piece}
 use Rattle.refusals.specs.declared.Check.{Check}
 use Rattle.refusals.specs.declared.Check.the-variants.{Pass, Stop}
+use Rattle.header.specs.Numbers.{outerHeader, ipv6}
 use Rattle.header.specs.Fields.{wordAt, quadAt}
 use Rattle.header.specs.declared.outer.Outer.{Outer}
 use Rattle.header.specs.declared.outer.OuterRead.{OuterRead}
@@ -32,9 +33,9 @@ outerOf d = record {
 -- the header or above the bytes
 unfoldable pub isOuterMalformed : ℕ → Outer → Bool
 isOuterMalformed n o =
-    ltb n 20
+    ltb n outerHeader
     || not (eqb (o .version) 4)
-    || ltb (o .header) 20
+    || ltb (o .header) outerHeader
     || ltb n (o .header)
     || ltb (o .total) (o .header)
     || ltb n (o .total)
@@ -49,7 +50,7 @@ headerRows n d o = (isOuterMalformed n o, OuterMalformed) ∷ ((isSumWrong d o, 
 
 -- 4: the protocol is not 41
 abbrev pub protocolRows : Outer → List (Bool × Refusal)
-protocolRows o = (not (eqb (o .protocol) 41), OtherProtocol) ∷ []
+protocolRows o = (not (eqb (o .protocol) ipv6), OtherProtocol) ∷ []
 
 -- 5, a piece: more-fragments set or offset not 0
 abbrev pub pieceRows : Outer → List (Bool × Refusal)
@@ -82,4 +83,4 @@ quoteOf m = drop 8 m
 
 -- document 01, "Path size", of 16: the quoted header not version 4, under 5 words or cut off
 unfoldable pub isQuoteMalformed : ℕ → Outer → Bool
-isQuoteMalformed n o = not (eqb (o .version) 4) || ltb (o .header) 20 || ltb n (o .header)
+isQuoteMalformed n o = not (eqb (o .version) 4) || ltb (o .header) outerHeader || ltb n (o .header)

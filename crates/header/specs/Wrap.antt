@@ -11,6 +11,7 @@ use Rattle.refusals.specs.Given.{Given, answered, refused}
 use Rattle.refusals.specs.declared.Refusal.the-variants.{WrappedTooLong, OutputShort}
 use Rattle.refusals.specs.declared.Check.{Check}
 use Rattle.refusals.specs.declared.Check.the-variants.{Pass, Stop}
+use Rattle.header.specs.Numbers.{outerHeader}
 use Rattle.header.specs.declared.wrap.OuterFields.{OuterFields}
 use Rattle.header.specs.declared.wrap.Written.{Written}
 use Rattle.header.specs.declared.wrap.Written.the-variants.{Length, Refused}
@@ -27,7 +28,7 @@ be32 x s = x / 16777216 ∷ (x / 65536 % 256 ∷ (x / 256 % 256 ∷ (x % 256 ∷
 -- offset 0, TTL, protocol
 abbrev pub outerFront : ℕ → OuterFields → List ℕ
 outerFront total h =
-    69 ∷ (0 ∷ be16 total (be16 (h .identification) (cond (h .«dont_fragment») 64 0 ∷ (0 ∷ (h .ttl ∷ (h .protocol ∷ []))))))
+    0x45 ∷ (0 ∷ be16 total (be16 (h .identification) (cond (h .«dont_fragment») 0x40 0 ∷ (0 ∷ (h .ttl ∷ (h .protocol ∷ []))))))
 
 -- the header behind its checksum: source and destination
 abbrev pub outerBack : OuterFields → List ℕ
@@ -43,11 +44,15 @@ outerBytes total h = outerWith total h (onesComplement (onesSum (outerWith total
 
 -- the packet behind its outer header
 unfoldable pub wrapped : OuterFields → List ℕ → List ℕ
-wrapped h packet = outerBytes (20 + length packet) h ++ packet
+wrapped h packet = outerBytes (outerHeader + length packet) h ++ packet
+
+-- an IPv4 total length has 16 bits
+abbrev pub longestTotal : ℕ
+longestTotal = 65535
 
 -- 23, then 15, for a packet of n bytes
 unfoldable pub wrapCheck : ℕ → ℕ → Check
-wrapCheck n room = firstOf ((ltb 65535 (20 + n), WrappedTooLong) ∷ ((ltb room (20 + n), OutputShort) ∷ []))
+wrapCheck n room = firstOf ((ltb longestTotal (outerHeader + n), WrappedTooLong) ∷ ((ltb room (outerHeader + n), OutputShort) ∷ []))
 
 -- document 01's number and values: the length written
 abbrev pub writtenGiven : Written → Given
@@ -65,7 +70,7 @@ writerOutput Pass w out = written w out
 writerOutput (Stop refusal) w out = out
 
 unfoldable pub wrapAnswer : ℕ → ℕ → Written
-wrapAnswer n room = writerAnswer (wrapCheck n room) (20 + n)
+wrapAnswer n room = writerAnswer (wrapCheck n room) (outerHeader + n)
 
 unfoldable pub wrapOutput : OuterFields → List ℕ → List ℕ → List ℕ
 wrapOutput h packet out = writerOutput (wrapCheck (length packet) (length out)) (wrapped h packet) out

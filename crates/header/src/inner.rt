@@ -1,8 +1,11 @@
 // The inner IPv6 header, read and judged.
+use crate::ICMPV6;
+use crate::INNER_HEADER;
 use crate::fields;
 ghost use mathlib.Core.Path.{_≡_};
 ghost use Prim.Native.Nat.{_≤_};
 ghost use lib.ListN.{length};
+ghost use Rattle.header.specs.Numbers.{innerHeader};
 ghost use Rattle.header.specs.Inner.{innerOf, isInnerMalformed, isPacketMalformed, innerPacketOf, mayDrawError};
 
 // The fields of an IPv6 header.
@@ -18,7 +21,7 @@ pub struct Inner {
 pub fn inner_header(p: &[u8]) -> Inner
     ensures { λ r. ⌜ r ≡ innerOf (now (p .entry)) ⌝ }
 {
-    if p.len() < 40 {
+    if p.len() < INNER_HEADER {
         short_header(p)
     } else {
         full_header(p)
@@ -27,14 +30,14 @@ pub fn inner_header(p: &[u8]) -> Inner
 
 // One test of the length stands for all of its reads.
 fn full_header(p: &[u8]) -> Inner
-    requires { ⌜ 40 ≤ length (now p) ⌝ }
+    requires { ⌜ innerHeader ≤ length (now p) ⌝ }
     ensures { λ r. ⌜ r ≡ innerOf (now (p .entry)) ⌝ }
 {
     let payload = fields::pair(p[4], p[5]);
     let source = fields::address(p, 8);
     Inner {
         version: p[0] / 16,
-        length: 40 + payload as usize,
+        length: INNER_HEADER + payload as usize,
         next: p[6],
         hop: p[7],
         source,
@@ -43,10 +46,10 @@ fn full_header(p: &[u8]) -> Inner
 
 // What is not there reads as 0. The compiler sees that a header under 40 bytes is refused whatever its fields are.
 fn short_header(p: &[u8]) -> Inner
-    requires { ⌜ length (now p) ≤ 40 ⌝ }
+    requires { ⌜ length (now p) ≤ innerHeader ⌝ }
     ensures { λ r. ⌜ r ≡ innerOf (now (p .entry)) ⌝ }
 {
-    let mut padded = [0; 40];
+    let mut padded = [0; INNER_HEADER];
     bytes::copy(p, &mut padded);
     full_header(&padded)
 }
@@ -55,14 +58,14 @@ fn short_header(p: &[u8]) -> Inner
 pub fn inner_malformed(n: usize, i: Inner) -> bool
     ensures { λ r. ⌜ r ≡ isInnerMalformed n i ⌝ }
 {
-    (n < 40) | (i.version != 6) | (n < i.length)
+    (n < INNER_HEADER) | (i.version != 6) | (n < i.length)
 }
 
 // Number 8 as in sending, of n bytes: none may stand behind the packet.
 pub fn packet_malformed(n: usize, i: Inner) -> bool
     ensures { λ r. ⌜ r ≡ isPacketMalformed n i ⌝ }
 {
-    (n < 40) | (i.version != 6) | (n != i.length)
+    (n < INNER_HEADER) | (i.version != 6) | (n != i.length)
 }
 
 // The inner packet at the start of p, empty where it is malformed.
@@ -82,8 +85,8 @@ pub fn may_draw_error(p: &[u8]) -> bool
     ensures { λ r. ⌜ r ≡ mayDrawError (now (p .entry)) ⌝ }
 {
     let next = fields::byte(p, 6);
-    let kind = fields::byte(p, 40);
+    let kind = fields::byte(p, INNER_HEADER);
     let source = fields::address(p, 8);
-    let error = (next == 58) & (40 < p.len()) & ((kind < 128) | (kind == 137));
+    let error = (next == ICMPV6) & (INNER_HEADER < p.len()) & ((kind < 128) | (kind == 137));
     !(address::multicast_or_unspecified(source) | error)
 }

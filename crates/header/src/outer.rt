@@ -1,10 +1,13 @@
 // The outer IPv4 header, read and judged; and the IPv4 header that a size report quotes.
+use crate::IPV6;
+use crate::OUTER_HEADER;
 use crate::fields;
 use refusals::Check;
 use refusals::Refusal;
 ghost use mathlib.Core.Path.{_≡_};
 ghost use Prim.Native.Nat.{_≤_};
 ghost use lib.ListN.{length};
+ghost use Rattle.header.specs.Numbers.{outerHeader};
 ghost use Rattle.header.specs.Outer.{outerOf, isOuterMalformed, isSumWrong, outerCheck, outerGiven, outerReadOf, payloadOf, quoteOf, isQuoteMalformed};
 
 // The fields of an IPv4 header, lengths in bytes.
@@ -39,7 +42,7 @@ impl OuterRead {
 pub fn outer_header(d: &[u8]) -> Outer
     ensures { λ r. ⌜ r ≡ outerOf (now (d .entry)) ⌝ }
 {
-    if d.len() < 20 {
+    if d.len() < OUTER_HEADER {
         short_header(d)
     } else {
         full_header(d)
@@ -48,7 +51,7 @@ pub fn outer_header(d: &[u8]) -> Outer
 
 // One test of the length stands for all of its reads.
 fn full_header(d: &[u8]) -> Outer
-    requires { ⌜ 20 ≤ length (now d) ⌝ }
+    requires { ⌜ outerHeader ≤ length (now d) ⌝ }
     ensures { λ r. ⌜ r ≡ outerOf (now (d .entry)) ⌝ }
 {
     let first = d[0];
@@ -69,10 +72,10 @@ fn full_header(d: &[u8]) -> Outer
 
 // What is not there reads as 0. The compiler sees that a header under 20 bytes is refused whatever its fields are.
 fn short_header(d: &[u8]) -> Outer
-    requires { ⌜ length (now d) ≤ 20 ⌝ }
+    requires { ⌜ length (now d) ≤ outerHeader ⌝ }
     ensures { λ r. ⌜ r ≡ outerOf (now (d .entry)) ⌝ }
 {
-    let mut padded = [0; 20];
+    let mut padded = [0; OUTER_HEADER];
     bytes::copy(d, &mut padded);
     full_header(&padded)
 }
@@ -81,9 +84,9 @@ fn short_header(d: &[u8]) -> Outer
 pub fn malformed(n: usize, o: Outer) -> bool
     ensures { λ r. ⌜ r ≡ isOuterMalformed n o ⌝ }
 {
-    (n < 20)
+    (n < OUTER_HEADER)
         | (o.version != 4)
-        | (o.header < 20)
+        | (o.header < OUTER_HEADER)
         | (n < o.header)
         | (o.total < o.header)
         | (n < o.total)
@@ -107,7 +110,7 @@ pub fn check_outer(n: usize, d: &[u8], o: Outer) -> Check
     if sum_wrong(d, o) {
         return Check::Stop(Refusal::OuterChecksum);
     }
-    if o.protocol != 41 {
+    if o.protocol != IPV6 {
         return Check::Stop(Refusal::OtherProtocol);
     }
     if o.fragment != 0 {
@@ -120,7 +123,7 @@ pub fn check_outer(n: usize, d: &[u8], o: Outer) -> Check
 pub fn read_outer(d: &[u8]) -> OuterRead
     ensures { λ r. ⌜ r ≡ outerReadOf (now (d .entry)) ⌝ }
 {
-    if d.len() < 20 {
+    if d.len() < OUTER_HEADER {
         return OuterRead::Refused(Refusal::OuterMalformed);
     }
     let o = full_header(d);
@@ -151,5 +154,5 @@ pub fn quote(m: &[u8]) -> &[u8]
 pub fn quote_malformed(n: usize, o: Outer) -> bool
     ensures { λ r. ⌜ r ≡ isQuoteMalformed n o ⌝ }
 {
-    (o.version != 4) | (o.header < 20) | (n < o.header)
+    (o.version != 4) | (o.header < OUTER_HEADER) | (n < o.header)
 }

@@ -1,4 +1,5 @@
 // A packet wrapped in an outer header.
+use crate::OUTER_HEADER;
 use crate::fields;
 use lent::place;
 use refusals::Refusal;
@@ -8,6 +9,9 @@ ghost use mathlib.Core.List.{[]};
 ghost use lib.ListN.{length};
 ghost use Rattle.checksum.specs.Sum.{onesSum};
 ghost use Rattle.header.specs.Wrap.{be16, be32, outerWith, outerBytes, writtenGiven, wrapAnswer, wrapOutput};
+
+// The longest packet that can be wrapped: an IPv4 total length has 16 bits.
+const LONGEST: usize = 65535 - OUTER_HEADER;
 
 // The fields of the outer header that the caller chooses, laid out as in C.
 #[repr(C)]
@@ -44,26 +48,26 @@ pub fn wrap(h: OuterFields, packet: &[u8], out: &mut [u8]) -> Written
     ensures { λ _. ⌜ now (out .exit) ≡ wrapOutput h (now (packet .entry)) (now (out .entry)) ⌝ }
 {
     let n = packet.len();
-    if 65515 < n {
+    if LONGEST < n {
         return Written::Refused(Refusal::WrappedTooLong);
     }
-    let total = 20 + n;
+    let total = OUTER_HEADER + n;
     if out.len() < total {
         return Written::Refused(Refusal::OutputShort);
     }
     let header = outer_bytes(total as u16, h);
     place(&header, out, 0);
-    place(packet, out, 20);
+    place(packet, out, OUTER_HEADER);
     Written::Length(total)
 }
 
 // The 20 bytes of an outer header of the total length, with their checksum. A number of several bytes is put in its place as
 // one array: so the compiler makes one store of it.
-pub fn outer_bytes(total: u16, h: OuterFields) -> [u8; 20]
+pub fn outer_bytes(total: u16, h: OuterFields) -> [u8; OUTER_HEADER]
     ensures { λ r. ⌜ r ≡ outerBytes total h ⌝ }
 {
     let sum = checksum::complement(header_sum(total, h));
-    let mut b = [0; 20];
+    let mut b = [0; OUTER_HEADER];
     b[0] = 0x45;
     b[6] = flags(h.dont_fragment);
     b[8] = h.ttl;

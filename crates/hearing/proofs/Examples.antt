@@ -10,9 +10,9 @@ use Rattle.header.specs.Fields.{wordAt, addressAt}
 use Rattle.header.specs.Inner.{innerOf}
 use Rattle.messages.specs.Icmp.{icmpSum}
 use Rattle.lifetimes.specs.Options.{optionSize, optionsFrom, areOptionsWhole}
-use Rattle.lifetimes.specs.Lifetimes.{lifetimeOf, counted, least, delayOf}
-use Rattle.hearing.specs.Message.{isSumRight, isValidMessage}
-use Rattle.hearing.specs.Heard.{isValidAdvertisement, dueFrom}
+use Rattle.lifetimes.specs.Lifetimes.{lifetimeOf, counted, leastOf, delayOf, dueAfter}
+use Rattle.hearing.specs.Message.{isSumRight, hasFields, isValidMessage}
+use Rattle.hearing.specs.Heard.{optionsIn, isValidAdvertisement}
 
 -- fe80::5efe:10.0.0.2 to fe80::5efe:10.0.0.1: router lifetime 1,800, and a prefix option with the valid lifetime 1,000
 abbrev sample : List ℕ
@@ -25,15 +25,15 @@ sample =
     ∷ 0 ∷ 0 ∷ 0 ∷ 0 ∷ 0 ∷ 0 ∷ 0 ∷ 0 ∷ []
 
 valid : isValidAdvertisement (innerOf sample) sample ≡ true
-unfolding isValidAdvertisement isValidMessage isSumRight innerOf wordAt addressAt isUnder icmpSum onesSumFrom areOptionsWhole optionsFrom optionSize flatten
+unfolding isValidMessage hasFields isSumRight innerOf wordAt addressAt isUnder icmpSum onesSumFrom areOptionsWhole optionsFrom optionSize flatten
 valid = refl
 
 -- with another hop limit, which the checksum does not cover, it is not valid
 passed-on : isValidAdvertisement (innerOf (set sample 7 254)) (set sample 7 254) ≡ false
-unfolding isValidAdvertisement isValidMessage isSumRight innerOf wordAt addressAt isUnder icmpSum onesSumFrom areOptionsWhole optionsFrom optionSize
+unfolding isValidMessage hasFields isSumRight innerOf wordAt addressAt isUnder icmpSum onesSumFrom areOptionsWhole optionsFrom optionSize
 passed-on = refl
 
 -- half of 1,000 seconds after it was heard its router is due
-due : dueFrom 2000 120 sample ≡ 2500
-unfolding dueFrom delayOf wordAt optionsFrom optionSize lifetimeOf counted least
+due : dueAfter 2000 120 (optionsIn sample .smallest) ≡ 2500
+unfolding delayOf wordAt optionsFrom optionSize lifetimeOf counted leastOf
 due = refl

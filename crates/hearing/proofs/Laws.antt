@@ -1,17 +1,18 @@
 -- An advertisement is accepted exactly if the rules hold; what an accepted and a refused one leave. Assumes nothing.
-use Prim.Native.Nat.{ℕ, _≤_}
-use mathlib.Core.Path.{_≡_, refl, ap, _∙_}
+use Prim.Native.Nat.{ℕ, _+_, _≤_}
+use mathlib.Core.Path.{_≡_, refl, sym, ap, subst, _∙_}
 use mathlib.Core.Bool.{Bool, true, false, cond}
 use mathlib.Core.List.{List}
 use native.Mathlib.Omega.{arith}
 use borrow.Author.Tests.{not-false}
-use lib.ListN.{length, take}
-use Rattle.checksum.proofs.Bytes.{Bytes, bytes-at}
+use lib.ListN.{length, take, drop}
+use Rattle.lists.proofs.Tests.{and-left, and-right}
 use Rattle.address.specs.Address.{isLinkLocal}
 use Rattle.address.specs.declared.Embedded.{Embedded}
 use Rattle.address.specs.declared.Embedded.the-variants.{Ipv4, Nothing}
-use Rattle.refusals.specs.Refusals.{firstOf}
-use Rattle.refusals.proofs.Laws.{all-false}
+use Rattle.address.proofs.Facts.{decides-link-local}
+use Rattle.refusals.specs.Refusals.{firstOf, stopOr}
+use Rattle.refusals.proofs.Laws.{all-false, stop-passed}
 use Rattle.refusals.specs.declared.Refusal.{Refusal}
 use Rattle.refusals.specs.declared.Refusal.the-variants.{AdvertiserNotListed}
 use Rattle.refusals.specs.declared.Check.{Check}
@@ -19,24 +20,25 @@ use Rattle.refusals.specs.declared.Check.the-variants.{Pass, Stop}
 use Rattle.header.specs.Fields.{wordAt}
 use Rattle.header.specs.Inner.{innerOf}
 use Rattle.header.proofs.InnerLaws.{inner-whole, whole-inner}
-use Rattle.header.specs.declared.inner.Inner.{Inner}
-use Rattle.lifetimes.specs.Lifetimes.{delayOf}
+use Rattle.lifetimes.specs.Options.{optionsOf}
+use Rattle.lifetimes.specs.Lifetimes.{withoutLifetime, delayOf, dueAfter}
+use Rattle.lifetimes.specs.Facts.{DueBy}
 use Rattle.lifetimes.proofs.PutOff.{interval-delay}
+use Rattle.lifetimes.proofs.Facts.{options-are-read, due-by}
 use Rattle.routers.specs.Routers.{live, listed, rescheduledOf}
+use Rattle.routers.specs.Facts.{OnlyDue}
 use Rattle.routers.specs.declared.RouterList.{RouterList}
+use Rattle.routers.proofs.Facts.{decides-listed}
+use Rattle.routers.proofs.Due.{only-due}
 use Rattle.settings.specs.Settings.{embeddedTo}
 use Rattle.settings.specs.declared.Settings.{Settings}
-use Rattle.hearing.specs.Message.{isValidMessage}
-use Rattle.hearing.specs.Heard.{advertisement, optionsStart, isValidAdvertisement, smallestFrom, dueFrom, refusedBy, heardOfRouter, heardFrom, heardRows, stopOr, heardOf}
-use Rattle.hearing.specs.Accepted.{Accepts, PutOff}
-use Rattle.hearing.proofs.MessageLaws.{both, message-rules, rules-message}
+use Rattle.settings.proofs.Facts.{embedded-to, isatap-to}
+use Rattle.hearing.specs.Message.{messageOf, isValidMessage}
+use Rattle.hearing.specs.Heard.{advertisement, optionsStart, optionsIn, refusedBy, heardOfRouter, heardFrom, heardRows, heardOf}
+use Rattle.hearing.specs.Facts.{ValidAdvertisement, routerLifetime, HeardExactly}
+use Rattle.hearing.proofs.MessageLaws.{message-rules, rules-message}
 use Rattle.hearing.specs.declared.HeardAnswer.the-variants.{Router, Refused}
 use Rattle.hearing.specs.declared.Heard.{Heard}
-
--- a packet of bytes has at least 40 bytes by its header, and at most 40 + 65,535
-pub length-bounds : (p : List ℕ) → Bytes p → {i : Inner} → i ≡ innerOf p → (40 ≤ i .length) × (i .length ≤ 65575)
-unfolding innerOf wordAt
-length-bounds p b e = rw e (omega arith, omega (arith, bytes-at p 4 b, bytes-at p 5 b))
 
 -- the last stage, of what the source embeds
 
@@ -64,15 +66,26 @@ module _ (routers : RouterList) (due : ℕ) where
 
 -- the stages before it
 
-passed : (c : Check) (routers : RouterList) (x : Heard) (a : ℕ) → stopOr c routers x .answer ≡ Router a
-    → (c ≡ Pass) × (x .answer ≡ Router a) × (stopOr c routers x .routers ≡ x .routers)
-passed Pass routers x a h = (refl, h, refl)
-passed (Stop r) routers x a h = (cc, cc, cc)
+passed : (c : Check) (routers : RouterList) (x : Heard) (a : ℕ) → stopOr (λ r. refusedBy r routers) c x .answer ≡ Router a
+    → (c ≡ Pass) × (x ≡ stopOr (λ r. refusedBy r routers) c x)
+passed c routers x a h =
+    let refuse : Refusal → Heard = λ r. refusedBy r routers in
+    let none : (r : Refusal) → refuse r ≡ stopOr refuse c x → ⊥ = λ r e. refused-not-router r a (ap (λ (y : Heard). y .answer) e ∙ h) in
+    stop-passed refuse c x (stopOr refuse c x) none refl
+  where
+    refused-not-router : (r : Refusal) (a : ℕ) → Refused r ≡ Router a → ⊥
+    refused-not-router r a e = let z : _≡_ {A = ℕ} 0 1 = cc in omega arith
 
 stopped : (c : Check) (routers : RouterList) (x : Heard) (r : Refusal) → (x .answer ≡ Refused r → x .routers ≡ routers)
-    → stopOr c routers x .answer ≡ Refused r → stopOr c routers x .routers ≡ routers
+    → stopOr (λ q. refusedBy q routers) c x .answer ≡ Refused r → stopOr (λ q. refusedBy q routers) c x .routers ≡ routers
 stopped Pass routers x r f h = f h
 stopped (Stop q) routers x r f h = refl
+
+-- an accepted advertisement puts its router, and no other, off, by the interval at least
+pub record PutOff (s : Settings) (routers : RouterList) (now : ℕ) (p : List ℕ) (router : ℕ) : Type 0 where
+  pub delay : ℕ
+  pub rescheduled : heardOf s routers now p .routers ≡ rescheduledOf router (now + delay) routers
+  pub interval : s .interval ≤ withoutLifetime → s .interval ≤ delay
 
 module _ (s : Settings) (routers : RouterList) (now : ℕ) (p : List ℕ) where
   -- after a refusal the router list is as before
@@ -80,9 +93,9 @@ module _ (s : Settings) (routers : RouterList) (now : ℕ) (p : List ℕ) where
   unfolding heardOf heardFrom
   refused-unchanged r h =
       let i = innerOf p in
-      let q = take (i .length) p in
-      stopped (firstOf (heardRows p)) routers (heardFrom s routers now (i .source) q) r
-      (router-unknown routers (dueFrom now (s .interval) q) (embeddedTo s (i .source)) r)
+      let smallest = optionsIn (take (i .length) p) .smallest in
+      stopped (firstOf (heardRows p)) routers (heardFrom s routers now (i .source) smallest) r
+      (router-unknown routers (dueAfter now (s .interval) smallest) (embeddedTo s (i .source)) r)
       h
 
   -- what an accepted advertisement passed, and what it leaves
@@ -90,51 +103,69 @@ module _ (s : Settings) (routers : RouterList) (now : ℕ) (p : List ℕ) where
       → (firstOf (heardRows p) ≡ Pass)
       × (embeddedTo s (innerOf p .source) ≡ Ipv4 router)
       × (listed router (live routers) ≡ true)
-      × (heardOf s routers now p .routers ≡ rescheduledOf router (dueFrom now (s .interval) (take (innerOf p .length) p)) routers)
+      × (heardOf s routers now p .routers ≡ rescheduledOf router (dueAfter now (s .interval) (optionsIn (take (innerOf p .length) p) .smallest)) routers)
   unfolding heardOf heardFrom
   accepted-parts router h =
       let i = innerOf p in
-      let q = take (i .length) p in
-      let g = passed (firstOf (heardRows p)) routers (heardFrom s routers now (i .source) q) router h in
-      let k = router-known routers (dueFrom now (s .interval) q) (embeddedTo s (i .source)) router (g .1) in
-      (g .0, k .0, k .1, g .2 ∙ k .2)
+      let smallest = optionsIn (take (i .length) p) .smallest in
+      let x = heardFrom s routers now (i .source) smallest in
+      let g = passed (firstOf (heardRows p)) routers x router h in
+      let k = router-known routers (dueAfter now (s .interval) smallest) (embeddedTo s (i .source)) router (ap (λ (y : Heard). y .answer) (g .1) ∙ h) in
+      (g .0, k .0, k .1, ap (λ (y : Heard). y .routers) (sym (g .1)) ∙ k .2)
 
   -- an advertisement is accepted only if the rules hold
-  pub accepted-only-if : (router : ℕ) → heardOf s routers now p .answer ≡ Router router → Accepts s routers now p router
-  unfolding isValidAdvertisement
+  accepted-only-if : (router : ℕ) → heardOf s routers now p .answer ≡ Router router → ValidAdvertisement s routers p router
   accepted-only-if router h =
       let i = innerOf p in
       let q = take (i .length) p in
       let g = accepted-parts router h in
       let f = all-false (heardRows p) (g .0) in
-      let v = both (isValidMessage advertisement optionsStart i q) (isLinkLocal (i .source)) (not-false _ (f .1 .0)) in
+      let v = not-false _ (f .1 .0) in
       record {
         whole = inner-whole (length p) i (f .0);
-        valid = message-rules advertisement optionsStart i q (v .0);
-        linkLocal = v .1;
-        embeds = g .1;
-        inList = g .2;
+        options = optionsOf (drop optionsStart (messageOf q));
+        valid = message-rules advertisement optionsStart i q (and-right (isLinkLocal (i .source)) (isValidMessage advertisement optionsStart i q) v);
+        linkLocal = decides-link-local (i .source) .holds (and-left (isLinkLocal (i .source)) (isValidMessage advertisement optionsStart i q) v);
+        embeds = embedded-to s (i .source) router (g .1);
+        inList = decides-listed router (live routers) .holds (g .2);
       }
 
   -- and whenever they hold
-  pub accepted-if : (router : ℕ) → Accepts s routers now p router → heardOf s routers now p .answer ≡ Router router
-  unfolding heardOf heardFrom isValidAdvertisement
+  accepted-if : (router : ℕ) → ValidAdvertisement s routers p router → heardOf s routers now p .answer ≡ Router router
+  unfolding heardOf heardFrom
   accepted-if router a =
       let i = innerOf p in
       let q = take (i .length) p in
       simp (
         whole-inner (length p) i (a .whole),
-        rules-message advertisement optionsStart i q (a .valid),
-        a .linkLocal,
-        a .embeds,
-        a .inList,
+        rules-message advertisement optionsStart i q (a .options) (a .valid),
+        decides-link-local (i .source) .passes (a .linkLocal),
+        isatap-to s (i .source) router (a .embeds),
+        decides-listed router (live routers) .passes (a .inList),
       )
 
-  -- an accepted advertisement puts its router off, by the interval at least
+  -- its router, and no other, is then due when the lifetimes say
+  accepted-due : (router : ℕ) (a : ValidAdvertisement s routers p router)
+      → (due : ℕ)
+      × DueBy now (s .interval) (routerLifetime (take (innerOf p .length) p)) (a .options) due
+      × OnlyDue routers router due (heardOf s routers now p .routers)
+  unfolding wordAt
+  accepted-due router a =
+      let q = take (innerOf p .length) p in
+      let bs = drop optionsStart (messageOf q) in
+      let due = dueAfter now (s .interval) (optionsIn q .smallest) in
+      let parts = accepted-parts router (accepted-if router a) in
+      let read = options-are-read bs (a .options) (a .valid .options) in
+      let by : DueBy now (s .interval) (routerLifetime q) (a .options) due =
+      subst (λ (os : List (List ℕ)). DueBy now (s .interval) (routerLifetime q) os due) (sym read) (due-by (routerLifetime q) (optionsOf bs) now (s .interval)) in
+      (due, by, subst (OnlyDue routers router due) (sym (parts .3)) (only-due routers router due))
+
+  pub heard-exactly : HeardExactly s routers now p
+  heard-exactly = record { onlyIf = accepted-only-if; whenever = accepted-if; due = accepted-due }
+
   pub accepted-puts-off : (router : ℕ) → heardOf s routers now p .answer ≡ Router router → PutOff s routers now p router
-  unfolding dueFrom
   accepted-puts-off router h =
-      let lifetime = smallestFrom (take (innerOf p .length) p) in
+      let lifetime = optionsIn (take (innerOf p .length) p) .smallest in
       record {
         delay = delayOf (s .interval) lifetime;
         rescheduled = accepted-parts router h .3;

@@ -1,3 +1,4 @@
 pub mod MessageLaws
+pub mod Stages
 pub mod Laws
 mod Examples

@@ -6,22 +6,21 @@ use lib.ListN.{length, take, drop}
 use Rattle.address.specs.Address.{isLinkLocal}
 use Rattle.address.specs.declared.Embedded.{Embedded}
 use Rattle.address.specs.declared.Embedded.the-variants.{Ipv4, Nothing}
-use Rattle.refusals.specs.Refusals.{firstOf}
+use Rattle.refusals.specs.Refusals.{firstOf, stopOr}
 use Rattle.refusals.specs.Given.{Given, answered, refused}
 use Rattle.refusals.specs.declared.Refusal.{Refusal}
 use Rattle.refusals.specs.declared.Refusal.the-variants.{InnerMalformed, AdvertisementInvalid, AdvertiserNotListed}
-use Rattle.refusals.specs.declared.Check.{Check}
-use Rattle.refusals.specs.declared.Check.the-variants.{Pass, Stop}
 use Rattle.header.specs.Fields.{wordAt}
 use Rattle.header.specs.Inner.{innerOf, isInnerMalformed}
 use Rattle.header.specs.declared.inner.Inner.{Inner}
 use Rattle.lifetimes.specs.Lifetimes.{optionsReadOf, dueAfter}
 use Rattle.lifetimes.specs.declared.Smallest.{Smallest}
+use Rattle.lifetimes.specs.declared.Options.{Options}
 use Rattle.routers.specs.Routers.{live, listed, rescheduledOf}
 use Rattle.routers.specs.declared.RouterList.{RouterList}
 use Rattle.settings.specs.Settings.{embeddedTo}
 use Rattle.settings.specs.declared.Settings.{Settings}
-use Rattle.hearing.specs.Message.{messageOf, isValidMessage}
+use Rattle.hearing.specs.Message.{messageOf, isSumRight, hasFields, isValidMessage}
 use Rattle.hearing.specs.declared.HeardAnswer.{HeardAnswer}
 use Rattle.hearing.specs.declared.HeardAnswer.the-variants.{Router, Refused}
 use Rattle.hearing.specs.declared.Heard.{Heard}
@@ -34,17 +33,17 @@ advertisement = 134
 abbrev pub optionsStart : ℕ
 optionsStart = 16
 
--- valid: the rules of a message of type 134, and a link-local source
-unfoldable pub isValidAdvertisement : Inner → List ℕ → Bool
-isValidAdvertisement i p = isValidMessage advertisement optionsStart i p && isLinkLocal (i .source)
+-- an advertisement, its options aside: a link-local source, the fields of a message of type 134, checksum right
+unfoldable pub isAdvertisement : Inner → List ℕ → Bool
+isAdvertisement i p = isLinkLocal (i .source) && hasFields advertisement optionsStart i p && isSumRight p
 
--- the smallest lifetime: the router's, which stands in the message's bytes 6 and 7 (RFC 4861, 4.2), or an option's
-abbrev pub smallestFrom : List ℕ → Smallest
-smallestFrom p = optionsReadOf (wordAt (messageOf p) 6) (drop optionsStart (messageOf p)) .smallest
+-- what the options say, with the router's lifetime, which stands in the message's bytes 6 and 7 (RFC 4861, 4.2)
+abbrev pub optionsIn : List ℕ → Options
+optionsIn p = optionsReadOf (wordAt (messageOf p) 6) (drop optionsStart (messageOf p))
 
--- "Due becomes now + the larger of the interval and half the smallest lifetime"
-unfoldable pub dueFrom : ℕ → ℕ → List ℕ → ℕ
-dueFrom now interval p = dueAfter now interval (smallestFrom p)
+-- valid: a link-local source, and the rules of a message of type 134
+abbrev pub isValidAdvertisement : Inner → List ℕ → Bool
+isValidAdvertisement i p = isLinkLocal (i .source) && isValidMessage advertisement optionsStart i p
 
 -- after a refusal the router list is as before
 abbrev pub refusedBy : Refusal → RouterList → Heard
@@ -56,9 +55,14 @@ heardOfRouter (Ipv4 a) routers due =
     cond (listed a (live routers)) (record { answer = Router a; routers = rescheduledOf a due routers }) (refusedBy AdvertiserNotListed routers)
 heardOfRouter Nothing routers due = refusedBy AdvertiserNotListed routers
 
--- the same of the source of a valid advertisement, in the packet p
-unfoldable pub heardFrom : Settings → RouterList → ℕ → List ℕ → List ℕ → Heard
-heardFrom s routers now source p = heardOfRouter (embeddedTo s source) routers (dueFrom now (s .interval) p)
+-- what comes of a valid advertisement from a source, with its smallest lifetime: 21, or its router's due time
+unfoldable pub heardFrom : Settings → RouterList → ℕ → List ℕ → Smallest → Heard
+heardFrom s routers now source smallest = heardOfRouter (embeddedTo s source) routers (dueAfter now (s .interval) smallest)
+
+-- 20, where its options are not whole
+unfoldable pub heardMessage : Settings → RouterList → ℕ → List ℕ → List ℕ → Heard
+heardMessage s routers now source p =
+    cond (optionsIn p .whole) (heardFrom s routers now source (optionsIn p .smallest)) (refusedBy AdvertisementInvalid routers)
 
 -- 8 as in receiving; 20: no valid advertisement in the 40 + payload length bytes
 abbrev pub heardRows : List ℕ → List (Bool × Refusal)
@@ -67,15 +71,11 @@ heardRows p =
     ∷ ((not (isValidAdvertisement (innerOf p) (take (innerOf p .length) p)), AdvertisementInvalid)
     ∷ [])
 
--- the refusal, if there is one; else what comes of the later stage
-abbrev pub stopOr : Check → RouterList → Heard → Heard
-stopOr Pass routers heard = heard
-stopOr (Stop refusal) routers heard = refusedBy refusal routers
-
 -- 8, 20 and then 21; bytes behind 40 + payload length are passed over
 unfoldable pub heardOf : Settings → RouterList → ℕ → List ℕ → Heard
 heardOf s routers now p =
-    stopOr (firstOf (heardRows p)) routers (heardFrom s routers now (innerOf p .source) (take (innerOf p .length) p))
+    stopOr (λ r. refusedBy r routers) (firstOf (heardRows p))
+    (heardFrom s routers now (innerOf p .source) (optionsIn (take (innerOf p .length) p) .smallest))
 
 -- document 01's number and values: the router's IPv4 address
 abbrev pub heardGiven : HeardAnswer → Given

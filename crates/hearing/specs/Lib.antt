@@ -1,3 +1,3 @@
 pub mod Message
 pub mod Heard
-pub mod Accepted
+pub mod Facts

@@ -30,14 +30,15 @@ messageOf p = drop 40 p
 unfoldable pub isSumRight : List ℕ → Bool
 isSumRight p = eqb (icmpSum (addressesOf p) (messageOf p)) allOnes
 
--- valid, of the type `kind`: next header 58, hop limit 255, checksum right, the type, code 0, ICMPv6 length at least `least`, options
--- walked one after another from there to the exact end, none of length 0
-unfoldable pub isValidMessage : ℕ → ℕ → Inner → List ℕ → Bool
-isValidMessage kind least i p =
+-- the fields of a message of the type `kind`: next header 58, hop limit 255, the type, code 0, ICMPv6 length at least `least`
+unfoldable pub hasFields : ℕ → ℕ → Inner → List ℕ → Bool
+hasFields kind least i p =
     eqb (i .next) icmp
     && eqb (i .hop) hopLimit
-    && isSumRight p
     && eqb (getD (messageOf p) 0 0) kind
     && eqb (getD (messageOf p) 1 0) 0
     && leb least (length (messageOf p))
-    && areOptionsWhole (drop least (messageOf p))
+
+-- valid: the fields, checksum right, options walked one after another from `least` on to the exact end, none of length 0
+unfoldable pub isValidMessage : ℕ → ℕ → Inner → List ℕ → Bool
+isValidMessage kind least i p = hasFields kind least i p && isSumRight p && areOptionsWhole (drop least (messageOf p))

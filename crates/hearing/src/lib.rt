@@ -4,14 +4,15 @@ use address::prefixes;
 use header::fields;
 use header::inner;
 use header::inner::Inner;
+use lifetimes::Smallest;
 use refusals::Refusal;
 use routers::RouterList;
 use settings::Settings;
 ghost use mathlib.Core.Path.{_≡_};
 ghost use Prim.Native.Nat.{_≤_};
 ghost use lib.ListN.{length};
-ghost use Rattle.hearing.specs.Message.{isSumRight, isValidMessage};
-ghost use Rattle.hearing.specs.Heard.{isValidAdvertisement, dueFrom, heardFrom, heardOf, heardGiven};
+ghost use Rattle.hearing.specs.Message.{isSumRight, hasFields};
+ghost use Rattle.hearing.specs.Heard.{isAdvertisement, refusedBy, heardFrom, heardMessage, heardOf, heardGiven};
 
 // ICMPv6 (RFC 4443, 2.1).
 const ICMP: u8 = 58;
@@ -57,73 +58,87 @@ fn sum_right(p: &[u8]) -> bool
     checksum::right_from((p.len() - 40 + ICMP as usize) as u32, &p[8..])
 }
 
-// Whether a packet with the header i is a valid neighbour discovery message of that type, with options from `least` on.
-fn valid_message(kind: u8, least: usize, i: Inner, p: &[u8]) -> bool
-    requires { ⌜ (40 ≤ length (now p)) × (length (now p) ≤ 65575) ⌝ }
-    ensures { λ r. ⌜ r ≡ isValidMessage kind least i (now (p .entry)) ⌝ }
+// Whether a packet with the header i has the fields of a neighbour discovery message of that type, with options from `least` on.
+fn fields_right(kind: u8, least: usize, i: Inner, p: &[u8]) -> bool
+    ensures { λ r. ⌜ r ≡ hasFields kind least i (now (p .entry)) ⌝ }
 {
     let message = fields::tail(p, 40);
-    let options = fields::tail(message, least);
     (i.next == ICMP)
         & (i.hop == HOP_LIMIT)
-        & sum_right(p)
         & (fields::byte(message, 0) == kind)
         & (fields::byte(message, 1) == 0)
         & (least <= message.len())
-        & lifetimes::options_whole(options)
 }
 
-// Whether a packet with the header i is a valid router advertisement.
-fn valid(i: Inner, p: &[u8]) -> bool
+// Whether a packet with the header i is a router advertisement, its options aside. The checksum, which takes a pass over all bytes,
+// is asked last.
+fn advertisement(i: Inner, p: &[u8]) -> bool
     requires { ⌜ (40 ≤ length (now p)) × (length (now p) ≤ 65575) ⌝ }
-    ensures { λ r. ⌜ r ≡ isValidAdvertisement i (now (p .entry)) ⌝ }
+    ensures { λ r. ⌜ r ≡ isAdvertisement i (now (p .entry)) ⌝ }
 {
     let source = i.source;
-    valid_message(ADVERTISEMENT, OPTIONS, i, p) & address::link_local_prefixed(source)
+    if address::link_local_prefixed(source) & fields_right(ADVERTISEMENT, OPTIONS, i, p) {
+        sum_right(p)
+    } else {
+        false
+    }
 }
 
-// When the router is due again that sends the advertisement at a time.
-fn due(time: u32, interval: u16, p: &[u8]) -> u64
-    ensures { λ r. ⌜ r ≡ dueFrom time interval (now (p .entry)) ⌝ }
+fn refused(refusal: Refusal, routers: RouterList) -> Heard
+    ensures { λ r. ⌜ r ≡ refusedBy refusal routers ⌝ }
 {
-    let message = fields::tail(p, 40);
-    let options = fields::tail(message, OPTIONS);
-    let read = lifetimes::options_read(fields::word(message, 6), options);
-    let smallest = read.smallest;
-    lifetimes::due_after(time, interval, smallest)
+    Heard {
+        answer: HeardAnswer::Refused(refusal),
+        routers,
+    }
 }
 
-// What comes of a valid advertisement from a source: 21, or its router's due time.
+// What comes of a valid advertisement from a source, with its smallest lifetime: 21, or its router's due time.
 fn hear_from(
     settings: Settings,
     routers: RouterList,
     time: u32,
     source: [u8; 16],
-    p: &[u8],
+    smallest: Smallest,
 ) -> Heard
-    ensures { λ r. ⌜ r ≡ heardFrom settings routers time source (now (p .entry)) ⌝ }
+    ensures { λ r. ⌜ r ≡ heardFrom settings routers time source smallest ⌝ }
 {
     let on_link = settings.prefixes;
     let found = address::isatap(prefixes::rows(on_link), settings.prefix_count, source);
     match found {
         Embedded::Ipv4(router) => {
             if routers.lists(router) {
-                let due = due(time, settings.interval, p);
+                let due = lifetimes::due_after(time, settings.interval, smallest);
                 let next = routers.rescheduled(router, due);
                 return Heard {
                     answer: HeardAnswer::Router(router),
                     routers: next,
                 };
             }
-            Heard {
-                answer: HeardAnswer::Refused(Refusal::AdvertiserNotListed),
-                routers,
-            }
+            refused(Refusal::AdvertiserNotListed, routers)
         }
-        Embedded::Nothing => Heard {
-            answer: HeardAnswer::Refused(Refusal::AdvertiserNotListed),
-            routers,
-        },
+        Embedded::Nothing => refused(Refusal::AdvertiserNotListed, routers),
+    }
+}
+
+// What comes of an advertisement from a source whose options are yet to be walked: they are walked once.
+fn hear_message(
+    settings: Settings,
+    routers: RouterList,
+    time: u32,
+    source: [u8; 16],
+    p: &[u8],
+) -> Heard
+    ensures { λ r. ⌜ r ≡ heardMessage settings routers time source (now (p .entry)) ⌝ }
+{
+    let message = fields::tail(p, 40);
+    let options = fields::tail(message, OPTIONS);
+    let read = lifetimes::options_read(fields::word(message, 6), options);
+    let smallest = read.smallest;
+    if read.whole {
+        hear_from(settings, routers, time, source, smallest)
+    } else {
+        refused(Refusal::AdvertisementInvalid, routers)
     }
 }
 
@@ -133,19 +148,14 @@ pub fn hear(settings: Settings, routers: RouterList, time: u32, packet: &[u8]) -
 {
     let i = inner::inner_header(packet);
     if inner::inner_malformed(packet.len(), i) {
-        return Heard {
-            answer: HeardAnswer::Refused(Refusal::InnerMalformed),
-            routers,
-        };
+        return refused(Refusal::InnerMalformed, routers);
     }
     let end = i.length;
     let p = &packet[..end];
-    if !valid(i, p) {
-        return Heard {
-            answer: HeardAnswer::Refused(Refusal::AdvertisementInvalid),
-            routers,
-        };
+    if advertisement(i, p) {
+        let source = i.source;
+        hear_message(settings, routers, time, source, p)
+    } else {
+        refused(Refusal::AdvertisementInvalid, routers)
     }
-    let source = i.source;
-    hear_from(settings, routers, time, source, p)
 }

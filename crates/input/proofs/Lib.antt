@@ -1,1 +1,5 @@
+pub mod Laws
+pub mod ReadBack
 pub mod Records
+pub mod Values
+pub mod WrittenOut

@@ -14,7 +14,7 @@ use Rattle.lists.proofs.Parts.{take-least, drop-least}
 use Rattle.lent.specs.Written.{written, placed}
 use Rattle.lent.proofs.Laws.{placed-first}
 use Rattle.input.specs.Section.{countOf, prefixBytes, records, recordsOf, recordAt, filled}
-use Rattle.input.specs.Laws.{length-records, flatten-records}
+use Rattle.input.proofs.Laws.{length-records, flatten-records}
 
 -- no section is too long for a count of bytes
 pub small : (n size : ℕ) → n < 65536 → size < 256 → n * size ≤ 16711425

@@ -15,8 +15,8 @@ unfoldable pub section : List (List ℕ) → List ℕ
 section records = twoBytes (length records) ++ flatten records
 
 -- "datagrams (interface 1, length 2, bytes)"
-unfoldable pub datagram : Datagram → List ℕ
-datagram d = d .interface ∷ (twoBytes (length (d .bytes)) ++ d .bytes)
+unfoldable pub datagramRecord : Datagram → List ℕ
+datagramRecord d = d .interface ∷ (twoBytes (length (d .bytes)) ++ d .bytes)
 
 -- each record has this size
 abbrev pub Sized : ℕ → List (List ℕ) → Type 0
@@ -25,7 +25,7 @@ Sized size (r ∷ rs) = (length r ≡ size) × Sized size rs
 
 -- "locators (4 + 1 bytes), prefixes (8), routers (4), datagrams (..), in that order"
 unfoldable pub encoded : List (List ℕ) → List (List ℕ) → List (List ℕ) → List Datagram → List ℕ
-encoded locators prefixes routers datagrams = section locators ++ (section prefixes ++ (section routers ++ section (map datagram datagrams)))
+encoded locators prefixes routers datagrams = section locators ++ (section prefixes ++ (section routers ++ section (map datagramRecord datagrams)))
 
 -- the input has this form
 pub record IsInput (s : List ℕ) (locators prefixes routers : List (List ℕ)) (datagrams : List Datagram) : Type 0 where

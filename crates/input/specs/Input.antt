@@ -7,13 +7,14 @@ use lib.ListN.{length}
 use lib.Dec.{leb}
 use Rattle.settings.specs.Settings.{defaultsFor}
 use Rattle.settings.specs.declared.Settings.{Settings}
-use Rattle.input.specs.Section.{countOf, isWhole, behindSection, locatorBytes, prefixBytes, routerBytes, locatorsOf, prefixesOf, routersOf}
+use Rattle.input.specs.Section.{countOf, isWhole, behindSection, locatorBytes, prefixBytes, routerBytes, locatorsIn, prefixesIn, routersIn}
 use Rattle.input.specs.Recording.{isRecording}
 
--- where each section starts: the locators' is the input's start
+-- where the prefixes' section starts
 unfoldable pub prefixSection : List ℕ → List ℕ
 prefixSection s = behindSection locatorBytes s
 
+-- where the routers' section starts
 unfoldable pub routerSection : List ℕ → List ℕ
 routerSection s = behindSection prefixBytes (prefixSection s)
 
@@ -28,7 +29,7 @@ areSectionsWhole s = isWhole locatorBytes s && isWhole prefixBytes (prefixSectio
 -- the settings: the counts as they stand in the input, so that one above the rules is refused by them
 unfoldable pub settingsOf : List ℕ → Settings
 settingsOf s =
-    defaultsFor (locatorsOf s) (countOf s) (prefixesOf (prefixSection s)) (countOf (prefixSection s)) (routersOf (routerSection s)) (countOf (routerSection s))
+    defaultsFor (locatorsIn s) (countOf s) (prefixesIn (prefixSection s)) (countOf (prefixSection s)) (routersIn (routerSection s)) (countOf (routerSection s))
 
 -- standard input, at most 64 KiB
 abbrev pub inputLimit : ℕ

@@ -17,11 +17,11 @@ countOf s = wordAt s 0
 abbrev pub sectionBytes : ℕ → List ℕ → ℕ
 sectionBytes size s = 2 + countOf s * size
 
--- all its bytes are there
+-- all bytes of the section are there
 abbrev pub isWhole : ℕ → List ℕ → Bool
 isWhole size s = leb (sectionBytes size s) (length s)
 
--- what stands behind it
+-- what stands behind the section
 abbrev pub behindSection : ℕ → List ℕ → List ℕ
 behindSection size s = drop (sectionBytes size s) s
 
@@ -38,13 +38,15 @@ recordsOf size s = records size (countOf s) (drop 2 s)
 abbrev pub recordAt : ℕ → List ℕ → ℕ → List ℕ
 recordAt size s i = take size (drop (2 + i * size) s)
 
--- the sizes: locators (4 + 1 bytes), prefixes (8), routers (4)
+-- the size of a locator: an address and an interface
 abbrev pub locatorBytes : ℕ
 locatorBytes = 5
 
+-- the size of a prefix
 abbrev pub prefixBytes : ℕ
 prefixBytes = 8
 
+-- the size of a router: an address
 abbrev pub routerBytes : ℕ
 routerBytes = 4
 
@@ -60,12 +62,14 @@ routerOf r = quadAt r 0
 unfoldable pub filled : {A : Type 0} → ℕ → A → List A → List A
 filled room none xs = take room xs ++ drop (length xs) (replicate room none)
 
--- the arrays of the settings
-unfoldable pub locatorsOf : List ℕ → List Locator
-locatorsOf s = filled 8 noLocator (map locatorOf (recordsOf locatorBytes s))
+-- the array of locators in the settings
+unfoldable pub locatorsIn : List ℕ → List Locator
+locatorsIn s = filled 8 noLocator (map locatorOf (recordsOf locatorBytes s))
 
-unfoldable pub prefixesOf : List ℕ → List ℕ
-prefixesOf s = filled 64 0 (flatten (recordsOf prefixBytes s))
+-- the array of prefixes in the settings, byte by byte
+unfoldable pub prefixesIn : List ℕ → List ℕ
+prefixesIn s = filled 64 0 (flatten (recordsOf prefixBytes s))
 
-unfoldable pub routersOf : List ℕ → List ℕ
-routersOf s = filled 16 0 (map routerOf (recordsOf routerBytes s))
+-- the array of routers in the settings
+unfoldable pub routersIn : List ℕ → List ℕ
+routersIn s = filled 16 0 (map routerOf (recordsOf routerBytes s))

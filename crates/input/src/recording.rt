@@ -4,7 +4,7 @@ use crate::section;
 use header::fields;
 ghost use mathlib.Core.Path.{_≡_};
 ghost use Rattle.input.specs.Section.{countOf};
-ghost use Rattle.input.specs.Recording.{sizeOf, isThere, interfaceOf, bytesOf, nextOf, firstOf, isRecording};
+ghost use Rattle.input.specs.Recording.{datagramBytes, isThere, interfaceOf, bytesOf, behindDatagram, firstDatagram, isRecording};
 
 // How many datagrams the section says to have.
 pub fn count(r: &[u8]) -> usize
@@ -15,13 +15,13 @@ pub fn count(r: &[u8]) -> usize
 
 // The bytes from the first datagram on.
 pub fn first(r: &[u8]) -> &[u8]
-    ensures { λ d. ⌜ now d ≡ firstOf (now (r .entry)) ⌝ }
+    ensures { λ d. ⌜ now d ≡ firstDatagram (now (r .entry)) ⌝ }
 {
     fields::tail(r, 2)
 }
 
 fn size_of(d: &[u8]) -> usize
-    ensures { λ r. ⌜ r ≡ sizeOf (now (d .entry)) ⌝ }
+    ensures { λ r. ⌜ r ≡ datagramBytes (now (d .entry)) ⌝ }
 {
     3 + fields::word(d, 1) as usize
 }
@@ -48,7 +48,7 @@ pub fn datagram(d: &[u8]) -> &[u8]
 
 // The bytes from the next datagram on.
 pub fn next(d: &[u8]) -> &[u8]
-    ensures { λ r. ⌜ now r ≡ nextOf (now (d .entry)) ⌝ }
+    ensures { λ r. ⌜ now r ≡ behindDatagram (now (d .entry)) ⌝ }
 {
     fields::tail(d, size_of(d))
 }

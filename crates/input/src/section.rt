@@ -4,7 +4,7 @@ use settings::locators::Locator;
 ghost use mathlib.Core.Path.{_≡_};
 ghost use Prim.Native.Nat.{_+_, _*_, _<_};
 ghost use lib.ListN.{take};
-ghost use Rattle.input.specs.Section.{countOf, sectionBytes, isWhole, behindSection, recordAt, locatorOf, locatorsOf, prefixesOf, routersOf};
+ghost use Rattle.input.specs.Section.{countOf, sectionBytes, isWhole, behindSection, recordAt, locatorOf, locatorsIn, prefixesIn, routersIn};
 
 // The bytes of a locator: address and interface.
 pub const LOCATOR: u8 = 5;
@@ -70,7 +70,7 @@ fn locator(r: &[u8]) -> Locator
 
 // The first eight locators of a section.
 pub fn locators(s: &[u8]) -> [Locator; 8]
-    ensures { λ r. ⌜ r ≡ locatorsOf (now (s .entry)) ⌝ }
+    ensures { λ r. ⌜ r ≡ locatorsIn (now (s .entry)) ⌝ }
 {
     let none = Locator {
         address: 0,
@@ -88,7 +88,7 @@ pub fn locators(s: &[u8]) -> [Locator; 8]
 
 // The bytes of the first eight prefixes of a section.
 pub fn prefixes(s: &[u8]) -> [u8; 64]
-    ensures { λ r. ⌜ r ≡ prefixesOf (now (s .entry)) ⌝ }
+    ensures { λ r. ⌜ r ≡ prefixesIn (now (s .entry)) ⌝ }
 {
     let mut all = [0u8; 64];
     let n = fields::least(count(s), 8) * PREFIX as usize;
@@ -99,7 +99,7 @@ pub fn prefixes(s: &[u8]) -> [u8; 64]
 
 // The first sixteen routers of a section.
 pub fn routers(s: &[u8]) -> [u32; 16]
-    ensures { λ r. ⌜ r ≡ routersOf (now (s .entry)) ⌝ }
+    ensures { λ r. ⌜ r ≡ routersIn (now (s .entry)) ⌝ }
 {
     let n = fields::least(count(s), 16);
     let mut all = [0u32; 16];

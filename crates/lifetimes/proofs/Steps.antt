@@ -1,4 +1,4 @@
--- The walk over the options, an option at a time.
+-- What the options say, an option at a time.
 -- Assumes nothing.
 use mathlib.Core.Path.{_≡_, refl, sym, ap, _∙_}
 use mathlib.Core.List.{List, [], _∷_, _++_, map, flatten, append-nil}
@@ -14,32 +14,32 @@ use Rattle.lifetimes.specs.declared.Smallest.{Smallest}
 use Rattle.lifetimes.specs.declared.Smallest.the-variants.{Seconds, NoneCounts}
 use Rattle.lifetimes.specs.declared.Options.{Options}
 use Rattle.lifetimes.specs.Options.{optionSize, optionsFrom, optionsOf, areOptionsWhole}
-use Rattle.lifetimes.specs.Lifetimes.{lifetimeOf, counts, counted, least, smallestOf}
-use Rattle.lifetimes.specs.SoFar.{soFar, shorter, walkOf}
+use Rattle.lifetimes.specs.Lifetimes.{lifetimeOf, isCounted, counted, leastOf, smallestOf}
+use Rattle.lifetimes.specs.SoFar.{soFar, shorterOf, readOf}
 use Rattle.lifetimes.proofs.Sizes.{size-fits, size-least, options-none, options-cons}
 
 pub so-far : (s : Smallest) → smallestOf (soFar s) ≡ s
-unfolding least
+unfolding leastOf
 so-far (Seconds s) = refl
 so-far NoneCounts = refl
 
 -- one lifetime more, by whether it counts
-pub shorter-kept : (s : Smallest) (l : ℕ) → counts l ≡ false → s ≡ shorter s l
-unfolding shorter counted
+pub shorter-kept : (s : Smallest) (l : ℕ) → isCounted l ≡ false → s ≡ shorterOf s l
+unfolding shorterOf counted
 shorter-kept s l e = sym (so-far s) ∙ cc (append-nil (soFar s))
 
-pub shorter-first : (l : ℕ) → counts l ≡ true → Seconds l ≡ shorter NoneCounts l
-unfolding shorter counted least
+pub shorter-first : (l : ℕ) → isCounted l ≡ true → Seconds l ≡ shorterOf NoneCounts l
+unfolding shorterOf counted leastOf
 shorter-first l e = cc
 
-pub shorter-more : (s l : ℕ) → counts l ≡ true → Seconds (min s l) ≡ shorter (Seconds s) l
-unfolding shorter counted least
+pub shorter-more : (s l : ℕ) → isCounted l ≡ true → Seconds (min s l) ≡ shorterOf (Seconds s) l
+unfolding shorterOf counted leastOf
 shorter-more s l e = cc
 
 -- a lifetime that goes into the smallest so far is one of the lifetimes
-pub shorter-counted : (s : Smallest) (l : ℕ) (ls : List ℕ) → smallestOf (soFar (shorter s l) ++ counted ls) ≡ smallestOf (soFar s ++ counted (l ∷ ls))
-unfolding shorter counted least
-shorter-counted s l ls = go s (counts l)
+pub shorter-counted : (s : Smallest) (l : ℕ) (ls : List ℕ) → smallestOf (soFar (shorterOf s l) ++ counted ls) ≡ smallestOf (soFar s ++ counted (l ∷ ls))
+unfolding shorterOf counted leastOf
+shorter-counted s l ls = go s (isCounted l)
   where
     go : (s : Smallest) (t : Bool)
         → smallestOf (soFar (smallestOf (soFar s ++ cond t (l ∷ []) [])) ++ counted ls) ≡ smallestOf (soFar s ++ cond t (l ∷ counted ls) (counted ls))
@@ -68,16 +68,16 @@ lifetime-first n bs h =
       getD-take n bs 7 0 (omega arith),
     )
 
-pub walk-end : (bs : List ℕ) (s : Smallest) → length bs ≡ 0 → _≡_ {A = Options} (record { whole = true; smallest = s }) (walkOf bs s)
+pub read-end : (bs : List ℕ) (s : Smallest) → length bs ≡ 0 → _≡_ {A = Options} (record { whole = true; smallest = s }) (readOf bs s)
 unfolding areOptionsWhole optionsFrom flatten counted
-walk-end [] s h = rw (append-nil, so-far s)
-walk-end (b ∷ bs) s h = absurd (omega arith)
+read-end [] s h = rw (append-nil, so-far s)
+read-end (b ∷ bs) s h = absurd (omega arith)
 
 -- an option that has length 0 or runs past the end
-pub walk-bad : (bs : List ℕ) (s : Smallest) → (length bs ≡ 0 → ⊥) → optionSize bs ≡ 0
-    → _≡_ {A = Options} (record { whole = false; smallest = s }) (walkOf bs s)
+pub read-bad : (bs : List ℕ) (s : Smallest) → (length bs ≡ 0 → ⊥) → optionSize bs ≡ 0
+    → _≡_ {A = Options} (record { whole = false; smallest = s }) (readOf bs s)
 unfolding areOptionsWhole flatten counted
-walk-bad bs s h e = rw (options-none bs e, append-nil, so-far s, ne-eqb 0 (length bs) (λ z. h (sym z)))
+read-bad bs s h e = rw (options-none bs e, append-nil, so-far s, ne-eqb 0 (length bs) (λ z. h (sym z)))
 
 module _ (bs : List ℕ) (good : optionSize bs ≡ 0 → ⊥) where
   whole-on : areOptionsWhole bs ≡ areOptionsWhole (drop (optionSize bs) bs)
@@ -90,8 +90,8 @@ module _ (bs : List ℕ) (good : optionSize bs ≡ 0 → ⊥) where
       rw (options-cons bs good, length-append, option, all, eqb-add)
 
   -- the options after a good one
-  pub walk-on : (s : Smallest) → walkOf (drop (optionSize bs) bs) (shorter s (lifetimeOf bs)) ≡ walkOf bs s
-  walk-on s =
+  pub read-on : (s : Smallest) → readOf (drop (optionSize bs) bs) (shorterOf s (lifetimeOf bs)) ≡ readOf bs s
+  read-on s =
       rw (whole-on, options-cons bs good, lifetime-first (optionSize bs) bs (size-least bs good))
       (rw (shorter-counted s (lifetimeOf bs) (map lifetimeOf (optionsOf (drop (optionSize bs) bs)))))
 

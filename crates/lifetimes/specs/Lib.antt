@@ -1,3 +1,4 @@
 pub mod Options
 pub mod Lifetimes
 pub mod SoFar
+pub mod Facts

@@ -1,17 +1,14 @@
 -- Document 01, "Routers": the lifetimes of a router advertisement, and when its router is due again.
-use Prim.Native.Nat.{ℕ, _+_, _*_, _/_, min, max}
+use Prim.Native.Nat.{ℕ, _+_, _/_, min, max}
 use mathlib.Core.List.{List, [], _∷_, map}
-use mathlib.Core.Bool.{Bool, cond, _&&_, _||_}
+use mathlib.Core.Bool.{Bool, cond, not, _&&_, _||_}
 use lib.ListN.{getD}
-use lib.Dec.{ltb, leb, eqb}
+use lib.Dec.{leb, eqb}
+use Rattle.address.specs.Address.{quadOf}
 use Rattle.lifetimes.specs.declared.Smallest.{Smallest}
 use Rattle.lifetimes.specs.declared.Smallest.the-variants.{Seconds, NoneCounts}
 use Rattle.lifetimes.specs.declared.Options.{Options}
 use Rattle.lifetimes.specs.Options.{optionsOf, areOptionsWhole}
-
--- the number of four bytes, big-endian
-abbrev pub word : ℕ → ℕ → ℕ → ℕ → ℕ
-word a b c d = a * 16777216 + b * 65536 + c * 256 + d
 
 -- "Routers": prefix options (type 3, length 4)
 abbrev pub isPrefix : ℕ → ℕ → Bool
@@ -24,7 +21,7 @@ isRoute kind units = eqb kind 24 && leb 1 units && leb units 3
 -- RFC 4861, 4.6.2, and RFC 4191, 2.3: the valid lifetime of a prefix option and the route lifetime of a route option are its bytes 4 to 7;
 -- zero, which does not count, for any other option
 unfoldable pub lifetimeOf : List ℕ → ℕ
-lifetimeOf o = cond (isPrefix (getD o 0 0) (getD o 1 0) || isRoute (getD o 0 0) (getD o 1 0)) (word (getD o 4 0) (getD o 5 0) (getD o 6 0) (getD o 7 0)) 0
+lifetimeOf o = cond (isPrefix (getD o 0 0) (getD o 1 0) || isRoute (getD o 0 0) (getD o 1 0)) (quadOf (getD o 4 0) (getD o 5 0) (getD o 6 0) (getD o 7 0)) 0
 
 -- "Routers": the router's lifetime and those of the options
 abbrev pub lifetimesOf : ℕ → List ℕ → List ℕ
@@ -35,23 +32,23 @@ abbrev pub infinite : ℕ
 infinite = 0xffff_ffff
 
 -- "Routers": zero and 0xffffffff don't count
-abbrev pub counts : ℕ → Bool
-counts l = ltb 0 l && ltb l infinite
+abbrev pub isCounted : ℕ → Bool
+isCounted l = not (eqb l 0) && not (eqb l infinite)
 
 -- the lifetimes that count
 unfoldable pub counted : List ℕ → List ℕ
 counted [] = []
-counted (l ∷ ls) = cond (counts l) (l ∷ counted ls) (counted ls)
+counted (l ∷ ls) = cond (isCounted l) (l ∷ counted ls) (counted ls)
 
 -- the least of a lifetime and others
-unfoldable pub least : ℕ → List ℕ → ℕ
-least l [] = l
-least l (k ∷ ks) = least (min l k) ks
+unfoldable pub leastOf : ℕ → List ℕ → ℕ
+leastOf l [] = l
+leastOf l (k ∷ ks) = leastOf (min l k) ks
 
 -- "Routers": the smallest lifetime, if there is one
 abbrev pub smallestOf : List ℕ → Smallest
 smallestOf [] = NoneCounts
-smallestOf (l ∷ ls) = Seconds (least l ls)
+smallestOf (l ∷ ls) = Seconds (leastOf l ls)
 
 -- what the options of an advertisement say, with the router's lifetime
 abbrev pub optionsReadOf : ℕ → List ℕ → Options

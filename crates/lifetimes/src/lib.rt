@@ -1,12 +1,12 @@
-// A router advertisement's options: whether they are whole, the smallest lifetime that counts, and when the router is due again.
-// Any bytes and any numbers are taken.
+// The options of a neighbour discovery message: whether they are whole, the smallest lifetime that counts, and when the router that
+// advertised them is due again. Any bytes and any numbers are taken.
 ghost use mathlib.Core.Path.{_≡_};
 ghost use mathlib.Core.Bool.{_||_};
 ghost use Prim.Native.Nat.{_≤_, max, min};
 ghost use lib.ListN.{length};
 ghost use Rattle.lifetimes.specs.Options.{optionSize, areOptionsWhole};
-ghost use Rattle.lifetimes.specs.Lifetimes.{word, isPrefix, isRoute, lifetimeOf, counts, optionsReadOf, delayOf, dueAfter};
-ghost use Rattle.lifetimes.specs.SoFar.{shorter, walkOf};
+ghost use Rattle.lifetimes.specs.Lifetimes.{isPrefix, isRoute, lifetimeOf, isCounted, optionsReadOf, delayOf, dueAfter};
+ghost use Rattle.lifetimes.specs.SoFar.{shorterOf, walkedOf, readOf};
 
 // An option's length counts units of 8 bytes (RFC 4861, 4.6).
 const UNIT: usize = 8;
@@ -27,6 +27,9 @@ const INFINITE: u32 = 0xffff_ffff;
 // How many seconds a router is not asked again if no lifetime counts.
 const WITHOUT_LIFETIME: u32 = 3600;
 
+// How many options one walk passes at most. A walk makes a call for each of them, and so needs the same stack whatever the message is.
+const MOST: usize = 12;
+
 // The smallest of the lifetimes that count.
 pub enum Smallest {
     Seconds(u32),
@@ -37,12 +40,6 @@ pub enum Smallest {
 pub struct Options {
     pub whole: bool,
     pub smallest: Smallest,
-}
-
-fn big_endian(a: u8, b: u8, c: u8, d: u8) -> u32
-    ensures { λ r. ⌜ r ≡ word a b c d ⌝ }
-{
-    (a as u32) * 16777216 + (b as u32) * 65536 + (c as u32) * 256 + (d as u32)
 }
 
 // Whether an option of this type and length has a lifetime.
@@ -70,16 +67,16 @@ fn option_lifetime(rest: &[u8]) -> u32
     ensures { λ r. ⌜ r ≡ lifetimeOf (now (rest .entry)) ⌝ }
 {
     if has_lifetime(rest[0], rest[1]) {
-        big_endian(rest[4], rest[5], rest[6], rest[7])
+        address::quad(rest[4], rest[5], rest[6], rest[7])
     } else {
         0
     }
 }
 
 fn counts(lifetime: u32) -> bool
-    ensures { λ r. ⌜ r ≡ counts lifetime ⌝ }
+    ensures { λ r. ⌜ r ≡ isCounted lifetime ⌝ }
 {
-    (0 < lifetime) & (lifetime < INFINITE)
+    (lifetime != 0) & (lifetime != INFINITE)
 }
 
 fn smaller(a: u32, b: u32) -> u32
@@ -96,7 +93,7 @@ fn larger(a: u32, b: u32) -> u32
 
 // The smallest lifetime once another one is known.
 fn shorter(smallest: Smallest, lifetime: u32) -> Smallest
-    ensures { λ r. ⌜ r ≡ shorter smallest lifetime ⌝ }
+    ensures { λ r. ⌜ r ≡ shorterOf smallest lifetime ⌝ }
 {
     if counts(lifetime) {
         match smallest {
@@ -108,40 +105,65 @@ fn shorter(smallest: Smallest, lifetime: u32) -> Smallest
     }
 }
 
-// The options in the rest of the message, to its exact end: a call for each option.
-fn walk(rest: &[u8], smallest: Smallest) -> Options
-    ensures { λ r. ⌜ r ≡ walkOf (now (rest .entry)) smallest ⌝ }
+// What one walk leaves: how many bytes are left, and the smallest lifetime up to there.
+struct Walked {
+    left: usize,
+    smallest: Smallest,
+}
+
+// At most so many options of the rest of the message: a call for each option.
+fn walk(rest: &[u8], most: usize, smallest: Smallest) -> Walked
+    ensures { λ r. ⌜ r ≡ walkedOf most (now (rest .entry)) smallest ⌝ }
 {
-    if rest.len() == 0 {
-        return Options {
-            whole: true,
+    if most == 0 {
+        return Walked {
+            left: rest.len(),
             smallest,
         };
     }
     let size = option_size(rest);
     if size == 0 {
-        return Options {
-            whole: false,
+        return Walked {
+            left: rest.len(),
             smallest,
         };
     }
     let next = shorter(smallest, option_lifetime(rest));
-    walk(&rest[size..], next)
+    walk(&rest[size..], most - 1, next)
+}
+
+// All options, with the smallest of the lifetimes so far: walk after walk, while there is an option at `at`.
+fn read(options: &[u8], before: Smallest) -> Options
+    ensures { λ r. ⌜ r ≡ readOf (now (options .entry)) before ⌝ }
+{
+    let mut smallest = before;
+    let mut at = 0;
+    let mut size = option_size(options);
+    while 0 < size {
+        let walked = walk(&options[at..], MOST, smallest);
+        at = options.len() - walked.left;
+        smallest = walked.smallest;
+        size = option_size(&options[at..]);
+    }
+    Options {
+        whole: at == options.len(),
+        smallest,
+    }
 }
 
 // Whether the options are walked one after another to the exact end, none of length 0.
 pub fn options_whole(options: &[u8]) -> bool
     ensures { λ r. ⌜ r ≡ areOptionsWhole (now (options .entry)) ⌝ }
 {
-    let read = walk(options, Smallest::NoneCounts);
-    read.whole
+    let all = read(options, Smallest::NoneCounts);
+    all.whole
 }
 
-// The same, with the smallest of the router's own lifetime and those of the options.
+// Whether they are, and the smallest of the router's own lifetime and those of the options.
 pub fn options_read(router: u16, options: &[u8]) -> Options
     ensures { λ r. ⌜ r ≡ optionsReadOf router (now (options .entry)) ⌝ }
 {
-    walk(options, shorter(Smallest::NoneCounts, router as u32))
+    read(options, shorter(Smallest::NoneCounts, router as u32))
 }
 
 // For how many seconds the router is not asked again.

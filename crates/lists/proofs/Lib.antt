@@ -1,3 +1,4 @@
 pub mod Parts
 pub mod Tests
 pub mod AnyLaws
+pub mod Decides

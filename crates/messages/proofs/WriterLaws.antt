@@ -1,11 +1,14 @@
 -- When a message is written, and how long its header is. Assumes nothing.
 use Prim.Native.Nat.{ℕ, zero, suc, _+_, _≤_, _<_}
 use mathlib.Core.Path.{_≡_, refl, ap}
+use mathlib.Core.Bool.{cond}
 use mathlib.Core.List.{List, _∷_}
 use native.Mathlib.Omega.{arith}
 use borrow.Author.Tests.{lt-ltb, le-ltb}
 use lib.ListN.{length, take, drop, getD, length-append, length-drop}
+use lib.Dec.{ltb}
 use lib.Seq.{drop-cons}
+use Rattle.header.specs.Numbers.{innerHeader}
 use Rattle.header.specs.Fields.{bytesFrom, addressAt}
 use Rattle.refusals.specs.declared.Refusal.the-variants.{InnerMalformed, OutputShort}
 use Rattle.refusals.specs.declared.Check.the-variants.{Pass, Stop}
@@ -23,6 +26,11 @@ module _ (n room : ℕ) where
   pub too-big-pass : 40 ≤ n → tooBigLength n ≤ room → tooBigCheck n room ≡ Pass
   unfolding tooBigCheck
   too-big-pass h k = simp (le-ltb _ _ h, le-ltb _ _ k)
+
+-- of a packet that has its header 15 alone is asked
+pub too-big-room : (n room : ℕ) → innerHeader ≤ n → tooBigCheck n room ≡ cond (ltb room (tooBigLength n)) (Stop OutputShort) Pass
+unfolding tooBigCheck
+too-big-room n room h = simp (le-ltb _ _ h)
 
 pub solicitation-short : (room : ℕ) → room < solicitationLength → solicitationCheck room ≡ Stop OutputShort
 unfolding solicitationCheck

@@ -8,17 +8,22 @@ use Rattle.checksum.specs.Sum.{onesSum, onesComplement}
 use Rattle.refusals.specs.Refusals.{firstOf}
 use Rattle.refusals.specs.declared.Refusal.the-variants.{InnerMalformed, OutputShort}
 use Rattle.refusals.specs.declared.Check.{Check}
+use Rattle.header.specs.Numbers.{innerHeader, icmpv6}
 use Rattle.header.specs.Fields.{addressAt}
 use Rattle.header.specs.Wrap.{be16, be32, writerAnswer, writerOutput}
 use Rattle.header.specs.declared.wrap.Written.{Written}
 
+-- the headers of a message: IPv6's, and the first 8 bytes of ICMPv6
+abbrev pub messageHeaders : ℕ
+messageHeaders = innerHeader + 8
+
 -- the IPv6 header of n bytes of ICMPv6: traffic class and flow label 0
 abbrev pub ipv6Header : ℕ → ℕ → List ℕ → List ℕ → List ℕ
-ipv6Header n hop from to = 96 ∷ (0 ∷ (0 ∷ (0 ∷ be16 n (58 ∷ (hop ∷ (from ++ to))))))
+ipv6Header n hop from to = 0x60 ∷ (0 ∷ (0 ∷ (0 ∷ be16 n (icmpv6 ∷ (hop ∷ (from ++ to))))))
 
 -- what the pseudo header has behind the addresses (RFC 2460, 8.1): the length in 32 bits, three zero bytes, next header 58
 abbrev pub pseudoTail : ℕ → List ℕ
-pseudoTail n = be32 n (0 ∷ (0 ∷ (0 ∷ (58 ∷ []))))
+pseudoTail n = be32 n (0 ∷ (0 ∷ (0 ∷ (icmpv6 ∷ []))))
 
 -- the sum of an ICMPv6 message and its pseudo header (RFC 4443, 2.3); addresses are the source's bytes and then the destination's
 unfoldable pub icmpSum : List ℕ → List ℕ → ℕ
@@ -36,21 +41,27 @@ icmpMessage addresses kind code body = icmpWith kind code (onesComplement (icmpS
 unfoldable pub icmpPacket : ℕ → List ℕ → List ℕ → ℕ → ℕ → List ℕ → List ℕ
 icmpPacket hop from to kind code body = ipv6Header (4 + length body) hop from to ++ icmpMessage (from ++ to) kind code body
 
+-- "the first min(n, 1,232) bytes of the packet" are quoted
+abbrev pub mostQuoted : ℕ
+mostQuoted = 1232
+
 -- reporting address to the packet's source, hop limit 64, type 2, code 0, the size, then the first min(n, 1,232) bytes
 unfoldable pub tooBigOf : List ℕ → ℕ → List ℕ → List ℕ
-tooBigOf reporting size packet = icmpPacket 64 reporting (addressAt packet 8) 2 0 (be32 size (take 1232 packet))
+tooBigOf reporting size packet = icmpPacket 64 reporting (addressAt packet 8) 2 0 (be32 size (take mostQuoted packet))
 
 -- the message's length for a packet of n bytes
 abbrev pub tooBigLength : ℕ → ℕ
-tooBigLength n = 48 + min 1232 n
+tooBigLength n = messageHeaders + min mostQuoted n
 
 -- without an IPv6 header there is no source to write to: 8; then 15
 unfoldable pub tooBigCheck : ℕ → ℕ → Check
-tooBigCheck n room = firstOf ((ltb n 40, InnerMalformed) ∷ ((ltb room (tooBigLength n), OutputShort) ∷ []))
+tooBigCheck n room = firstOf ((ltb n innerHeader, InnerMalformed) ∷ ((ltb room (tooBigLength n), OutputShort) ∷ []))
 
+-- the length written, or the refusal
 unfoldable pub tooBigAnswer : ℕ → ℕ → Written
 tooBigAnswer n room = writerAnswer (tooBigCheck n room) (tooBigLength n)
 
+-- what stands in the output afterwards
 unfoldable pub tooBigOutput : List ℕ → ℕ → List ℕ → List ℕ → List ℕ
 tooBigOutput reporting size packet out =
     writerOutput (tooBigCheck (length packet) (length out)) (tooBigOf reporting size packet) out
@@ -59,16 +70,18 @@ tooBigOutput reporting size packet out =
 unfoldable pub solicitationOf : List ℕ → List ℕ → List ℕ
 solicitationOf from to = icmpPacket 255 from to 133 0 (0 ∷ (0 ∷ (0 ∷ (0 ∷ []))))
 
--- "a solicitation of 48 bytes"
+-- "a solicitation of 48 bytes": nothing stands behind its headers
 abbrev pub solicitationLength : ℕ
-solicitationLength = 48
+solicitationLength = messageHeaders
 
 -- 15
 unfoldable pub solicitationCheck : ℕ → Check
 solicitationCheck room = firstOf ((ltb room solicitationLength, OutputShort) ∷ [])
 
+-- the length written, or the refusal
 unfoldable pub solicitationAnswer : ℕ → Written
 solicitationAnswer room = writerAnswer (solicitationCheck room) solicitationLength
 
+-- what stands in the output afterwards
 unfoldable pub solicitationOutput : List ℕ → List ℕ → List ℕ → List ℕ
 solicitationOutput from to out = writerOutput (solicitationCheck (length out)) (solicitationOf from to) out

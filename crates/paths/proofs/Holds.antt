@@ -3,8 +3,7 @@ use mathlib.Core.Path.{refl}
 use mathlib.Core.List.{[]}
 use native.Mathlib.Omega.{arith}
 use lib.ListN.{take}
-use Rattle.paths.specs.Packets.{largestPacket, dontFragment}
-use Rattle.paths.specs.Candidate.{candidateOf, plateauBelow}
+use Rattle.paths.specs.Packets.{largestPacket}
 use Rattle.paths.specs.Kept.{whileYoung, inForce}
 use Rattle.paths.specs.Table.{keptIn, tableAfter}
 use Rattle.paths.specs.Claim.{Grows, AllPathsHold}
@@ -26,19 +25,11 @@ unfolding largestPacket
 largestPacket-grows P Q l = omega arith
 
 pub values : Values
-unfolding largestPacket dontFragment candidateOf plateauBelow whileYoung inForce keptIn tableAfter
+unfolding largestPacket whileYoung inForce keptIn tableAfter
 values =
     record {
-      path1300 = (refl, refl, refl);
-      path1301 = (refl, refl, refl);
-      path1500 = (refl, refl, refl);
-      path600 = (refl, refl, refl);
-      plateau = (refl, refl, refl, refl);
-      usable = (refl, refl, refl);
-      below = refl;
       larger = refl;
       equal = refl;
-      age = (refl, refl);
       neighbours = (refl, refl);
       reached = (omega arith, refl, refl);
     }

@@ -1,13 +1,15 @@
 -- The first of a descending list that is below n is the largest below n.
-use mathlib.Core.Path.{_≡_, refl, sym}
-use mathlib.Core.Logic.{⊎-elim}
+use mathlib.Core.Path.{_≡_, refl, sym, ap, _∙_}
+use mathlib.Core.Logic.{⊎-elim, inl, inr}
+use mathlib.Core.Bool.{Bool, true, false, cond}
 use mathlib.Core.List.{List, [], _∷_, List·Memᴰ, List·Memᴰ·head, List·Memᴰ·tail, List·Memᴰ·cases-cons, List·Memᴰ·not-nil}
 use Prim.Native.Nat.{ℕ, _≤_}
 use native.Mathlib.Omega.{arith}
-use borrow.Author.Tests.{le-ltb, ltb-true, ltb-false}
-use lib.Dec.{ltb}
-use Rattle.paths.specs.Candidate.{plateaus, firstBelow, plateauBelow}
-use Rattle.paths.specs.Largest.{LargestBelow, PlateauRule}
+use borrow.Author.Tests.{le-ltb, ltb-true, ltb-false, eqb-true, eq-eqb, ne-eqb}
+use lib.Dec.{eqb, ltb}
+use Rattle.paths.specs.Candidate.{leastSize, plateaus, firstBelow, plateauBelow, candidateOf}
+use Rattle.paths.specs.Largest.{LargestBelow, CandidateIs, PlateauRule}
+use Rattle.paths.specs.declared.Candidate.{Candidate}
 use Rattle.paths.specs.declared.Candidate.the-variants.{Size, Unusable}
 use Rattle.paths.proofs.Reports.{tested}
 
@@ -62,3 +64,47 @@ plateau-rule n =
       found = first-below n plateaus (omega arith);
       missing = (λ h. omega (arith, all-from n plateaus h), λ l. none-below n plateaus (omega arith));
     }
+
+from-all : (n p : ℕ) (ps : List ℕ) → AllFrom n ps → List·Memᴰ p ps → n ≤ p
+from-all n p [] a m = absurd (List·Memᴰ·not-nil m)
+from-all n p (q ∷ ps) a m = ⊎-elim (λ e. omega (arith, a .0)) (λ k. from-all n p ps (a .1) k) (List·Memᴰ·cases-cons m)
+
+-- and the largest plateau below n is found
+largest-found : (n p : ℕ) → LargestBelow n p plateaus → plateauBelow n ≡ Size p
+unfolding plateauBelow
+largest-found n p l = go (plateauBelow n) refl
+  where
+    go : (k : Candidate) → plateauBelow n ≡ k → plateauBelow n ≡ Size p
+    go (Size q) e =
+        let f = plateau-rule n .found q e in
+        let same : q ≡ p = omega (arith, l .largest q (f .among) (f .below), f .largest p (l .among) (l .below)) in
+        e ∙ ap Size same
+    go Unusable e = absurd (omega (arith, from-all n p plateaus (all-from n plateaus e) (l .among), l .below))
+
+module _ (reported total : ℕ) where
+  -- what is found is the candidate
+  pub candidate-is : (c : ℕ) → candidateOf reported total ≡ Size c → CandidateIs reported total c
+  unfolding candidateOf
+  candidate-is c = go (eqb reported 0) (ltb reported leastSize) refl refl
+    where
+      go : (s t : Bool) → eqb reported 0 ≡ s → ltb reported leastSize ≡ t → cond s (plateauBelow total) (cond t Unusable (Size reported)) ≡ Size c
+          → CandidateIs reported total c
+      go true t e f h = inr (eqb-true reported 0 e, plateau-rule total .found c h)
+      go false true e f h = let z : _≡_ {A = ℕ} 0 1 = cc in absurd (omega arith)
+      go false false e f h = let same : reported ≡ c = cc in inl (same, omega (arith, ltb-false reported leastSize f))
+
+  -- and the candidate is found
+  pub is-candidate : (c : ℕ) → CandidateIs reported total c → candidateOf reported total ≡ Size c
+  unfolding candidateOf
+  is-candidate c =
+      ⊎-elim
+      (λ f. let other : c ≡ 0 → ⊥ = λ e. omega (arith, f .1) in rw (f .0) (simp (ne-eqb c 0 other, le-ltb c leastSize (f .1))))
+      (λ f. rw (eq-eqb reported 0 (f .0)) (largest-found total c (f .1)))
+
+  -- without one the size is unusable
+  pub no-candidate : ((c : ℕ) → CandidateIs reported total c → ⊥) → candidateOf reported total ≡ Unusable
+  no-candidate n = go (candidateOf reported total) refl
+    where
+      go : (k : Candidate) → candidateOf reported total ≡ k → candidateOf reported total ≡ Unusable
+      go (Size c) e = absurd (n c (candidate-is c e))
+      go Unusable e = e

@@ -1,15 +1,14 @@
 -- Document 01, "Sending": what a path of size P lets through.
-use Prim.Native.Nat.{ℕ, _-_, max}
+use Prim.Native.Nat.{ℕ, _+_, _-_, _≤_, max}
+use mathlib.Core.Path.{_≡_}
+use mathlib.Core.Logic.{_⊎_}
 use mathlib.Core.Bool.{Bool}
 use lib.Dec.{ltb}
+use Rattle.header.specs.Numbers.{outerHeader}
 
 -- the packet size that every IPv6 path takes (RFC 2893, 3.2)
 abbrev pub leastMtu : ℕ
 leastMtu = 1280
-
--- the length of the outer header that we write
-abbrev pub outerHeader : ℕ
-outerHeader = 20
 
 -- M, the larger of 1,280 and P − 20
 unfoldable pub largestPacket : ℕ → ℕ
@@ -18,3 +17,9 @@ largestPacket P = max leastMtu (P - outerHeader)
 -- don't-fragment is set exactly when P − 20 > 1,280
 unfoldable pub dontFragment : ℕ → Bool
 dontFragment P = ltb leastMtu (P - outerHeader)
+
+-- M is the larger of 1,280 and P − 20, said in plain facts: below neither of them, and one of them
+pub record LargerOfBoth (P M : ℕ) : Type 0 where
+  pub least : leastMtu ≤ M
+  pub whole : P ≤ outerHeader + M
+  pub one : (M ≡ leastMtu) ⊎ (outerHeader + M ≡ P)

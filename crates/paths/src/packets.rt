@@ -1,12 +1,14 @@
 // What a path of a given size lets through: the rules of sending that go by the path size.
 ghost use mathlib.Core.Path.{_≡_};
 ghost use Prim.Native.Nat.{_-_};
-ghost use Rattle.paths.specs.Packets.{outerHeader, largestPacket, dontFragment};
+ghost use Rattle.header.specs.Numbers.{outerHeader};
+ghost use Rattle.paths.specs.Packets.{largestPacket, dontFragment};
 
-// The least packet size that every IPv6 path takes, and the length of the outer header that we write.
+// The least packet size that every IPv6 path takes.
 const LEAST_MTU: u16 = 1280;
 
-const OUTER_HEADER: u16 = 20;
+// In the width of a path size.
+const OUTER_HEADER: u16 = header::OUTER_HEADER as u16;
 
 fn without_header(path: u16) -> u16
     ensures { λ r. ⌜ r ≡ path - outerHeader ⌝ }

@@ -1,4 +1,3 @@
-pub mod Laws
-pub mod Lengths
+pub mod Lines
 pub mod Program
-pub mod Values
+pub mod Text

@@ -14,11 +14,12 @@ use Rattle.node.specs.Receive.{receiveOf, partIn}
 use Rattle.node.specs.declared.Node.{Node}
 use Rattle.node.specs.declared.SetupAnswer.{SetupAnswer}
 use Rattle.node.specs.declared.SetupAnswer.the-variants as setup
+use Rattle.input.specs.Section.{countOf}
 use Rattle.input.specs.Input.{behindSettings, settingsOf, inputLimit, isWellFormed}
 use Rattle.input.specs.Recording.{Datagram, datagramsOf}
-use Rattle.lines.specs.declared.Line.{Line}
-use Rattle.lines.specs.declared.Line.the-variants.{Deliver, Refuse}
-use Rattle.lines.specs.Lines.{badInput, textOf}
+use Rattle.program.specs.declared.lines.Line.{Line}
+use Rattle.program.specs.declared.lines.Line.the-variants.{Deliver, Refuse}
+use Rattle.program.specs.Lines.{badInput, textOf, Below}
 
 -- `deliver` with the length n of the part that receiving hands back, or `refuse` with the number
 abbrev pub lineWith : Received → ℕ → Line
@@ -29,6 +30,7 @@ lineWith (Refused refusal) n = Refuse (numberOf refusal)
 unfoldable pub lineOn : Node → ℕ → List ℕ → Line
 lineOn node interface d = lineWith (receiveOf node d interface) (length (partIn node d interface))
 
+-- that of a datagram of a section
 abbrev pub lineFor : Node → Datagram → Line
 lineFor node d = lineOn node (d .interface) (d .bytes)
 
@@ -57,14 +59,18 @@ inputRoom = inputLimit + 1
 abbrev pub outputRoom : ℕ
 outputRoom = 16 + 20 * 21844
 
--- what is given back, the text's length, and what stands in the lent bytes, the text over their front; with less room than for
--- any output nothing is written, and 0 is given
+-- what is given back: the text's length, or 0 with less room than for any output
 unfoldable pub countGiven : List ℕ → List ℕ → ℕ
 countGiven s d = cond (ltb (length d) outputRoom) 0 (length (textFor s))
 
+-- what stands in the lent bytes: the text over their front, or nothing new with less room than for any output
 unfoldable pub bytesLeft : List ℕ → List ℕ → List ℕ
 bytesLeft s d = cond (ltb (length d) outputRoom) d (written (textFor s) d)
 
 -- n bytes stand at the front of d: this follows from the two above, and lets a caller take them
 abbrev pub IsFront : ℕ → List ℕ → Type 0
 IsFront n d = (n ≤ length d) × (n ≡ length (take n d))
+
+-- a section of datagrams that stands in a well-formed input: few datagrams, and no number of more than five digits
+abbrev pub Short : Node → List ℕ → Type 0
+Short node r = (2 + 3 * countOf r ≤ inputLimit) × Below 4 (linesOf node r)

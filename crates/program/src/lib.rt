@@ -1,4 +1,7 @@
 // Document 01's program: from the bytes of its input to the bytes of its output.
+mod lines;
+mod text;
+
 use input::recording;
 use lines::Line;
 use node::Node;
@@ -8,14 +11,12 @@ ghost use mathlib.Core.Path.{_≡_};
 ghost use Prim.Native.Nat.{_+_, _*_, _≤_, _<_};
 ghost use lib.ListN.{length, replicate};
 ghost use Rattle.lent.specs.Written.{placed};
-ghost use Rattle.text.specs.Text.{behind};
+ghost use Rattle.program.specs.Text.{behind};
 ghost use mathlib.Core.Bool.{true};
 ghost use Rattle.input.specs.Section.{countOf};
 ghost use Rattle.input.specs.Input.{isWellFormed};
-ghost use Rattle.lines.specs.Lines.{linesTo, textOf};
-ghost use Rattle.lines.specs.Laws.{Below};
-ghost use Rattle.program.specs.Program.{inputRoom, outputRoom, IsFront, lineOn, linesOf, takenText, countGiven, bytesLeft};
-ghost use Rattle.program.specs.Lengths.{Short};
+ghost use Rattle.program.specs.Lines.{linesTo, textOf, Below};
+ghost use Rattle.program.specs.Program.{inputRoom, outputRoom, IsFront, lineOn, linesOf, takenText, countGiven, bytesLeft, Short};
 
 // Room for any input, and for one byte more, so that a longer input is seen.
 pub const INPUT_ROOM: usize = input::LIMIT + 1;

@@ -1,169 +1,175 @@
 -- Demand 2 holds of receiving. Assumes nothing.
-use Prim.Native.Nat.{ℕ, _+_, _-_, _≤_, _<_}
-use mathlib.Core.Path.{_≡_, refl, ap}
-use mathlib.Core.Logic.{_⊎_, ⊎-elim, inl, inr}
-use mathlib.Core.Bool.{Bool, true, false, _||_}
-use mathlib.Core.List.{List, _++_}
+use Prim.Native.Nat.{ℕ, _-_, _≤_, _<_}
+use mathlib.Core.Path.{_≡_, refl, ap, _∙_}
+use mathlib.Core.Bool.{Bool, false}
+use mathlib.Core.List.{List}
 use native.Mathlib.Omega.{arith}
 use borrow.Author.Tests.{eqb-true, not-false, eq-eqb}
-use lib.ListN.{length, take, drop, length-take}
+use lib.ListN.{length, take, length-take}
 use lib.Seq.{getD-take}
 use Rattle.lists.proofs.Parts.{drop-take}
-use Rattle.checksum.specs.Sum.{isRight}
-use Rattle.address.specs.Address.{lastQuad, isBadSourceWith}
-use Rattle.refusals.proofs.Laws.{all-false}
-use Rattle.refusals.specs.declared.Check.{Check}
-use Rattle.refusals.specs.declared.Check.the-variants.{Pass, Stop}
+use Rattle.lists.proofs.Decides.{fails, refutes, decides-eq, decides-not, decides-lack}
+use Rattle.checksum.specs.Sum.{isRightFrom}
+use Rattle.refusals.specs.Refusals.{firstOf, AnswersFirst}
+use Rattle.refusals.proofs.Laws.{AllFalse, all-false, stop-passed, RowsDecide, end, row, answers-first}
+use Rattle.refusals.specs.declared.Refusal.{Refusal}
+use Rattle.refusals.specs.declared.Check.the-variants.{Pass}
 use Rattle.header.specs.Fields.{wordAt}
-use Rattle.header.specs.Outer.{outerOf, isSumWrong, headerRows, protocolRows, pieceRows, outerCheck, payloadOf}
+use Rattle.header.specs.Outer.{outerOf, isOuterMalformed, isSumWrong, payloadOf}
 use Rattle.header.proofs.OuterLaws.{outer-whole, whole-outer}
-use Rattle.header.specs.Whole.{WholeOuter}
-use Rattle.header.specs.Inner.{innerOf}
+use Rattle.header.specs.Inner.{innerOf, isInnerMalformed}
 use Rattle.header.proofs.InnerLaws.{inner-whole, whole-inner}
-use Rattle.header.specs.Whole.{WholeInner}
-use Rattle.header.specs.declared.outer.Outer.{Outer}
-use Rattle.header.specs.declared.inner.Inner.{Inner}
-use Rattle.settings.specs.Settings.{forbiddenTo, isOurLocator}
+use Rattle.settings.proofs.Facts.{decides-forbidden-to, decides-our-locator, decides-bad-source-to}
 use Rattle.settings.specs.declared.Settings.{Settings}
-use Rattle.routers.specs.Routers.{listed}
 use Rattle.routers.specs.declared.Router.{Router}
-use Rattle.receiving.specs.Receive.{embeds, stopOr, arrivalRows, arrivalCheck, innerRows, innerCheck, opened, arrived, receivedOf, partOf}
+use Rattle.receiving.specs.Receive.{receiveRows, receivedOf, partOf}
+use Rattle.receiving.specs.Facts.{headerLength, totalLength, behindHeader, encapsulated, innerLength, OuterWhole, InnerWhole, receiveFacts}
 use Rattle.receiving.specs.Admitted.{Admits, delivered, DeliversExactly}
 use Rattle.receiving.specs.declared.Received.{Received}
-use Rattle.receiving.specs.declared.Received.the-variants.{Delivered}
+use Rattle.receiving.specs.declared.Received.the-variants.{Delivered, Refused}
+use Rattle.receiving.proofs.Facts.{decides-source-right}
 
--- what comes of a datagram that is delivered passed the stage, and is delivered by the later ones
-after-stop : (c : Check) (x : Received) (d : List ℕ) → 0 < length (partOf (stopOr c x) d) → (c ≡ Pass) × (0 < length (partOf x d))
-after-stop Pass x d h = (refl, h)
-after-stop (Stop r) x d h = absurd (omega arith)
+module _ (d : List ℕ) where
+  outer-whole-bytes : isOuterMalformed (length d) (outerOf d) ≡ false → OuterWhole d
+  unfolding outerOf
+  outer-whole-bytes h =
+      let w = outer-whole (length d) (outerOf d) h in
+      record { some = w .some; version = w .version; words = w .words; whole = w .whole; inside = w .inside; all = w .all }
 
-either : (a b : Bool) → (a || b) ≡ true → (a ≡ true) ⊎ (b ≡ true)
-either true b h = inl refl
-either false b h = inr h
+  bytes-whole-outer : OuterWhole d → isOuterMalformed (length d) (outerOf d) ≡ false
+  unfolding outerOf
+  bytes-whole-outer w =
+      whole-outer (length d) (outerOf d) (record { some = w .some; version = w .version; words = w .words; whole = w .whole; inside = w .inside; all = w .all })
 
-joined : (a b : Bool) → (a ≡ true) ⊎ (b ≡ true) → (a || b) ≡ true
-joined true b h = refl
-joined false b h = ⊎-elim (λ e. cc) (λ e. e) h
+  inner-whole-bytes : isInnerMalformed (length d) (innerOf d) ≡ false → InnerWhole d
+  unfolding innerOf
+  inner-whole-bytes h =
+      let w = inner-whole (length d) (innerOf d) h in
+      record { some = w .some; version = w .version; whole = w .whole }
 
--- a stage that passes, and the facts that it tests
-record OuterFacts (d : List ℕ) (o : Outer) : Type 0 where
-  pub whole : WholeOuter (length d) o
-  pub right : isRight (take (o .header) d) ≡ true
-  pub protocol : o .protocol ≡ 41
-  pub fragment : o .fragment ≡ 0
-
-module _ (d : List ℕ) (o : Outer) where
-  outer-facts : outerCheck (length d) d o ≡ Pass → OuterFacts d o
-  unfolding outerCheck isSumWrong
-  outer-facts h =
-      let f = all-false (headerRows (length d) d o ++ (protocolRows o ++ pieceRows o)) h in
-      record {
-        whole = outer-whole (length d) o (f .0);
-        right = not-false _ (f .1 .0);
-        protocol = eqb-true _ _ (not-false _ (f .1 .1 .0));
-        fragment = eqb-true _ _ (not-false _ (f .1 .1 .1 .0));
-      }
-
-  outer-pass : OuterFacts d o → outerCheck (length d) d o ≡ Pass
-  unfolding outerCheck isSumWrong
-  outer-pass f = simp (whole-outer (length d) o (f .whole), f .right, eq-eqb (o .protocol) 41 (f .protocol), eq-eqb (o .fragment) 0 (f .fragment))
-
-module _ (s : Settings) (interface : ℕ) (o : Outer) where
-  arrival-facts : arrivalCheck s interface o ≡ Pass → (isOurLocator s (o .destination) interface ≡ true) × (forbiddenTo s (o .source) ≡ false)
-  unfolding arrivalCheck
-  arrival-facts h =
-      let f = all-false (arrivalRows s interface o) h in
-      (not-false _ (f .0), f .1 .0)
-
-  arrival-pass : isOurLocator s (o .destination) interface ≡ true → forbiddenTo s (o .source) ≡ false → arrivalCheck s interface o ≡ Pass
-  unfolding arrivalCheck
-  arrival-pass a b = simp (a, b)
-
--- the same of the inner stage
-record InnerFacts (s : Settings) (isListed : Bool) (source n : ℕ) (i : Inner) : Type 0 where
-  pub whole : WholeInner n i
-  pub allowed : isBadSourceWith (forbiddenTo s (lastQuad (i .source))) (i .source) ≡ false
-  pub right : (embeds s (i .source) source ≡ true) ⊎ (isListed ≡ true)
-
-module _ (s : Settings) (isListed : Bool) (source n : ℕ) (i : Inner) where
-  inner-facts : innerCheck s isListed source n i ≡ Pass → InnerFacts s isListed source n i
-  unfolding innerCheck
-  inner-facts h =
-      let f = all-false (innerRows s isListed source n i) h in
-      record { whole = inner-whole n i (f .0); allowed = f .1 .0; right = either (embeds s (i .source) source) isListed (not-false _ (f .1 .1 .0)) }
-
-  inner-pass : InnerFacts s isListed source n i → innerCheck s isListed source n i ≡ Pass
-  unfolding innerCheck
-  inner-pass f = simp (whole-inner n i (f .whole), f .allowed, joined (embeds s (i .source) source) isListed (f .right))
+  bytes-whole-inner : InnerWhole d → isInnerMalformed (length d) (innerOf d) ≡ false
+  unfolding innerOf
+  bytes-whole-inner w = whole-inner (length d) (innerOf d) (record { some = w .some; version = w .version; whole = w .whole })
 
 module _ (s : Settings) (routers : List Router) (d : List ℕ) (interface : ℕ) where
-  only-if : 0 < length (delivered s routers d interface) → Admits s routers d interface
-  unfolding receivedOf arrived opened
-  only-if h =
-      let o = outerOf d in
-      let p = payloadOf d o in
-      let a = after-stop (outerCheck (length d) d o) (arrived s routers d interface o) d h in
-      let b = after-stop (arrivalCheck s interface o) (opened s routers d o) d (a .1) in
-      let e = after-stop (innerCheck s (listed (o .source) routers) (o .source) (length p) (innerOf p)) (Delivered (o .header) (innerOf p .length)) d (b .1) in
-      let f = outer-facts d o (a .0) in
-      let g = arrival-facts s interface o (b .0) in
-      let k = inner-facts s (listed (o .source) routers) (o .source) (length p) (innerOf p) (e .0) in
+  abbrev inner : List ℕ
+  inner = payloadOf d (outerOf d)
+
+  abbrev rows : List (Bool × Refusal)
+  rows = receiveRows s routers interface d (outerOf d) (length inner) (innerOf inner)
+
+  -- each test decides its fact
+  rows-decide : RowsDecide rows (receiveFacts s routers d interface (encapsulated d))
+  unfolding outerOf innerOf payloadOf isSumWrong isRightFrom
+  rows-decide =
+      row (decides-lack _ (outer-whole-bytes d) (bytes-whole-outer d))
+      (row (decides-not _ (decides-eq _ _))
+      (row (decides-not _ (decides-eq _ _))
+      (row (decides-not _ (decides-eq _ _))
+      (row (decides-not _ (decides-our-locator s _ _))
+      (row (decides-forbidden-to s _)
+      (row (decides-lack _ (inner-whole-bytes inner) (bytes-whole-inner inner))
+      (row (decides-bad-source-to s _)
+      (row (decides-not _ (decides-source-right s _ _ routers)) end))))))))
+
+  pub first-fact : AnswersFirst Refused (receiveFacts s routers d interface (encapsulated d)) (Delivered (headerLength d) (innerLength (encapsulated d))) (receivedOf s routers d interface)
+  unfolding receivedOf outerOf innerOf payloadOf
+  first-fact = answers-first Refused rows-decide (Delivered (headerLength d) (innerLength (encapsulated d)))
+
+  -- no row holds exactly if the rules hold
+  admitted : AllFalse rows → Admits s routers d interface
+  unfolding outerOf innerOf payloadOf isSumWrong isRightFrom
+  admitted f =
+      let arrival = f .1 .1 .1 .1 in
+      let last = arrival .1 .1 in
       record {
-        someHeader = f .whole .some;
-        outerVersion = f .whole .version;
-        headerWords = f .whole .words;
-        headerWhole = f .whole .whole;
-        headerInside = f .whole .inside;
-        datagramWhole = f .whole .all;
-        checksumRight = f .right;
-        protocol = f .protocol;
-        noPiece = f .fragment;
-        forUs = g .0;
-        outerSource = g .1;
-        innerHeader = k .whole .some;
-        innerVersion = k .whole .version;
-        innerWhole = k .whole .whole;
-        innerSource = k .allowed;
-        sourceMatches = k .right;
+        outerWhole = outer-whole-bytes d (f .0);
+        checksumRight = eqb-true _ _ (not-false _ (f .1 .0));
+        protocol = eqb-true _ _ (not-false _ (f .1 .1 .0));
+        noPiece = eqb-true _ _ (not-false _ (f .1 .1 .1 .0));
+        forUs = decides-our-locator s _ _ .holds (not-false _ (arrival .0));
+        outerSource = fails _ (decides-forbidden-to s _) (arrival .1 .0);
+        innerWhole = inner-whole-bytes inner (last .0);
+        innerSource = fails _ (decides-bad-source-to s _) (last .1 .0);
+        sourceMatches = decides-source-right s _ _ routers .holds (not-false _ (last .1 .1 .0));
       }
 
+  passes : Admits s routers d interface → firstOf rows ≡ Pass
+  unfolding outerOf innerOf payloadOf isSumWrong isRightFrom
+  passes a =
+      rw (
+        bytes-whole-outer d (a .outerWhole),
+        eq-eqb _ _ (a .checksumRight),
+        eq-eqb _ _ (a .protocol),
+        eq-eqb _ _ (a .noPiece),
+        decides-our-locator s _ _ .passes (a .forUs),
+        refutes _ (decides-forbidden-to s _) (a .outerSource),
+        bytes-whole-inner inner (a .innerWhole),
+        refutes _ (decides-bad-source-to s _) (a .innerSource),
+        decides-source-right s _ _ routers .passes (a .sourceMatches),
+      )
+
+  only-placed : (offset size : ℕ) → receivedOf s routers d interface ≡ Delivered offset size → Admits s routers d interface
+  unfolding receivedOf
+  only-placed offset size h =
+      let passed = stop-passed Refused (firstOf rows) _ (Delivered offset size) (λ r e. let z : _≡_ {A = ℕ} 0 1 = cc in omega arith) h in
+      admitted (all-false rows (passed .0))
+
   module _ (a : Admits s routers d interface) where
-    at : receivedOf s routers d interface ≡ Delivered (outerOf d .header) (innerOf (payloadOf d (outerOf d)) .length)
-    unfolding receivedOf arrived opened
-    at =
-        let o = outerOf d in
-        let p = payloadOf d o in
-        let w : WholeOuter (length d) o =
-        record { some = a .someHeader; version = a .outerVersion; words = a .headerWords; whole = a .headerWhole; inside = a .headerInside; all = a .datagramWhole } in
-        let f = outer-pass d o (record { whole = w; right = a .checksumRight; protocol = a .protocol; fragment = a .noPiece }) in
-        let g = arrival-pass s interface o (a .forUs) (a .outerSource) in
-        let i : WholeInner (length p) (innerOf p) = record { some = a .innerHeader; version = a .innerVersion; whole = a .innerWhole } in
-        let k = inner-pass s (listed (o .source) routers) (o .source) (length p) (innerOf p) (record { whole = i; allowed = a .innerSource; right = a .sourceMatches }) in
-        rw (f, g, k)
+    at : receivedOf s routers d interface ≡ Delivered (outerOf d .header) (innerOf inner .length)
+    unfolding receivedOf
+    at = rw (passes a)
 
     -- what remains for the inner packet starts as the bytes behind the outer header do
-    rest : payloadOf d (outerOf d) ≡ take (outerOf d .total - outerOf d .header) (drop (outerOf d .header) d)
-    unfolding payloadOf
-    rest = drop-take _ _ d (a .headerInside) (a .headerWhole)
+    rest : inner ≡ take (totalLength d - headerLength d) (behindHeader d)
+    unfolding payloadOf outerOf
+    rest = drop-take _ _ d (a .outerWhole .inside) (a .outerWhole .whole)
 
-    size : innerOf (payloadOf d (outerOf d)) .length ≡ 40 + wordAt (drop (outerOf d .header) d) 4
-    unfolding innerOf wordAt
+    size : innerOf inner .length ≡ innerLength (behindHeader d)
+    unfolding innerOf wordAt payloadOf outerOf
     size =
-        let m = outerOf d .total - outerOf d .header in
-        let b = drop (outerOf d .header) d in
-        let l : 40 ≤ m = omega (arith, a .innerHeader, ap length rest, length-take m b) in
+        let m = totalLength d - headerLength d in
+        let b = behindHeader d in
+        let l : 40 ≤ m = omega (arith, a .innerWhole .some, ap length rest, length-take m b) in
         rw (rest, getD-take m b 4 0 (omega arith), getD-take m b 5 0 (omega arith))
 
-    exactly : delivered s routers d interface ≡ take (40 + wordAt (drop (outerOf d .header) d) 4) (drop (outerOf d .header) d)
-    exactly = rw (at, size)
+    placed : receivedOf s routers d interface ≡ Delivered (headerLength d) (innerLength (behindHeader d))
+    unfolding outerOf
+    placed = at ∙ ap (λ (n : ℕ). Delivered (headerLength d) n) size
+
+    exactly : delivered s routers d interface ≡ take (innerLength (behindHeader d)) (behindHeader d)
+    exactly = rw placed
 
     long : 40 ≤ length (delivered s routers d interface)
+    unfolding payloadOf outerOf
     long =
-        let m = outerOf d .total - outerOf d .header in
-        let b = drop (outerOf d .header) d in
-        rw (exactly, length-take) (omega (arith, a .innerHeader, ap length rest, length-take m b))
+        let m = totalLength d - headerLength d in
+        let b = behindHeader d in
+        rw (exactly, length-take) (omega (arith, a .innerWhole .some, ap length rest, length-take m b))
+
+  only-if : (r : Received) → receivedOf s routers d interface ≡ r → 0 < length (partOf r d) → Admits s routers d interface
+  only-if (Delivered offset size) e h = only-placed offset size e
+  only-if (Refused r) e h = absurd (omega arith)
+
+  never-refused : (r : Refusal) → receivedOf s routers d interface ≡ Refused r → Admits s routers d interface → ⊥
+  never-refused r e a =
+      let p = placed a in
+      let z : _≡_ {A = ℕ} 0 1 = cc in
+      omega arith
+
+  refused : (r : Received) → receivedOf s routers d interface ≡ r → (Admits s routers d interface → ⊥) → (q : Refusal) × (receivedOf s routers d interface ≡ Refused q)
+  refused (Delivered offset size) e n = absurd (n (only-placed offset size e))
+  refused (Refused q) e n = (q, e)
 
 pub delivers-exactly : DeliversExactly
 unfolding DeliversExactly
-delivers-exactly s routers d interface =
-    record { onlyIf = only-if s routers d interface; if = exactly s routers d interface; nonEmpty = long s routers d interface }
+delivers-exactly s routers d interface = record {
+  answers = first-fact s routers d interface;
+  placedOnlyIf = only-placed s routers d interface;
+  placedIf = placed s routers d interface;
+  refusedOnlyIf = never-refused s routers d interface;
+  refusedIf = refused s routers d interface (receivedOf s routers d interface) refl;
+  onlyIf = only-if s routers d interface (receivedOf s routers d interface) refl;
+  if = exactly s routers d interface;
+  nonEmpty = long s routers d interface;
+}

@@ -1,2 +1,6 @@
-pub mod Delivered
+-- What the proofs of several functions use, and the laws that callers cite.
+pub mod Stages
 pub mod LinkLocal
+pub mod Facts
+pub mod Delivered
+pub mod Cases

@@ -1,66 +1,57 @@
--- Demand 2 of receiving, said declaratively: a datagram is delivered exactly when the rules of RFC 5214 and RFC 2893 admit it,
--- and what is delivered is the inner packet, unchanged.
-use Prim.Native.Nat.{ℕ, _+_, _≤_, _<_}
+-- Demand 2 of receiving: a datagram is delivered exactly when the rules of RFC 5214 and RFC 2893 admit it, and what is delivered is the
+-- inner packet, unchanged.
+use Prim.Native.Nat.{ℕ, _≤_, _<_}
 use mathlib.Core.Path.{_≡_}
-use mathlib.Core.Logic.{_⊎_}
-use mathlib.Core.Bool.{true, false}
 use mathlib.Core.List.{List}
-use lib.ListN.{length, take, drop}
-use Rattle.checksum.specs.Sum.{isRight}
-use Rattle.address.specs.Address.{lastQuad, isBadSourceWith}
-use Rattle.header.specs.Fields.{wordAt}
-use Rattle.header.specs.Outer.{outerOf, payloadOf}
-use Rattle.header.specs.Inner.{innerOf}
-use Rattle.header.specs.declared.outer.Outer.{Outer}
-use Rattle.header.specs.declared.inner.Inner.{Inner}
-use Rattle.settings.specs.Settings.{forbiddenTo, isOurLocator}
+use lib.ListN.{length, take}
+use Rattle.refusals.specs.Refusals.{AnswersFirst}
+use Rattle.refusals.specs.declared.Refusal.{Refusal}
 use Rattle.settings.specs.declared.Settings.{Settings}
-use Rattle.routers.specs.Routers.{listed}
 use Rattle.routers.specs.declared.Router.{Router}
-use Rattle.receiving.specs.Receive.{embeds, receivedOf, partOf}
+use Rattle.receiving.specs.Receive.{receivedOf, partOf}
+use Rattle.receiving.specs.Facts.{headerLength, behindHeader, encapsulated, innerLength, OuterWhole, SumRight, Encapsulates, Unfragmented, ForUs, OuterBad, InnerWhole, InnerBad, SourceRight, receiveFacts}
+use Rattle.receiving.specs.declared.Received.the-variants.{Delivered, Refused}
 
--- the rules, of an outer header with the fields o, an inner header with the fields i, and what remains for the inner packet
-pub record Admitted (s : Settings) (routers : List Router) (d : List ℕ) (interface : ℕ) (o : Outer) (i : Inner) (remains : ℕ) : Type 0 where
-  -- RFC 791, 3.1: a whole IPv4 header, in a datagram that is all there
-  pub someHeader : 20 ≤ length d
-  pub outerVersion : o .version ≡ 4
-  pub headerWords : 20 ≤ o .header
-  pub headerWhole : o .header ≤ length d
-  pub headerInside : o .header ≤ o .total
-  pub datagramWhole : o .total ≤ length d
-  -- RFC 791, 3.1: the header's checksum is right
-  pub checksumRight : isRight (take (o .header) d) ≡ true
-  -- RFC 2893, 3.6: an encapsulated IPv6 packet, and no piece of one
-  pub protocol : o .protocol ≡ 41
-  pub noPiece : o .fragment ≡ 0
-  -- RFC 2893, 3.6: addressed to this node, on the interface of that locator
-  pub forUs : isOurLocator s (o .destination) interface ≡ true
-  -- RFC 2893, 3.6: no multicast, broadcast, loopback or null source
-  pub outerSource : forbiddenTo s (o .source) ≡ false
-  -- RFC 2460, 3: a whole IPv6 packet
-  pub innerHeader : 40 ≤ remains
-  pub innerVersion : i .version ≡ 6
-  pub innerWhole : i .length ≤ remains
-  -- RFC 2893, 3.6: no such inner source either
-  pub innerSource : isBadSourceWith (forbiddenTo s (lastQuad (i .source))) (i .source) ≡ false
-  -- RFC 5214, 7.3: the inner source embeds the outer source, or that is a router of the list
-  pub sourceMatches : (embeds s (i .source) (o .source) ≡ true) ⊎ (listed (o .source) routers ≡ true)
+-- the rules of a datagram d that encapsulates p
+pub record Admitted (s : Settings) (routers : List Router) (d : List ℕ) (interface : ℕ) (p : List ℕ) : Type 0 where
+  pub outerWhole : OuterWhole d
+  pub checksumRight : SumRight d
+  pub protocol : Encapsulates d
+  pub noPiece : Unfragmented d
+  pub forUs : ForUs s d interface
+  pub outerSource : OuterBad s d → ⊥
+  pub innerWhole : InnerWhole p
+  pub innerSource : InnerBad s p → ⊥
+  pub sourceMatches : SourceRight s routers d p
 
 module _ (s : Settings) (routers : List Router) (d : List ℕ) (interface : ℕ) where
   -- the rules of the datagram d
   abbrev pub Admits : Type 0
-  Admits = Admitted s routers d interface (outerOf d) (innerOf (payloadOf d (outerOf d))) (length (payloadOf d (outerOf d)))
+  Admits = Admitted s routers d interface (encapsulated d)
 
   -- the part that receiving hands back
   abbrev pub delivered : List ℕ
   delivered = partOf (receivedOf s routers d interface) d
 
   pub record DeliveredExactly : Type 0 where
+    -- the call for the number gives the first of 2 to 10 whose fact holds, and where none holds the end of the outer header and
+    -- 40 + payload length
+    pub answers : AnswersFirst Refused (receiveFacts s routers d interface (encapsulated d)) (Delivered (headerLength d) (innerLength (encapsulated d))) (receivedOf s routers d interface)
+    -- it gives a place and a length only when the rules hold
+    pub placedOnlyIf : (offset size : ℕ) → receivedOf s routers d interface ≡ Delivered offset size → Admits
+    -- and whenever they hold, the exact ones
+    pub placedIf : Admits → receivedOf s routers d interface ≡ Delivered (headerLength d) (innerLength (behindHeader d))
+    -- it gives a number only when they do not hold
+    pub refusedOnlyIf : (r : Refusal) → receivedOf s routers d interface ≡ Refused r → Admits → ⊥
+    -- and whenever they do not hold
+    pub refusedIf : (Admits → ⊥) → (r : Refusal) × (receivedOf s routers d interface ≡ Refused r)
     -- the part is non-empty only when the rules hold
     pub onlyIf : 0 < length delivered → Admits
     -- and whenever they hold, it is the 40 + payload length bytes behind the outer header, options included
-    pub if : Admits → delivered ≡ take (40 + wordAt (drop (outerOf d .header) d) 4) (drop (outerOf d .header) d)
+    pub if : Admits → delivered ≡ take (innerLength (behindHeader d)) (behindHeader d)
+    -- which are 40 at least
     pub nonEmpty : Admits → 40 ≤ length delivered
 
+-- demand 2 of receiving, for all settings, router lists, datagrams and interfaces
 unfoldable pub DeliversExactly : Type 0
 DeliversExactly = (s : Settings) (routers : List Router) (d : List ℕ) (interface : ℕ) → DeliveredExactly s routers d interface

@@ -1,2 +1,4 @@
 pub mod Receive
+pub mod Stages
+pub mod Facts
 pub mod Admitted

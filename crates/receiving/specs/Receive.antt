@@ -1,4 +1,4 @@
--- Receiving (document 01, "Receiving"): the order 2 to 10.
+-- Receiving (document 01, "Receiving"): the order 2 to 10, and what comes of a datagram.
 use Prim.Native.Nat.{ℕ}
 use mathlib.Core.Bool.{Bool, false, not, _||_}
 use mathlib.Core.List.{List, [], _∷_}
@@ -7,13 +7,11 @@ use lib.Dec.{eqb}
 use Rattle.address.specs.Address.{lastQuad, isBadSourceWith}
 use Rattle.address.specs.declared.Embedded.{Embedded}
 use Rattle.address.specs.declared.Embedded.the-variants.{Ipv4, Nothing}
-use Rattle.refusals.specs.Refusals.{firstOf}
+use Rattle.refusals.specs.Refusals.{firstOf, stopOr}
 use Rattle.refusals.specs.Given.{Given, answered, refused}
 use Rattle.refusals.specs.declared.Refusal.{Refusal}
-use Rattle.refusals.specs.declared.Refusal.the-variants.{NotForUs, OuterSourceForbidden, InnerMalformed, InnerSourceBad, OuterSourceWrong}
-use Rattle.refusals.specs.declared.Check.{Check}
-use Rattle.refusals.specs.declared.Check.the-variants.{Pass, Stop}
-use Rattle.header.specs.Outer.{outerOf, outerCheck, payloadOf}
+use Rattle.refusals.specs.declared.Refusal.the-variants.{OuterMalformed, OuterChecksum, OtherProtocol, Piece, NotForUs, OuterSourceForbidden, InnerMalformed, InnerSourceBad, OuterSourceWrong}
+use Rattle.header.specs.Outer.{outerOf, isOuterMalformed, isSumWrong, payloadOf}
 use Rattle.header.specs.Inner.{innerOf, isInnerMalformed}
 use Rattle.header.specs.declared.outer.Outer.{Outer}
 use Rattle.header.specs.declared.inner.Inner.{Inner}
@@ -24,16 +22,7 @@ use Rattle.routers.specs.declared.Router.{Router}
 use Rattle.receiving.specs.declared.Received.{Received}
 use Rattle.receiving.specs.declared.Received.the-variants.{Delivered, Refused}
 
--- 6: destination and arrival interface match no locator; 7: outer source forbidden
-abbrev pub arrivalRows : Settings → ℕ → Outer → List (Bool × Refusal)
-arrivalRows s interface o =
-    (not (isOurLocator s (o .destination) interface), NotForUs)
-    ∷ ((forbiddenTo s (o .source), OuterSourceForbidden)
-    ∷ [])
-
-unfoldable pub arrivalCheck : Settings → ℕ → Outer → Check
-arrivalCheck s interface o = firstOf (arrivalRows s interface o)
-
+-- what is embedded is v
 abbrev pub isEmbedded : Embedded → ℕ → Bool
 isEmbedded (Ipv4 a) v = eqb a v
 isEmbedded Nothing v = false
@@ -46,35 +35,27 @@ embeds s a v = isEmbedded (embeddedTo s a) v
 abbrev pub isSourceRight : Settings → Bool → ℕ → List ℕ → Bool
 isSourceRight s isListed source a = embeds s a source || isListed
 
--- 8: inner packet malformed, where n bytes remain; 9: inner source bad; 10: outer source wrong for inner source
-abbrev pub innerRows : Settings → Bool → ℕ → ℕ → Inner → List (Bool × Refusal)
-innerRows s isListed source n i =
-    (isInnerMalformed n i, InnerMalformed)
-    ∷ ((isBadSourceWith (forbiddenTo s (lastQuad (i .source))) (i .source), InnerSourceBad)
-    ∷ ((not (isSourceRight s isListed source (i .source)), OuterSourceWrong)
-    ∷ []))
+-- the order 2 to 10, of a datagram d with the outer fields o, where n bytes remain for an inner packet with the fields i
+abbrev pub receiveRows : Settings → List Router → ℕ → List ℕ → Outer → ℕ → Inner → List (Bool × Refusal)
+receiveRows s routers interface d o n i =
+    (isOuterMalformed (length d) o, OuterMalformed)
+    ∷ (isSumWrong d o, OuterChecksum)
+    ∷ (not (eqb (o .protocol) 41), OtherProtocol)
+    ∷ (not (eqb (o .fragment) 0), Piece)
+    ∷ (not (isOurLocator s (o .destination) interface), NotForUs)
+    ∷ (forbiddenTo s (o .source), OuterSourceForbidden)
+    ∷ (isInnerMalformed n i, InnerMalformed)
+    ∷ (isBadSourceWith (forbiddenTo s (lastQuad (i .source))) (i .source), InnerSourceBad)
+    ∷ (not (isSourceRight s (listed (o .source) routers) (o .source) (i .source)), OuterSourceWrong)
+    ∷ []
 
-unfoldable pub innerCheck : Settings → Bool → ℕ → ℕ → Inner → Check
-innerCheck s isListed source n i = firstOf (innerRows s isListed source n i)
-
--- the refusal, if a stage has one; else what comes of the later stages
-abbrev pub stopOr : Check → Received → Received
-stopOr Pass received = received
-stopOr (Stop refusal) received = Refused refusal
-
--- 8 to 10, and then the 40 + payload length inner bytes behind the outer header
-unfoldable pub opened : Settings → List Router → List ℕ → Outer → Received
-opened s routers d o =
-    let p : List ℕ = payloadOf d o in
-    stopOr (innerCheck s (listed (o .source) routers) (o .source) (length p) (innerOf p)) (Delivered (o .header) (innerOf p .length))
-
--- 6 and 7 before them
-unfoldable pub arrived : Settings → List Router → List ℕ → ℕ → Outer → Received
-arrived s routers d interface o = stopOr (arrivalCheck s interface o) (opened s routers d o)
-
--- 2 to 5 before those
+-- the first refusal of the order; else the place of the 40 + payload length inner bytes, behind the outer header
 unfoldable pub receivedOf : Settings → List Router → List ℕ → ℕ → Received
-receivedOf s routers d interface = stopOr (outerCheck (length d) d (outerOf d)) (arrived s routers d interface (outerOf d))
+receivedOf s routers d interface =
+    let o : Outer = outerOf d in
+    let p : List ℕ = payloadOf d o in
+    let i : Inner = innerOf p in
+    stopOr Refused (firstOf (receiveRows s routers interface d o (length p) i)) (Delivered (o .header) (i .length))
 
 -- "The answer is the part of the lent datagram that holds the 40 + payload length inner bytes; after a refusal that part is empty"
 abbrev pub partOf : Received → List ℕ → List ℕ

@@ -14,7 +14,8 @@ ghost use mathlib.Core.Path.{_≡_};
 ghost use lib.ListN.{length};
 ghost use Rattle.header.specs.Inner.{innerOf};
 ghost use Rattle.routers.specs.Routers.{live, listed};
-ghost use Rattle.receiving.specs.Receive.{embeds, isSourceRight, arrivalCheck, innerCheck, opened, arrived, receivedOf, partOf, receivedGiven};
+ghost use Rattle.receiving.specs.Receive.{embeds, isSourceRight, receivedOf, partOf, receivedGiven};
+ghost use Rattle.receiving.specs.Stages.{arrivalCheck, innerCheck, opened, arrived};
 
 // The place of the inner packet in the datagram, or the number.
 pub enum Received {

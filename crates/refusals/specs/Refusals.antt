@@ -1,5 +1,7 @@
 -- The numbers given back (document 01, "Numbers given back"). 14, Too Big, stands in the answer of sending.
 use Prim.Native.Nat.{ℕ}
+use mathlib.Core.Path.{_≡_}
+use mathlib.Core.Logic.{_⊎_}
 use mathlib.Core.Bool.{Bool, cond}
 use mathlib.Core.List.{List, [], _∷_}
 use Rattle.refusals.specs.declared.Refusal.{Refusal}
@@ -42,3 +44,8 @@ module _ {A : Type 0} where
   abbrev pub stopOr : (Refusal → A) → Check → A → A
   stopOr refuse Pass follows = follows
   stopOr refuse (Stop refusal) follows = refuse refusal
+
+  -- the answer is the refusal of the first fact that holds; where none holds, it is what follows
+  abbrev pub AnswersFirst : (Refusal → A) → List (Type 0 × Refusal) → A → A → Type 0
+  AnswersFirst refuse [] follows answer = answer ≡ follows
+  AnswersFirst refuse (t ∷ ts) follows answer = (t .0 × (answer ≡ refuse (t .1))) ⊎ ((t .0 → ⊥) × AnswersFirst refuse ts follows answer)

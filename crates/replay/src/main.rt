@@ -1,6 +1,72 @@
-// Reads one node's settings and a list of calls from standard input, makes each call and writes a line for each.
+// Reads one node's settings and a list of calls from standard input, makes each call and writes a line for each: docs/REPLAY.md has
+// the format. Where a read or a write fails it stops and says so on standard error; input that was not read to its end gets no answer.
+mod answers;
+mod calls;
+mod line;
+mod outputs;
+mod spool;
+mod start;
+mod walk;
+
+use line::Line;
+use node::Node;
+use node::SetupAnswer;
+use spool::Spool;
+use start::Start;
+ghost use mathlib.Core.Path.{_≡_};
+ghost use lib.ListN.{length};
+
+// The part of the input that is held at a time: twice the longest call.
+const WINDOW: usize = 131072;
+
 fn main() {
-    let mut bytes = replay_run::space();
-    let n = io::read_full(0, &mut bytes);
-    replay_run::run(&bytes[..n]);
+    let spool = spool::input();
+    if spool.failed {
+        return;
+    }
+    let start = start::read(spool);
+    if start.failed {
+        return;
+    }
+    run(spool, start);
+}
+
+fn window() -> [u8; WINDOW]
+    ensures { λ r. ⌜ 131072 ≡ length r ⌝ }
+{
+    [0; WINDOW]
+}
+
+// Reads all calls through, and then makes them.
+fn run(spool: Spool, start: Start) {
+    let settings = start.settings;
+    let setup = Node::new(settings);
+    let node = setup.node;
+    let mut window = window();
+    let mut out = io::large_buffer();
+    let mut lines = io::buffer();
+    let first = walk::start(node, false, start.calls);
+    let read = walk::through(first, spool, &mut window, &mut out, &mut lines);
+    if read.failed {
+        return;
+    }
+    if !start.known | (spool::LIMIT < spool.size) | (read.at != spool.size) {
+        walk::write(b"bad input\n");
+        return;
+    }
+    let answer = setup.answer;
+    match answer {
+        SetupAnswer::Made => {
+            let second = walk::start(node, true, start.calls);
+            walk::through(second, spool, &mut window, &mut out, &mut lines);
+        }
+        SetupAnswer::Refused(refusal) => {
+            refused(Line::new(b"settings refuse").refusal(refusal).ended());
+        }
+    }
+}
+
+fn refused(line: Line) {
+    let bytes = line.bytes;
+    walk::write(input::section::front(&bytes, line.length));
 }

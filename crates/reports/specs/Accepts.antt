@@ -1,40 +1,63 @@
--- Demand 2 of size reports, said declaratively: a report is accepted exactly when the rules admit it, with its neighbour and size.
-use Prim.Native.Nat.{ℕ, _≤_, _<_}
+-- Demand 2 of size reports, said in plain facts: a report is accepted exactly when the rules admit it, with its neighbour and size, and
+-- each refusal is given when they say.
+use Prim.Native.Nat.{ℕ, _*_, _/_, _%_, _≤_, _<_}
 use mathlib.Core.Path.{_≡_}
-use mathlib.Core.Bool.{true, false}
+use mathlib.Core.Logic.{_↔_}
 use mathlib.Core.List.{List}
 use lib.ListN.{length, getD}
-use Rattle.checksum.specs.Sum.{isRight}
-use Rattle.header.specs.Outer.{outerOf, quoteOf}
-use Rattle.header.specs.declared.outer.Outer.{Outer}
-use Rattle.paths.specs.declared.Candidate.the-variants.{Size}
-use Rattle.settings.specs.Settings.{forbiddenTo, isOurs}
+use Rattle.checksum.specs.Sum.{onesSum}
+use Rattle.header.specs.Fields.{wordAt, quadAt}
+use Rattle.header.specs.Numbers.{ipv6}
+use Rattle.header.specs.Outer.{quoteOf}
+use Rattle.paths.specs.Largest.{CandidateIs}
+use Rattle.refusals.specs.declared.Refusal.the-variants.{ReportMalformed, QuoteNotOurs, SizeUnusable, SizeNotBelow}
+use Rattle.settings.specs.Facts.{ForbiddenTo, Ours}
 use Rattle.settings.specs.declared.Settings.{Settings}
-use Rattle.reports.specs.Report.{candidateFor, judgedOf, answerAt}
-use Rattle.reports.specs.declared.ReportAnswer.the-variants.{Accepted}
+use Rattle.reports.specs.Report.{leastMessage, judgedOf, neighbourIn, answerAt}
+use Rattle.reports.specs.declared.ReportAnswer.{ReportAnswer}
+use Rattle.reports.specs.declared.ReportAnswer.the-variants.{Accepted, Refused}
 
--- the rules, of a message m whose quoted header has the fields `quoted`, at a size P in force toward the neighbour v
-pub record Accepts (s : Settings) (m : List ℕ) (quoted : Outer) (P v c : ℕ) : Type 0 where
-  -- RFC 792: a message of at least 8 bytes and an IPv4 header, whose checksum is right
-  pub some : 28 ≤ length m
-  pub checksumRight : isRight m ≡ true
+-- 16 does not hold of a message m
+pub record WellFormed (m : List ℕ) : Type 0 where
+  -- RFC 792: at least 8 bytes and an IPv4 header, with a checksum that is right
+  pub some : leastMessage ≤ length m
+  pub checksumRight : onesSum m ≡ 0xFFFF
   -- RFC 1191, 4: destination unreachable, fragmentation needed
   pub kind : getD m 0 0 ≡ 3
   pub code : getD m 1 0 ≡ 4
-  -- RFC 791, 3.1: it quotes a whole IPv4 header
-  pub version : quoted .version ≡ 4
-  pub words : 20 ≤ quoted .header
-  pub whole : quoted .header ≤ length (quoteOf m)
-  -- of a packet that we wrapped: protocol 41, from a locator address, to a tunnel end, the neighbour
-  pub protocol : quoted .protocol ≡ 41
-  pub source : isOurs s (quoted .source) ≡ true
-  pub neighbour : quoted .destination ≡ v
-  pub allowed : forbiddenTo s v ≡ false
-  pub foreign : isOurs s v ≡ false
-  -- the candidate is usable, and below the size in force
-  pub candidate : candidateFor m ≡ Size c
+  -- RFC 791, 3.1: it quotes a whole IPv4 header of five words or more
+  pub version : getD (quoteOf m) 0 0 / 16 ≡ 4
+  pub words : 5 ≤ getD (quoteOf m) 0 0 % 16
+  pub whole : getD (quoteOf m) 0 0 % 16 * 4 ≤ length (quoteOf m)
+
+-- 17 does not hold: the quoted datagram is of our sending, protocol 41, from a locator address to a tunnel end, the neighbour v
+pub record OfOurs (s : Settings) (m : List ℕ) (v : ℕ) : Type 0 where
+  pub protocol : getD (quoteOf m) 9 0 ≡ ipv6
+  pub source : Ours s (quadAt (quoteOf m) 12)
+  pub neighbour : quadAt (quoteOf m) 16 ≡ v
+  pub allowed : ForbiddenTo s v → ⊥
+  pub foreign : Ours s v → ⊥
+
+-- 18 does not hold: bytes 6 and 7, or for 0 the plateau below the quoted total length, give the candidate c
+abbrev pub Asks : List ℕ → ℕ → Type 0
+Asks m c = CandidateIs (wordAt m 6) (wordAt (quoteOf m) 2) c
+
+-- the rules, at a size P in force toward the neighbour v
+pub record Accepts (s : Settings) (m : List ℕ) (P v c : ℕ) : Type 0 where
+  pub formed : WellFormed m
+  pub ours : OfOurs s m v
+  pub candidate : Asks m c
+  -- 19 does not hold
   pub below : c < P
 
-pub record AcceptedExactly (s : Settings) (m : List ℕ) (P v c : ℕ) : Type 0 where
-  pub onlyIf : answerAt (judgedOf s m) P ≡ Accepted v c → Accepts s m (outerOf (quoteOf m)) P v c
-  pub if : Accepts s m (outerOf (quoteOf m)) P v c → answerAt (judgedOf s m) P ≡ Accepted v c
+-- the answer, where `size` is the size in force toward each neighbour
+abbrev pub answerToward : Settings → List ℕ → (ℕ → ℕ) → ReportAnswer
+answerToward s m size = answerAt (judgedOf s m) (size (neighbourIn (judgedOf s m)))
+
+-- the claim, of a message at those sizes
+pub record ReportedExactly (s : Settings) (m : List ℕ) (size : ℕ → ℕ) : Type 0 where
+  pub accepted : (v c : ℕ) → (answerToward s m size ≡ Accepted v c) ↔ Accepts s m (size v) v c
+  pub malformed : (WellFormed m → ⊥) → answerToward s m size ≡ Refused ReportMalformed
+  pub notOurs : WellFormed m → ((v : ℕ) → OfOurs s m v → ⊥) → answerToward s m size ≡ Refused QuoteNotOurs
+  pub unusable : (v : ℕ) → WellFormed m → OfOurs s m v → ((c : ℕ) → Asks m c → ⊥) → answerToward s m size ≡ Refused SizeUnusable
+  pub notBelow : (v c : ℕ) → WellFormed m → OfOurs s m v → Asks m c → size v ≤ c → answerToward s m size ≡ Refused SizeNotBelow

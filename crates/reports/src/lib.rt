@@ -1,4 +1,6 @@
 // Size reports: judged by the settings and their bytes alone, and then by the size in force.
+use header::IPV6;
+use header::OUTER_HEADER;
 use header::fields;
 use header::outer;
 use header::outer::Outer;
@@ -27,10 +29,7 @@ const UNREACHABLE: u8 = 3;
 const FRAGMENTATION_NEEDED: u8 = 4;
 
 // A message of 8 bytes and the least IPv4 header.
-const LEAST_MESSAGE: usize = 28;
-
-// The protocol of IPv6 in IPv4.
-const IPV6: u8 = 41;
+const LEAST_MESSAGE: usize = 8 + OUTER_HEADER;
 
 // Number 16.
 fn report_malformed(message: &[u8], quoted: Outer) -> bool

@@ -10,7 +10,7 @@ use lib.Dec.{ltb}
 use borrow.Author.Tests.{ltb-true, ltb-false, le-leb}
 use Rattle.routers.specs.declared.Router.{Router}
 use Rattle.routers.specs.declared.Next.the-variants.{Due}
-use Rattle.routers.specs.Routers.{earlier, earliest, ifDue, nextOf}
+use Rattle.routers.specs.Routers.{earlierOf, earliest, ifDue, nextOf}
 
 -- e is t, or ahead of it: before t and due no later, or behind t and due earlier
 abbrev pub Ahead : Router → List Router → List Router → Router → Type 0
@@ -20,11 +20,11 @@ abbrev Behind : Router → List Router → Router → Type 0
 Behind s back e = (e ≡ s) ⊎ (List·Memᴰ e back × (e .due < s .due))
 
 -- e is r or s, by their due times
-abbrev Chosen : Router → Router → Router → Type 0
+abbrev pub Chosen : Router → Router → Router → Type 0
 Chosen r s e = ((e ≡ r) × (r .due ≤ s .due)) ⊎ ((e ≡ s) × (s .due < r .due))
 
-chosen : (r s : Router) → Chosen r s (earlier r s)
-unfolding earlier
+pub chosen : (r s : Router) → Chosen r s (earlierOf r s)
+unfolding earlierOf
 chosen r s = go (ltb (s .due) (r .due)) refl
   where
     go : (t : Bool) → ltb (s .due) (r .due) ≡ t → Chosen r s (cond t s r)
@@ -35,7 +35,7 @@ chosen r s = go (ltb (s .due) (r .due)) refl
 behind : (s : Router) (back : List Router) → Behind s back (earliest s back)
 unfolding earliest
 behind s [] = inl refl
-behind s (b ∷ back) = go (earlier s b) _ (chosen s b) (behind (earlier s b) back)
+behind s (b ∷ back) = go (earlierOf s b) _ (chosen s b) (behind (earlierOf s b) back)
   where
     go : (r e : Router) → Chosen s b r → Behind r back e → Behind s (b ∷ back) e
     go r e (inl k) (inl h) = inl (h ∙ k .0)
@@ -46,14 +46,14 @@ behind s (b ∷ back) = go (earlier s b) _ (chosen s b) (behind (earlier s b) ba
 -- the earliest of a list in which t stands behind s and the rest of the front
 ahead : (s t : Router) (front back : List Router) → Ahead t (s ∷ front) back (earliest s (front ++ t ∷ back))
 unfolding earliest
-ahead s t [] back = go (earlier s t) _ (chosen s t) (behind (earlier s t) back)
+ahead s t [] back = go (earlierOf s t) _ (chosen s t) (behind (earlierOf s t) back)
   where
     go : (r e : Router) → Chosen s t r → Behind r back e → Ahead t (s ∷ []) back e
     go r e (inl k) (inl h) = inr (inl (List·Memᴰ·head (h ∙ k .0), rw (h ∙ k .0) (k .1)))
     go r e (inl k) (inr m) = inr (inr (m .0, let l : e .due < s .due = rw (k .0) at (m .1) in omega arith))
     go r e (inr k) (inl h) = inl (h ∙ k .0)
     go r e (inr k) (inr m) = inr (inr (m .0, rw (k .0) at (m .1)))
-ahead s t (f ∷ front) back = go (earlier s f) _ (chosen s f) (ahead (earlier s f) t front back)
+ahead s t (f ∷ front) back = go (earlierOf s f) _ (chosen s f) (ahead (earlierOf s f) t front back)
   where
     in-front : (r e : Router) → Chosen s f r → (e ≡ r) ⊎ List·Memᴰ e front → List·Memᴰ e (s ∷ f ∷ front)
     in-front r e (inl k) (inl h) = List·Memᴰ·head (h ∙ k .0)

@@ -1,21 +1,19 @@
 -- One turn of a loop over the first n elements of xs: what a definition says of those from place i on, by the one at i and those from i + 1 on.
 -- Assumes nothing.
-use mathlib.Core.Path.{_≡_, refl, sym, ap, _∙_}
+use mathlib.Core.Path.{_≡_, refl, ap}
 use mathlib.Core.List.{List, [], _∷_, _++_, map, append-nil}
 use mathlib.Core.Bool.{Bool, true, false, not, _&&_, _||_, or-assoc, and-assoc}
 use Prim.Native.Nat.{ℕ, zero, suc, _+_, _<_, _≤_}
 use native.Mathlib.Numerals.{add-one}
 use native.Mathlib.Nat.{le-of-suc-le-suc, not-suc-le-zero}
 use native.Mathlib.Omega.{arith}
-use lib.ListN.{length, getD, take, drop, set, length-take, length-map, drop-of-length-le}
+use lib.ListN.{length, getD, take, drop, set, length-take, drop-of-length-le}
 use lib.Seq.{drop-cons, getD-take, take-all}
+use Rattle.lists.specs.Any.{anyOf}
 use borrow.Author.Tests.{eq-eqb, ne-eqb}
 use Rattle.routers.specs.declared.Router.{Router}
-use Rattle.routers.specs.Routers.{any, earlier, earliest, dueOr, among, areDistinct}
-
--- what a read past the last place gives
-abbrev pub noRouter : Router
-noRouter = record { address = 0; due = 0 }
+use Rattle.routers.specs.Facts.{noRouter}
+use Rattle.routers.specs.Routers.{earlierOf, earliest, dueOr, among, areDistinct}
 
 module _ {A : Type 0} (n i : ℕ) (xs : List A) where
   pub past : length (take n xs) ≤ i → drop i (take n xs) ≡ []
@@ -27,22 +25,19 @@ module _ {A : Type 0} (n i : ℕ) (xs : List A) where
       rw (add-one, drop-cons (take n xs) i z, getD-take)
 
   pub any-step : (z : A) → i < length (take n xs) → (p : A → Bool) (found : Bool)
-      → (found || any p (drop i (take n xs))) ≡ (found || p (getD xs i z) || any p (drop (i + 1) (take n xs)))
-  unfolding any
+      → (found || anyOf p (drop i (take n xs))) ≡ (found || p (getD xs i z) || anyOf p (drop (i + 1) (take n xs)))
   any-step z h p found = rw (rest z h, or-assoc)
 
   -- the same for a loop that leaves at the first element that passes
-  pub any-here : (z : A) → i < length (take n xs) → (p : A → Bool) → p (getD xs i z) ≡ true → any p (drop i (take n xs)) ≡ true
-  unfolding any
+  pub any-here : (z : A) → i < length (take n xs) → (p : A → Bool) → p (getD xs i z) ≡ true → anyOf p (drop i (take n xs)) ≡ true
   any-here z h p e = rw (rest z h, e)
 
   pub any-later : (z : A) → i < length (take n xs) → (p : A → Bool) → p (getD xs i z) ≡ false
-      → any p (drop i (take n xs)) ≡ any p (drop (i + 1) (take n xs))
-  unfolding any
+      → anyOf p (drop i (take n xs)) ≡ anyOf p (drop (i + 1) (take n xs))
   any-later z h p e = rw (rest z h, e)
 
 module _ (n i : ℕ) (rs : List Router) (within : i < length (take n rs)) where
-  pub earliest-step : (r : Router) → earliest r (drop i (take n rs)) ≡ earliest (earlier r (getD rs i noRouter)) (drop (i + 1) (take n rs))
+  pub earliest-step : (r : Router) → earliest r (drop i (take n rs)) ≡ earliest (earlierOf r (getD rs i noRouter)) (drop (i + 1) (take n rs))
   unfolding earliest
   earliest-step r = rw (rest n i rs noRouter within)
 
@@ -75,7 +70,3 @@ module _ {A : Type 0} (f : A → Router) (xs : List A) (rs : List Router) (i : �
 
   pub filled : length xs ≤ i → length rs ≤ i → map f (take i xs) ++ drop i rs ≡ map f xs
   filled h k = rw (take-all i xs h, drop-of-length-le rs k, append-nil)
-
--- what owning an array of structs says of its length is said of the list of its elements' fields
-pub unmapped : {X Y : Type 0} (f : X → Y) (xs : List X) (n : ℕ) → length (map f xs) ≡ n → length xs ≡ n
-unmapped f xs n h = sym (length-map xs f) ∙ h

@@ -2,4 +2,6 @@
 pub mod Laws
 pub mod Live
 pub mod Earliest
+pub mod Due
 pub mod Fairness
+pub mod Facts

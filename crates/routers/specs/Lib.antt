@@ -1,2 +1,3 @@
 pub mod Routers
 pub mod Fairness
+pub mod Facts

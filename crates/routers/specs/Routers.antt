@@ -1,9 +1,10 @@
 -- Document 01, "Routers" and "Settings": what the calls of the router list give.
 use Prim.Native.Nat.{ℕ}
 use mathlib.Core.List.{List, [], _∷_, map}
-use mathlib.Core.Bool.{Bool, true, false, cond, not, _&&_, _||_}
+use mathlib.Core.Bool.{Bool, true, cond, not, _&&_}
 use lib.ListN.{take}
 use lib.Dec.{ltb, leb, eqb}
+use Rattle.lists.specs.Any.{anyOf}
 use Rattle.routers.specs.declared.Router.{Router}
 use Rattle.routers.specs.declared.RouterList.{RouterList}
 use Rattle.routers.specs.declared.Next.{Next}
@@ -17,23 +18,18 @@ places = 16
 abbrev pub live : RouterList → List Router
 live l = take (l .count) (l .routers)
 
--- some element passes the test
-unfoldable pub any : {A : Type 0} → (A → Bool) → List A → Bool
-any p [] = false
-any p (x ∷ xs) = p x || any p xs
-
 -- "Receiving": a listed router is one whose address is in the list
 abbrev pub listed : ℕ → List Router → Bool
-listed a rs = any (λ r. eqb (r .address) a) rs
+listed a rs = anyOf (λ r. eqb (r .address) a) rs
 
 -- "Routers": of two routers the one with the earlier due time, the first on a tie
-unfoldable pub earlier : Router → Router → Router
-earlier r s = cond (ltb (s .due) (r .due)) s r
+unfoldable pub earlierOf : Router → Router → Router
+earlierOf r s = cond (ltb (s .due) (r .due)) s r
 
 -- "Routers": the router with the earliest due time, lowest place on a tie, of a list that begins with r
 unfoldable pub earliest : Router → List Router → Router
 earliest r [] = r
-earliest r (s ∷ rs) = earliest (earlier r s) rs
+earliest r (s ∷ rs) = earliest (earlierOf r s) rs
 
 -- "Routers": a router is asked if its due time is not in the future
 abbrev pub ifDue : ℕ → Router → Next
@@ -75,7 +71,7 @@ newOf addresses n = record { routers = map (λ a. record { address = a; due = 0 
 
 -- the address is among the addresses
 abbrev pub among : ℕ → List ℕ → Bool
-among a bs = any (λ b. eqb b a) bs
+among a bs = anyOf (λ b. eqb b a) bs
 
 -- "Settings": routers are distinct
 unfoldable pub areDistinct : List ℕ → Bool

@@ -3,7 +3,7 @@
 ghost use mathlib.Core.Path.{_≡_};
 ghost use Prim.Native.Nat.{_≤_, min};
 ghost use lib.ListN.{length, take, drop};
-ghost use Rattle.routers.specs.Routers.{places, live, listed, earlier, ifDue, nextOf, dueOr, dueIf, rescheduledOf, replacedOf, newOf, among, areDistinct};
+ghost use Rattle.routers.specs.Routers.{places, live, listed, earlierOf, ifDue, nextOf, dueOr, dueIf, rescheduledOf, replacedOf, newOf, among, areDistinct};
 
 // How many routers a list has room for.
 pub const PLACES: usize = 16;
@@ -56,7 +56,7 @@ impl Router {
 
 // Of two routers the one that is due earlier, the first on a tie.
 fn earlier(first: Router, second: Router) -> Router
-    ensures { λ r. ⌜ r ≡ earlier first second ⌝ }
+    ensures { λ r. ⌜ r ≡ earlierOf first second ⌝ }
 {
     if second.due < first.due {
         second

@@ -1,4 +1,6 @@
 pub mod Cases
-pub mod Seen
+pub mod Judged
 pub mod WrapsLaws
+pub mod ExactlyLaws
+pub mod Seen
 pub mod Leaves

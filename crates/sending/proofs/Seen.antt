@@ -1,22 +1,27 @@
 -- What demand 3 sees of a sending: 14 with the size it names, or any other answer, by the path size. Assumes nothing.
-use Prim.Native.Nat.{ℕ, _<_}
+use Prim.Native.Nat.{ℕ}
 use mathlib.Core.Path.{_≡_, refl}
 use mathlib.Core.Bool.{Bool, true, false, cond, not, _&&_}
 use mathlib.Core.List.{List}
-use borrow.Author.Tests.{ltb-true}
+use native.Mathlib.Omega.{arith}
 use lib.Dec.{ltb}
 use lib.ListN.{length}
 use Rattle.header.specs.Inner.{mayDrawError}
-use Rattle.header.specs.Wrap.{wrapCheck}
-use Rattle.messages.specs.Icmp.{tooBigLength}
+use Rattle.header.specs.Wrap.{wrapAnswer}
+use Rattle.header.specs.declared.wrap.Written.{Written}
+use Rattle.header.specs.declared.wrap.Written.the-variants as written
+use Rattle.messages.specs.Icmp.{tooBigLength, tooBigCheck, tooBigAnswer}
+use Rattle.messages.proofs.WriterLaws.{too-big-room}
 use Rattle.paths.specs.Calls.{Answer, tooBig, other, sendAnswer}
 use Rattle.paths.specs.Packets.{largestPacket}
+use Rattle.refusals.specs.declared.Refusal.the-variants.{OutputShort}
 use Rattle.refusals.specs.declared.Check.{Check}
 use Rattle.refusals.specs.declared.Check.the-variants.{Pass, Stop}
 use Rattle.settings.specs.declared.Settings.{Settings}
-use Rattle.sending.specs.Plan.{sourceOf, addressOf, sendCheck, planOf, sizedPlan, bigPlan, wrapPlan}
-use Rattle.sending.specs.Sending.{planAnswer, sentOf}
-use Rattle.sending.proofs.Cases.{planBy, too-big-by}
+use Rattle.sending.specs.Plan.{sourceOf, addressOf, sendCheck, planOf, sizedPlan}
+use Rattle.sending.specs.Sending.{wrappedAs, planAnswer, sentOf}
+use Rattle.sending.proofs.Judged.{check-passes}
+use Rattle.sending.specs.declared.judging.Plan.the-variants.{Wrap, Tell, Silent}
 use Rattle.sending.specs.declared.SendAnswer.{SendAnswer}
 use Rattle.sending.specs.declared.SendAnswer.the-variants.{Wrapped, TooBig, Refused}
 
@@ -35,29 +40,31 @@ abbrev pub seenAfter : Check → Answer → Answer
 seenAfter Pass a = a
 seenAfter (Stop refusal) a = other
 
-seen-by : (check : Check) (big may short : Bool) (wrap : Check) (size source total n : ℕ)
-    → tooBigSeen (planAnswer (planBy check big may short wrap size source total) n)
-    ≡ seenAfter check (cond (big && not (may && short)) (tooBig size) other)
-seen-by (Stop r) big may short wrap size source total n = refl
-seen-by Pass true true true wrap size source total n = refl
-seen-by Pass true true false wrap size source total n = refl
-seen-by Pass true false short wrap size source total n = refl
-seen-by Pass false may short (Stop r) size source total n = refl
-seen-by Pass false may short Pass size source total n = refl
+wrapped-seen : (w : Written) → tooBigSeen (wrappedAs w) ≡ other
+wrapped-seen (written.Length n) = refl
+wrapped-seen (written.Refused r) = refl
+
+module _ (n room : ℕ) where
+  seen-by : (big may short : Bool) (size source : ℕ) → tooBigCheck n room ≡ cond short (Stop OutputShort) Pass
+      → tooBigSeen (planAnswer (cond big (cond may (Tell size) (Silent size)) (Wrap source)) n room) ≡ cond (big && not (may && short)) (tooBig size) other
+  unfolding tooBigAnswer
+  seen-by true true true size source e = rw e
+  seen-by true true false size source e = rw e
+  seen-by true false short size source e = refl
+  seen-by false may short size source e = wrapped-seen (wrapAnswer n room)
 
 module _ (s : Settings) (i P : ℕ) (packet hop : List ℕ) (k room : ℕ) where
+  seen-after : (check : Check) → sendCheck s packet hop k ≡ check
+      → tooBigSeen (sentOf s i P packet hop k room .answer) ≡ seenAfter check (sendAnswer (largestPacket P) (length packet) (takesMessage packet room))
+  unfolding sentOf planOf sizedPlan
+  seen-after Pass e =
+      let w = check-passes s packet hop k e .whole in
+      rw e
+      (seen-by (length packet) room (ltb (largestPacket P) (length packet)) (mayDrawError packet) (ltb room (tooBigLength (length packet))) (largestPacket P)
+      (addressOf (sourceOf s k)) (too-big-room (length packet) room (omega (arith, w .1))))
+  seen-after (Stop r) e = rw e
+
   -- 14 is given exactly as the rules of sending say for P, in every call that comes to it
   pub sent-seen : tooBigSeen (sentOf s i P packet hop k room .answer)
       ≡ seenAfter (sendCheck s packet hop k) (sendAnswer (largestPacket P) (length packet) (takesMessage packet room))
-  unfolding sentOf planOf sizedPlan bigPlan wrapPlan
-  sent-seen =
-      seen-by (sendCheck s packet hop k) (ltb (largestPacket P) (length packet)) (mayDrawError packet) (ltb room (tooBigLength (length packet)))
-      (wrapCheck (length packet) room) (largestPacket P) (addressOf (sourceOf s k)) _ (length packet)
-
-  -- a Too Big answer names M, and the packet is longer
-  pub too-big-size : (size len : ℕ) → sentOf s i P packet hop k room .answer ≡ TooBig size len → (size ≡ largestPacket P) × (largestPacket P < length packet)
-  unfolding sentOf planOf sizedPlan bigPlan wrapPlan
-  too-big-size size len e =
-      let p = too-big-by (largestPacket P) (addressOf (sourceOf s k)) _ (length packet) (sendCheck s packet hop k) (ltb (largestPacket P) (length packet))
-      (mayDrawError packet) (ltb room (tooBigLength (length packet))) (wrapCheck (length packet) room) size len e in
-      (p .3, ltb-true (largestPacket P) (length packet) (p .1))
+  sent-seen = seen-after (sendCheck s packet hop k) refl

@@ -1,3 +1,4 @@
 pub mod Plan
 pub mod Sending
 pub mod Wraps
+pub mod Exactly

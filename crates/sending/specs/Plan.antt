@@ -1,5 +1,5 @@
--- What a sending comes to (document 01, "Sending"), before a byte is written: 8, 11, 12, 13, then 14, 23, 15.
-use Prim.Native.Nat.{ℕ, _+_}
+-- What a sending comes to (document 01, "Sending"), before a byte is written: 8, 11, 12, 13, then 14. 23 and 15 are the writers'.
+use Prim.Native.Nat.{ℕ}
 use mathlib.Core.Bool.{Bool, true, false, cond}
 use mathlib.Core.List.{List, [], _∷_}
 use lib.Dec.{ltb}
@@ -8,21 +8,18 @@ use Rattle.address.specs.Address.{lastQuad}
 use Rattle.address.specs.declared.Embedded.{Embedded}
 use Rattle.address.specs.declared.Embedded.the-variants as embedded
 use Rattle.header.specs.Inner.{innerOf, isPacketMalformed, mayDrawError}
-use Rattle.header.specs.Wrap.{wrapCheck}
-use Rattle.messages.specs.Icmp.{tooBigLength}
 use Rattle.paths.specs.Packets.{largestPacket}
-use Rattle.refusals.specs.Refusals.{firstOf}
+use Rattle.refusals.specs.Refusals.{firstOf, stopOr}
 use Rattle.refusals.specs.declared.Refusal.{Refusal}
-use Rattle.refusals.specs.declared.Refusal.the-variants.{InnerMalformed, NoLocator, NextHopNotIsatap, TunnelEndForbidden, OutputShort}
+use Rattle.refusals.specs.declared.Refusal.the-variants.{InnerMalformed, NoLocator, NextHopNotIsatap, TunnelEndForbidden}
 use Rattle.refusals.specs.declared.Check.{Check}
-use Rattle.refusals.specs.declared.Check.the-variants.{Pass, Stop}
 use Rattle.settings.specs.Locators.{locatorFound}
 use Rattle.settings.specs.Settings.{embeddedTo, isBadEnd}
 use Rattle.settings.specs.declared.Settings.{Settings}
 use Rattle.settings.specs.declared.locators.Found.{Found}
 use Rattle.settings.specs.declared.locators.Found.the-variants as found
-use Rattle.sending.specs.declared.Plan.{Plan}
-use Rattle.sending.specs.declared.Plan.the-variants.{Wrap, Tell, Silent, Refuse}
+use Rattle.sending.specs.declared.judging.Plan.{Plan}
+use Rattle.sending.specs.declared.judging.Plan.the-variants.{Wrap, Tell, Silent, Refuse}
 
 -- the locator of number k
 unfoldable pub sourceOf : Settings → ℕ → Found
@@ -57,25 +54,12 @@ sendRows s packet hop k =
 unfoldable pub sendCheck : Settings → List ℕ → List ℕ → ℕ → Check
 sendCheck s packet hop k = firstOf (sendRows s packet hop k)
 
--- the first refusal, else a plan
-abbrev pub planAfter : Check → Plan → Plan
-planAfter Pass plan = plan
-planAfter (Stop refusal) plan = Refuse refusal
+-- "If n > M: 14", with a message where the packet may draw one. "Otherwise the packet is wrapped", from the locator's address
+unfoldable pub sizedPlan : ℕ → List ℕ → ℕ → Plan
+sizedPlan P packet source =
+    let size : ℕ = largestPacket P in
+    cond (ltb size (length packet)) (cond (mayDrawError packet) (Tell size) (Silent size)) (Wrap source)
 
--- 14, with that size: a message where the packet may draw one, 15 where the room is too little for it; else length 0
-unfoldable pub bigPlan : ℕ → List ℕ → ℕ → Plan
-bigPlan size packet room =
-    cond (mayDrawError packet) (cond (ltb room (tooBigLength (length packet))) (Refuse OutputShort) (Tell size)) (Silent size)
-
--- 23 and 15 of a packet of n bytes; otherwise it is wrapped
-unfoldable pub wrapPlan : ℕ → ℕ → ℕ → Plan
-wrapPlan n room source = planAfter (wrapCheck n room) (Wrap source (20 + n))
-
--- "If n > M: 14. Otherwise the packet is wrapped"
-unfoldable pub sizedPlan : ℕ → List ℕ → ℕ → ℕ → Plan
-sizedPlan P packet room source =
-    cond (ltb (largestPacket P) (length packet)) (bigPlan (largestPacket P) packet room) (wrapPlan (length packet) room source)
-
--- the plan for a packet over a path of size P to a next hop, from locator k, with that much room in the output
-unfoldable pub planOf : Settings → ℕ → List ℕ → List ℕ → ℕ → ℕ → Plan
-planOf s P packet hop k room = planAfter (sendCheck s packet hop k) (sizedPlan P packet room (addressOf (sourceOf s k)))
+-- the plan for a packet over a path of size P to a next hop, from locator k
+unfoldable pub planOf : Settings → ℕ → List ℕ → List ℕ → ℕ → Plan
+planOf s P packet hop k = stopOr Refuse (sendCheck s packet hop k) (sizedPlan P packet (addressOf (sourceOf s k)))

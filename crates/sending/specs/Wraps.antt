@@ -1,47 +1,58 @@
--- Demand 2 of sending, said declaratively: a packet is wrapped exactly when the rules admit it, and then those bytes are written.
-use Prim.Native.Nat.{ℕ, _+_, _/_, _%_, _≤_}
+-- Demand 2 of sending, said in plain facts: a packet is wrapped exactly when the rules admit it, and then those bytes are written.
+use Prim.Native.Nat.{ℕ, _+_, _/_, _%_, _≤_, _<_}
 use mathlib.Core.Path.{_≡_}
-use mathlib.Core.Bool.{false}
+use mathlib.Core.Logic.{_⊎_, _↔_}
+use mathlib.Core.Bool.{Bool, true}
 use mathlib.Core.List.{List}
 use lib.ListN.{length, getD}
 use Rattle.address.specs.Address.{lastQuad}
-use Rattle.address.specs.declared.Embedded.the-variants.{Ipv4}
 use Rattle.header.specs.Fields.{wordAt}
-use Rattle.header.specs.Wrap.{wrapped}
+use Rattle.header.specs.Numbers.{outerHeader, innerHeader, ipv6}
+use Rattle.header.specs.Wrap.{longestTotal, wrapped}
 use Rattle.lent.specs.Written.{written}
-use Rattle.paths.specs.Packets.{largestPacket}
-use Rattle.settings.specs.Locators.{locatorFound}
-use Rattle.settings.specs.Settings.{embeddedTo, forbiddenTo, isOurs}
+use Rattle.paths.specs.Packets.{leastMtu}
+use Rattle.settings.specs.Facts.{ForbiddenTo, Ours, IsatapTo, LocatorAt}
 use Rattle.settings.specs.declared.Settings.{Settings}
-use Rattle.settings.specs.declared.locators.Found.the-variants.{Address}
-use Rattle.sending.specs.Plan.{sourceOf, addressOf}
-use Rattle.sending.specs.Sending.{fieldsFor, sentOf, sentOutput}
+use Rattle.sending.specs.Sending.{sentOf, sentOutput}
 use Rattle.sending.specs.declared.SendAnswer.the-variants.{Wrapped}
 
--- the rules, of a packet over a path of size P to a next hop, from locator k, whose address is a, with that much room
-pub record Wraps (s : Settings) (P : ℕ) (packet hop : List ℕ) (k room a : ℕ) : Type 0 where
-  -- an IPv6 packet, whose length is 40 + payload length
-  pub version : getD packet 0 0 / 16 ≡ 6
-  pub whole : length packet ≡ 40 + wordAt packet 4
-  -- a locator of that number
-  pub locator : locatorFound (s .locators) (s .«locator_count») k ≡ Address a
-  -- the next hop is an ISATAP address, which embeds the tunnel end
-  pub isatap : embeddedTo s hop ≡ Ipv4 (lastQuad hop)
-  -- the tunnel end is neither forbidden nor a locator address of our own
-  pub allowed : forbiddenTo s (lastQuad hop) ≡ false
-  pub foreign : isOurs s (lastQuad hop) ≡ false
-  -- the packet is no longer than M, its header takes it, and so does the output
-  pub path : length packet ≤ largestPacket P
-  pub total : 20 + length packet ≤ 65535
-  pub output : 20 + length packet ≤ room
+-- an IPv6 packet, whose length is 40 + payload length
+abbrev pub Whole : List ℕ → Type 0
+Whole packet = (getD packet 0 0 / 16 ≡ 6) × (length packet ≡ innerHeader + wordAt packet 4)
 
+-- 8, 11, 12 and 13 do not hold of a packet to a next hop, from locator k, whose address is a
+pub record Passes (s : Settings) (packet hop : List ℕ) (k a : ℕ) : Type 0 where
+  pub whole : Whole packet
+  -- there is a locator of that number
+  pub locator : LocatorAt s k a
+  -- the next hop is an ISATAP address, which embeds the tunnel end, its last 32 bits
+  pub isatap : IsatapTo s hop (lastQuad hop)
+  -- the tunnel end is neither forbidden nor a locator address of our own
+  pub allowed : ForbiddenTo s (lastQuad hop) → ⊥
+  pub foreign : Ours s (lastQuad hop) → ⊥
+
+-- a packet of n bytes is no longer than M, the larger of 1,280 and P − 20: it is no longer than one of them
+abbrev pub PathTakes : ℕ → ℕ → Type 0
+PathTakes P n = (n ≤ leastMtu) ⊎ (outerHeader + n ≤ P)
+
+-- the rules of wrapping, over a path of size P with that much room in the output
+pub record Wraps (s : Settings) (P : ℕ) (packet hop : List ℕ) (k room a : ℕ) : Type 0 where
+  pub passes : Passes s packet hop k a
+  -- the packet is no longer than M, its header takes it, and so does the output
+  pub path : PathTakes P (length packet)
+  pub total : outerHeader + length packet ≤ longestTotal
+  pub output : outerHeader + length packet ≤ room
+
+-- the claim, of a sending with identification i into an output
 pub record WrappedExactly (s : Settings) (i P : ℕ) (packet hop : List ℕ) (k : ℕ) (out : List ℕ) : Type 0 where
   -- a packet is answered as wrapped only when the rules hold, and with its length and the header's
   pub onlyIf : (len : ℕ) → sentOf s i P packet hop k (length out) .answer ≡ Wrapped len
-      → (len ≡ 20 + length packet) × Wraps s P packet hop k (length out) (addressOf (sourceOf s k))
+      → (len ≡ outerHeader + length packet) × ((a : ℕ) × Wraps s P packet hop k (length out) a)
   -- and whenever they hold; the identification goes on by one, from 65,535 to 0
   pub if : (a : ℕ) → Wraps s P packet hop k (length out) a
-      → sentOf s i P packet hop k (length out) ≡ record { answer = Wrapped (20 + length packet); identification = (i + 1) % 65536 }
-  -- then the output gets the header and the packet behind it, and what stood behind that stays
-  pub bytes : (a : ℕ) → Wraps s P packet hop k (length out) a
-      → sentOutput s i P packet hop k out ≡ written (wrapped (fieldsFor s i P hop a) packet) out
+      → sentOf s i P packet hop k (length out) ≡ record { answer = Wrapped (outerHeader + length packet); identification = (i + 1) % 65536 }
+  -- then the output gets the header and the packet behind it, and what stood behind that stays; the flag is set exactly when P − 20 > 1,280
+  pub bytes : (a : ℕ) (flag : Bool) → Wraps s P packet hop k (length out) a → (flag ≡ true) ↔ (outerHeader + leastMtu < P)
+      → sentOutput s i P packet hop k out
+      ≡ written
+      (wrapped (record { identification = i; «dont_fragment» = flag; ttl = s .ttl; protocol = ipv6; source = a; destination = lastQuad hop }) packet) out

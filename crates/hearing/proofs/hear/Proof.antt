@@ -1,39 +1,55 @@
 -- `hearing::hear` meets its contract: at each return the tests that led there say which row holds. Assumes nothing.
 use native.Mathlib.Omega.{arith}
-use mathlib.Core.Path.{sym, _∙_}
-use lib.ListN.{length-take}
+use mathlib.Core.Path.{_≡_, sym, _∙_}
+use mathlib.Core.Bool.{true, false}
+use lib.ListN.{length, take, length-take}
 use Rattle.checksum.proofs.Bytes.{bytes-of}
 use Rattle.header.proofs.InnerLaws.{inner-whole}
-use Rattle.hearing.specs.Heard.{heardOf}
-use Rattle.hearing.proofs.Laws.{length-bounds}
+use Rattle.header.specs.Inner.{innerOf, isInnerMalformed}
+use Rattle.hearing.specs.Heard.{isAdvertisement, heardOf}
+use Rattle.hearing.proofs.Stages.{length-bounds, message-stage, no-message}
 use Rattle.hearing.proofs.hear.Statement.{statement}
 use Rattle.hearing.proofs.hear.Tie as tie
 
 returns : tie.Need-returns
 unfolding heardOf
-returns c = simp (← c .before .before .inner-header .ensures, ← c .before .inner-malformed .ensures, c .if1 .taken)
+returns c =
+    let b = c .before in
+    simp (← b .before .before .inner-header .ensures, ← b .before .inner-malformed .ensures, b .if1 .taken, c .refused .ensures)
 
 slice-aggregate-p : tie.Need-slice-aggregate-p
 slice-aggregate-p c = let fits = inner-whole _ _ (sym (c .before .before .inner-malformed .ensures) ∙ c .before .if1 .left) in simp length-take (omega arith)
 
-valid-requires : tie.Need-valid-requires
-valid-requires c κs =
+advertisement-requires : tie.Need-advertisement-requires
+advertisement-requires c κs =
     let fits = inner-whole _ _ (sym (c .before .before .inner-malformed .ensures) ∙ c .before .if1 .left) in
     let p = c .before .before .before .before .before .args .packet .now in
     let size = length-bounds p (bytes-of p (λ i. c .before .before .before .before .shared-slice-known .given i .fits)) (c .before .before .before .inner-header .ensures) in
     (simp length-take (omega arith), simp length-take (omega arith))
 
 returns-2 : tie.Need-returns-2
-unfolding heardOf
-returns-2 c = simp (← c .before .before .before .before .before .inner-header .ensures, ← c .before .before .before .before .inner-malformed .ensures, c .before .before .before .if1 .left, ← c .before .valid .ensures, c .if2 .taken)
+returns-2 c =
+    let v = c .before .before .before in
+    let m = v .before .before .before in
+    let h = m .before .inner-header .ensures in
+    let a = m .before .before .before .args in
+    let right : isInnerMalformed (length (a .packet .now)) (innerOf (a .packet .now)) ≡ false = rw (← h) (sym (m .inner-malformed .ensures) ∙ v .before .before .if1 .left) in
+    let is : isAdvertisement (innerOf (a .packet .now)) (take (innerOf (a .packet .now) .length) (a .packet .now)) ≡ true =
+    rw (← h) (sym (v .advertisement .ensures) ∙ c .before .before .if2 .taken) in
+    c .hear-message .ensures ∙ rw h (message-stage (a .settings) (a .routers) (a .time) (a .packet .now) right is)
 
 returns-3 : tie.Need-returns-3
-unfolding heardOf
 returns-3 c =
-    let v = c .before .before .before in
-    simp (← v .before .before .before .before .inner-header .ensures, ← v .before .before .before .inner-malformed .ensures, v .before .before .if1 .left, ← v .valid .ensures, c .before .before .if2 .left, c .hear-from .ensures)
+    let v = c .before .before in
+    let m = v .before .before .before in
+    let h = m .before .inner-header .ensures in
+    let a = m .before .before .before .args in
+    let right : isInnerMalformed (length (a .packet .now)) (innerOf (a .packet .now)) ≡ false = rw (← h) (sym (m .inner-malformed .ensures) ∙ v .before .before .if1 .left) in
+    let none : isAdvertisement (innerOf (a .packet .now)) (take (innerOf (a .packet .now) .length) (a .packet .now)) ≡ false =
+    rw (← h) (sym (v .advertisement .ensures) ∙ c .before .if2 .left) in
+    c .refused2 .ensures ∙ no-message (a .settings) (a .routers) (a .time) (a .packet .now) right none
 
 pub hear-spec : {M : Type 1} → statement M
 hear-spec =
     tie.close
-    (tie.spec (omega arith) (omega arith) returns slice-aggregate-p valid-requires returns-2 (omega arith) returns-3)
+    (tie.spec (omega arith) (omega arith) (omega arith) returns slice-aggregate-p advertisement-requires (omega arith) (omega arith) returns-2 returns-3)

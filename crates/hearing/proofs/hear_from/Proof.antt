@@ -10,19 +10,21 @@ returns : tie.Need-returns
 unfolding heardFrom embeddedTo
 returns c =
     let f = c .before .before .before .before .before in
-    rw (← f .before .before .before .rows .ensures, ← f .before .before .isatap .ensures, f .found .given .1, ← c .before .before .before .lists .ensures, c .before .before .if1 .taken, c .rescheduled .ensures, c .before .due .ensures)
+    rw (← f .before .before .before .rows .ensures, ← f .before .before .isatap .ensures, f .found .given .1, ← c .before .before .before .lists .ensures, c .before .before .if1 .taken, c .rescheduled .ensures, c .before .due-after .ensures)
 
 returns-2 : tie.Need-returns-2
 unfolding heardFrom embeddedTo
 returns-2 c =
-    let f = c .before .before .before in
-    rw (← f .before .before .before .rows .ensures, ← f .before .before .isatap .ensures, f .found .given .1, ← c .before .lists .ensures, c .if1 .left)
+    let f = c .before .before .before .before in
+    rw (← f .before .before .before .rows .ensures, ← f .before .before .isatap .ensures, f .found .given .1, ← c .before .before .lists .ensures, c .before .if1 .left, c .refused .ensures)
 
 returns-3 : tie.Need-returns-3
 unfolding heardFrom embeddedTo
-returns-3 c = rw (← c .before .before .before .rows .ensures, ← c .before .before .isatap .ensures, c .enum-told .given .1)
+returns-3 c =
+    let e = c .before in
+    rw (← e .before .before .before .rows .ensures, ← e .before .before .isatap .ensures, e .enum-told .given .1, c .refused2 .ensures)
 
 pub hear-from-spec : {M : Type 1} → statement M
 hear-from-spec =
     tie.close
-    (tie.spec (omega arith) (omega arith) (search needs) (omega arith) (omega arith) (omega arith) returns (search needs) returns-2 returns-3)
+    (tie.spec (omega arith) (omega arith) (search needs) (omega arith) (omega arith) (omega arith) returns (omega arith) (search needs) (omega arith) returns-2 returns-3)

@@ -4,12 +4,13 @@ use borrow.Author.Needs.{needs}
 use denote.Ref.{now}
 use native.Mathlib.Omega.{arith}
 use mathlib.Core.Path.{sym, _∙_}
-use Prim.Native.Nat.{ℕ, _<_}
-use lib.ListN.{length}
+use Prim.Native.Nat.{ℕ, _-_, _<_}
+use lib.ListN.{length, drop, length-take, length-drop}
 use borrow.Fn.Kinds.{In}
 use borrow.Fn.PlainCycle.{Measures, is, falls, and}
 use Rattle.lifetimes.proofs.Sizes.{size-fits, size-least}
-use Rattle.lifetimes.proofs.Steps.{walk-end, walk-bad, walk-on, part}
+use Rattle.lifetimes.proofs.Steps.{part}
+use Rattle.lifetimes.proofs.Walks.{walked-none, walked-end, walked-step}
 use Rattle.lifetimes.proofs.walk.Reads as walk
 use Rattle.lifetimes.proofs.walk.Kinds as walk-kinds
 use Rattle.lifetimes.proofs.+walk.Lts-walk as walk-lts
@@ -44,13 +45,13 @@ known t = (
 returns : (t : ℕ) → walk-lts.Need-returns (known t) (walk-at t) walk.Post
 returns t c =
     let a = c .before .before .args in
-    walk-end (now (a .rest)) (a .smallest) (c .if1 .taken)
+    walked-none (a .most) (now (a .rest)) (a .smallest) (c .if1 .taken)
 
 returns-2 : (t : ℕ) → walk-lts.Need-returns-2 (known t) (walk-at t) walk.Post
 returns-2 t c =
     let b = c .before in
     let a = b .before .before .before .args in
-    walk-bad (now (a .rest)) (a .smallest) (b .before .if1 .left) (sym (b .option-size .ensures) ∙ c .if2 .taken)
+    walked-end (a .most) (now (a .rest)) (a .smallest) (sym (b .option-size .ensures) ∙ c .if2 .taken)
 
 -- the first option lies within the bytes, and is at least 8 bytes long
 first : (t : ℕ) → walk-lts.Need-option-lifetime-requires (known t) (walk-at t) walk.Post
@@ -69,6 +70,14 @@ starts t c =
     let b = c .before .before .before in
     omega (arith, b .option-size .ensures, size-fits (now (b .before .before .before .args .rest)))
 
+-- fewer bytes are left
+below : (t : ℕ) → walk-lts.Need-walk-requires (known t) (walk-at t) walk.Post
+below t c κs =
+    let b = c .before .before .before .before in
+    let bs = now (b .before .before .before .args .rest) in
+    let n = b .option-size .result in
+    (omega (arith, b .option-size .ensures, size-fits bs, length-take (length bs - n) (drop n bs), length-drop n bs), tt)
+
 returns-3 : (t : ℕ) → walk-lts.Need-returns-3 (known t) (walk-at t) walk.Post
 returns-3 t c =
     let b = c .before .before .before .before in
@@ -76,7 +85,7 @@ returns-3 t c =
     let a = b .before .before .before .before .args in
     c .walk .ensures
     ∙ rw (part (now (a .rest)) _, c .before .before .shorter .ensures, c .before .before .before .option-lifetime .ensures, e)
-    (walk-on (now (a .rest)) (λ z. b .if2 .left (e ∙ z)) (a .smallest))
+    (walked-step (a .most) (now (a .rest)) (a .smallest) (b .before .before .if1 .left) (λ z. b .if2 .left (e ∙ z)))
 
 pub +walk-spec : {M : Type 1} → statement M
 +walk-spec = close μ-walk λ t. walk-lts.spec (known t) (walk-at t) walk.Post
@@ -88,5 +97,6 @@ pub +walk-spec : {M : Type 1} → statement M
     (fits t)
     (starts t)
     (search needs)
-    (search needs)
+    (omega arith)
+    (below t)
     (returns-3 t)

@@ -10,7 +10,7 @@ returns : tie.Need-returns
 unfolding lifetimeOf
 returns c =
     let b = c .before .before .before .before .before in
-    rw (sym (b .before .has-lifetime .ensures), b .if1 .taken) (c .big-endian .ensures)
+    rw (sym (b .before .has-lifetime .ensures), b .if1 .taken) (c .quad .ensures)
 
 returns-2 : tie.Need-returns-2
 unfolding lifetimeOf

@@ -1,4 +1,4 @@
--- `lifetimes::options_read`: the router's lifetime goes first into the walk.
+-- `lifetimes::options_read`: the router's lifetime goes first into the smallest so far.
 -- Assumes nothing.
 use mathlib.Core.Path.{_∙_}
 use mathlib.Core.List.{map}
@@ -15,7 +15,7 @@ use Rattle.lifetimes.proofs.options_read.Tie as tie
 returns : tie.Need-returns
 returns c =
     let a = c .before .before .before .args in
-    c .walk .ensures
+    c .read .ensures
     ∙ rw (c .before .shorter .ensures, shorter-counted NoneCounts (a .router) (map lifetimeOf (optionsOf (now (a .options)))))
 
 pub options-read-spec : {M : Type 1} → statement M

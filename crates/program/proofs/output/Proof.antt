@@ -2,7 +2,7 @@
 use mathlib.Core.Path.{sym, _∙_}
 use native.Mathlib.Omega.{arith}
 use Rattle.program.specs.Program.{textFor}
-use Rattle.program.specs.Laws.{none-given, text-given}
+use Rattle.program.proofs.Laws.{none-given, text-given}
 use Rattle.program.proofs.output.Statement.{statement}
 use Rattle.program.proofs.output.Tie as tie
 

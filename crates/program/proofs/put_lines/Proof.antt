@@ -4,15 +4,15 @@ use mathlib.Core.Path.{_≡_}
 use mathlib.Core.List.{[]}
 use native.Mathlib.Omega.{arith}
 use lib.ListN.{length, getD}
-use Rattle.text.specs.Laws.{Wrote}
+use Rattle.program.proofs.TextLaws.{Wrote}
 use Rattle.input.specs.Section.{countOf}
 use Rattle.input.specs.Recording.{Datagram}
-use Rattle.input.specs.Laws.{Walked, walked-first, walked-next}
-use Rattle.lines.specs.Lines.{linesTo}
-use Rattle.lines.specs.Laws.{lines-none, lines-turn, length-lines}
+use Rattle.input.proofs.Laws.{Walked, walked-first, walked-next}
+use Rattle.program.specs.Lines.{linesTo}
+use Rattle.program.proofs.LineLaws.{lines-none, lines-turn, length-lines}
 use Rattle.program.specs.Program.{lineFor, linesOf}
-use Rattle.program.specs.Lengths.{many-lines}
-use Rattle.program.specs.Laws.{line-at}
+use Rattle.program.proofs.Lengths.{many-lines}
+use Rattle.program.proofs.Laws.{line-at}
 use Rattle.program.proofs.put_lines.Statement.{statement}
 use Rattle.program.proofs.put_lines.Tie as tie
 

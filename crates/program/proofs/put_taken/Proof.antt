@@ -2,7 +2,7 @@
 use borrow.Author.Needs.{needs}
 use native.Mathlib.Omega.{arith}
 use Rattle.program.specs.Program.{takenText}
-use Rattle.program.specs.Lengths.{section-short}
+use Rattle.program.proofs.Lengths.{section-short}
 use Rattle.program.proofs.put_taken.Statement.{statement}
 use Rattle.program.proofs.put_taken.Tie as tie
 

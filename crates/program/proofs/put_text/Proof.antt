@@ -4,12 +4,12 @@ use mathlib.Core.Path.{_≡_, _∙_}
 use mathlib.Core.List.{_++_}
 use native.Mathlib.Omega.{arith}
 use lib.ListN.{length}
-use Rattle.text.specs.Laws.{behind-fits, wrote-more}
+use Rattle.program.proofs.TextLaws.{behind-fits, wrote-more}
 use Rattle.input.specs.Section.{countOf}
-use Rattle.lines.specs.Lines.{countLine, linesTo, textOf}
-use Rattle.lines.specs.Laws.{lines-all, length-count}
+use Rattle.program.specs.Lines.{countLine, linesTo, textOf}
+use Rattle.program.proofs.LineLaws.{lines-all, length-count}
 use Rattle.program.specs.Program.{linesOf}
-use Rattle.program.specs.Lengths.{many-lines, section-text-short}
+use Rattle.program.proofs.Lengths.{many-lines, section-text-short}
 use Rattle.program.proofs.put_text.Statement.{statement}
 use Rattle.program.proofs.put_text.Tie as tie
 

@@ -1,7 +1,7 @@
 -- `receiving::arrive` meets its contract: by cases on the check. Assumes nothing.
 use borrow.Author.Needs.{needs}
 use native.Mathlib.Omega.{arith}
-use Rattle.receiving.specs.Receive.{arrived}
+use Rattle.receiving.specs.Stages.{arrived}
 use Rattle.receiving.proofs.arrive.Statement.{statement}
 use Rattle.receiving.proofs.arrive.Tie as tie
 

@@ -1,6 +1,6 @@
 -- `receiving::check_arrival` meets its contract: at each return the tests that led there say which row holds. Assumes nothing.
 use native.Mathlib.Omega.{arith}
-use Rattle.receiving.specs.Receive.{arrivalCheck}
+use Rattle.receiving.specs.Stages.{arrivalCheck}
 use Rattle.receiving.proofs.check_arrival.Statement.{statement}
 use Rattle.receiving.proofs.check_arrival.Tie as tie
 

@@ -6,7 +6,8 @@ use Rattle.address.specs.Address.{lastQuad, isLinkLocalIsatap}
 use Rattle.address.proofs.Laws.{link-local-isatap-good}
 use Rattle.settings.specs.Settings.{forbiddenTo}
 use Rattle.routers.specs.Routers.{live, listed}
-use Rattle.receiving.specs.Receive.{isSourceRight, innerCheck}
+use Rattle.receiving.specs.Receive.{isSourceRight}
+use Rattle.receiving.specs.Stages.{innerCheck}
 use Rattle.receiving.proofs.LinkLocal.{link-local-embeds-it}
 use Rattle.receiving.proofs.check_inner.Statement.{statement}
 use Rattle.receiving.proofs.check_inner.Tie as tie

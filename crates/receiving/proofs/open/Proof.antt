@@ -3,7 +3,7 @@ use borrow.Author.Needs.{needs}
 use borrow.Author.Tests.{lt-ltb}
 use native.Mathlib.Omega.{arith}
 use Rattle.header.specs.Inner.{isInnerMalformed}
-use Rattle.receiving.specs.Receive.{innerCheck, opened}
+use Rattle.receiving.specs.Stages.{innerCheck, opened}
 use Rattle.receiving.proofs.open.Statement.{statement}
 use Rattle.receiving.proofs.open.Tie as tie
 

@@ -6,7 +6,7 @@ use Prim.Native.Nat.{_-_}
 use mathlib.Core.Path.{_≡_, refl, sym, _∙_}
 use mathlib.Core.Bool.{_||_, or-false}
 use lib.ListN.{length, take, drop, length-take}
-use Rattle.routers.specs.Routers.{places, among, any}
+use Rattle.routers.specs.Routers.{places, among}
 use Rattle.routers.proofs.Laws.{any-step, past}
 use Rattle.routers.proofs.stands.Statement.{statement}
 use Rattle.routers.proofs.stands.Tie as tie
@@ -29,7 +29,6 @@ loop-again c =
     b .loop .inv ∙ any-step (a .count) (b .loop .i) (a .t1) 0 (omega (arith, length-take (a .count) (a .t1))) _ (b .loop .found)
 
 returns : tie.Need-returns Inv-loop μ-loop
-unfolding any
 returns c =
     let b = c .before in
     let a = b .before .before .args in

@@ -6,8 +6,11 @@ use Rattle.sending.proofs.send.Tie as tie
 
 returns : tie.Need-returns
 unfolding sentOf sentOutput
-returns c = let p = c .before .before .before .before .send-plan .ensures in let d = c .before .before .carry-out .ensures in (rw p at (d .0), rw p at (d .1))
+returns c =
+    let d = c .before .before .before in
+    let p = d .before .before .send-plan .ensures in
+    (rw (c .identification-after .ensures, d .carry-out .ensures .0, p), rw p at (d .carry-out .ensures .1))
 
 pub send-spec : {M : Type 1} → statement M
 send-spec =
-    tie.close (tie.spec (omega arith) (omega arith) (omega arith) returns)
+    tie.close (tie.spec (omega arith) (omega arith) (omega arith) (omega arith) returns)

@@ -4,7 +4,7 @@ use mathlib.Core.Path.{_≡_, _∙_}
 use mathlib.Core.Bool.{_&&_}
 use native.Mathlib.Omega.{arith}
 use Rattle.input.specs.Recording.{areThere, isRecording}
-use Rattle.input.specs.Laws.{there-turn}
+use Rattle.input.proofs.Laws.{there-turn}
 use Rattle.input.proofs.recording.well_formed.Statement.{statement}
 use Rattle.input.proofs.recording.well_formed.Tie as tie
 

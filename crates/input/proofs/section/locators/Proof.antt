@@ -4,7 +4,7 @@ use mathlib.Core.Path.{_≡_, refl}
 use native.Mathlib.Omega.{arith}
 use lib.ListN.{length, length-set}
 use Rattle.settings.specs.Locators.{noLocator}
-use Rattle.input.specs.Section.{locatorBytes, locatorOf, locatorsOf}
+use Rattle.input.specs.Section.{locatorBytes, locatorOf, locatorsIn}
 use Rattle.input.proofs.Records.{filledTo, fill-turn, fill-end}
 use Rattle.input.proofs.section.locators.Statement.{statement}
 use Rattle.input.proofs.section.locators.Tie as tie
@@ -28,7 +28,7 @@ loop-again c =
     )
 
 returns : tie.Need-returns Inv-loop μ-loop
-unfolding locatorsOf
+unfolding locatorsIn
 returns c =
     let l = c .before .loop in
     fill-end locatorOf noLocator locatorBytes 8 (c .before .before .before .before .before .args .s .now) (l .all) (l .i) (omega arith) (l .inv .2)

@@ -1,13 +1,13 @@
 -- `input::section::prefixes` meets its contract. Assumes nothing.
 use Prim.Native.Nat.{_*_}
 use native.Mathlib.Omega.{arith}
-use Rattle.input.specs.Section.{prefixesOf}
+use Rattle.input.specs.Section.{prefixesIn}
 use Rattle.input.proofs.Records.{prefixes-filled}
 use Rattle.input.proofs.section.prefixes.Statement.{statement}
 use Rattle.input.proofs.section.prefixes.Tie as tie
 
 returns : tie.Need-returns
-unfolding prefixesOf
+unfolding prefixesIn
 returns c =
     let c3 = c .before .before .before in
     let least = c3 .before .before .least in

@@ -3,7 +3,7 @@ use Prim.Native.Nat.{_≤_, _-_}
 use mathlib.Core.Path.{_≡_, refl}
 use native.Mathlib.Omega.{arith}
 use lib.ListN.{length, length-set}
-use Rattle.input.specs.Section.{routerBytes, routerOf, routersOf}
+use Rattle.input.specs.Section.{routerBytes, routerOf, routersIn}
 use Rattle.input.proofs.Records.{filledTo, fill-turn, fill-end}
 use Rattle.input.proofs.section.routers.Statement.{statement}
 use Rattle.input.proofs.section.routers.Tie as tie
@@ -27,7 +27,7 @@ loop-again c =
     )
 
 returns : tie.Need-returns Inv-loop μ-loop
-unfolding routersOf
+unfolding routersIn
 returns c =
     let l = c .before .loop in
     fill-end routerOf 0 routerBytes 16 (c .before .before .before .before .before .args .s .now) (l .all) (l .i) (omega arith) (l .inv .2)

@@ -6,8 +6,9 @@ use mathlib.Core.Path.{_≡_, refl, sym, _∙_}
 use lib.ListN.{drop}
 use lib.Dec.{eqb}
 use borrow.Author.Tests.{eq-eqb, ne-eqb}
-use Rattle.routers.specs.Routers.{live, listed, any}
-use Rattle.routers.proofs.Laws.{noRouter, any-here, any-later, past}
+use Rattle.routers.specs.Routers.{live, listed}
+use Rattle.routers.specs.Facts.{noRouter}
+use Rattle.routers.proofs.Laws.{any-here, any-later, past}
 use Rattle.routers.proofs.RouterList.lists.Statement.{statement}
 use Rattle.routers.proofs.RouterList.lists.Tie as tie
 
@@ -35,7 +36,6 @@ loop-again c =
     (omega arith, b .loop .inv .1 ∙ any-later (l .count) (b .loop .i) (l .routers) noRouter (omega arith) (λ r. eqb (r .address) (a .address)) (ne-eqb _ _ (c .if1 .left)))
 
 returns-2 : tie.Need-returns-2 Inv-loop μ-loop
-unfolding any
 returns-2 c =
     let b = c .before in
     let l = b .before .before .args .t1 in

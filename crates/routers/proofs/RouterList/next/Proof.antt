@@ -6,7 +6,8 @@ use Prim.Native.Nat.{_-_, _≤_}
 use mathlib.Core.Path.{_≡_, sym, _∙_}
 use lib.ListN.{drop}
 use Rattle.routers.specs.Routers.{live, nextOf, earliest, ifDue}
-use Rattle.routers.proofs.Laws.{noRouter, rest, past, earliest-step}
+use Rattle.routers.specs.Facts.{noRouter}
+use Rattle.routers.proofs.Laws.{rest, past, earliest-step}
 use Rattle.routers.proofs.RouterList.next.Statement.{statement}
 use Rattle.routers.proofs.RouterList.next.Tie as tie
 

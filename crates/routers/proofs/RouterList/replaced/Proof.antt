@@ -7,7 +7,8 @@ use mathlib.Core.Path.{_≡_, refl}
 use mathlib.Core.List.{map, _++_}
 use lib.ListN.{length, take, drop}
 use Rattle.routers.specs.Routers.{places, live, kept}
-use Rattle.routers.proofs.Laws.{fill, filled, unmapped}
+use Rattle.lists.proofs.Parts.{unmapped}
+use Rattle.routers.proofs.Laws.{fill, filled}
 use Rattle.routers.proofs.RouterList.replaced.Statement.{statement}
 use Rattle.routers.proofs.RouterList.replaced.Tie as tie
 

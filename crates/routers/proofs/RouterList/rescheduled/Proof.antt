@@ -6,7 +6,9 @@ use mathlib.Core.Path.{_≡_, refl}
 use mathlib.Core.List.{map, _++_}
 use lib.ListN.{length, take, drop}
 use Rattle.routers.specs.Routers.{places, dueIf}
-use Rattle.routers.proofs.Laws.{noRouter, fill, filled, unmapped}
+use Rattle.lists.proofs.Parts.{unmapped}
+use Rattle.routers.specs.Facts.{noRouter}
+use Rattle.routers.proofs.Laws.{fill, filled}
 use Rattle.routers.proofs.RouterList.rescheduled.Statement.{statement}
 use Rattle.routers.proofs.RouterList.rescheduled.Tie as tie
 

@@ -4,7 +4,7 @@ use native.Mathlib.Omega.{arith}
 use mathlib.Core.Path.{_≡_}
 use lib.ListN.{length, length-take}
 use Rattle.routers.specs.Routers.{places}
-use Rattle.routers.proofs.Laws.{unmapped}
+use Rattle.lists.proofs.Parts.{unmapped}
 use Rattle.routers.proofs.RouterList.size.Statement.{statement}
 use Rattle.routers.proofs.RouterList.size.Tie as tie
 

@@ -1,0 +1,65 @@
+// The line of each answer.
+use crate::line::Line;
+use hearing::HeardAnswer;
+use asking::AskAnswer;
+use node::router_list::ListAnswer;
+use receiving::Received;
+use reports::ReportAnswer;
+use sending::SendAnswer;
+
+pub(crate) fn receive(answer: Received) -> Line {
+    match answer {
+        Received::Delivered { offset, length } => Line::new(b"receive deliver")
+            .number(offset as u64)
+            .number(length as u64),
+        Received::Refused(refusal) => Line::new(b"receive refuse").refusal(refusal),
+    }
+}
+
+pub(crate) fn send(answer: SendAnswer, digest: u32) -> Line {
+    match answer {
+        SendAnswer::Wrapped(length) => Line::new(b"send wrapped")
+            .number(length as u64)
+            .digest(digest),
+        SendAnswer::TooBig { size, written } => Line::new(b"send too-big")
+            .number(size as u64)
+            .number(written as u64)
+            .digest(digest),
+        SendAnswer::Refused(refusal) => Line::new(b"send refuse").refusal(refusal).digest(digest),
+    }
+}
+
+pub(crate) fn report(answer: ReportAnswer) -> Line {
+    match answer {
+        ReportAnswer::Accepted { neighbour, size } => Line::new(b"report accepted")
+            .address(neighbour)
+            .number(size as u64),
+        ReportAnswer::Refused(refusal) => Line::new(b"report refuse").refusal(refusal),
+    }
+}
+
+// The count is that of the new list.
+pub(crate) fn routers(answer: ListAnswer, count: usize) -> Line {
+    match answer {
+        ListAnswer::Replaced => Line::new(b"routers accepted").number(count as u64),
+        ListAnswer::Refused(refusal) => Line::new(b"routers refuse").refusal(refusal),
+    }
+}
+
+pub(crate) fn ask(answer: AskAnswer, digest: u32) -> Line {
+    match answer {
+        AskAnswer::Router(router) => Line::new(b"ask").address(router).digest(digest),
+        AskAnswer::Refused(refusal) => Line::new(b"ask refuse").refusal(refusal).digest(digest),
+    }
+}
+
+pub(crate) fn advertisement(answer: HeardAnswer) -> Line {
+    match answer {
+        HeardAnswer::Router(router) => Line::new(b"advertisement").address(router),
+        HeardAnswer::Refused(refusal) => Line::new(b"advertisement refuse").refusal(refusal),
+    }
+}
+
+pub(crate) fn size(size: u16) -> Line {
+    Line::new(b"size").number(size as u64)
+}

@@ -1,0 +1,69 @@
+-- Demand 2 of sending, said in plain facts, for every number: when 14 is given and what is then written, and when each refusal is given.
+use Prim.Native.Nat.{ℕ, _+_, _≤_, _<_}
+use mathlib.Core.Path.{_≡_}
+use mathlib.Core.Logic.{_⊎_}
+use mathlib.Core.List.{List}
+use lib.ListN.{length}
+use Rattle.address.specs.Address.{lastQuad}
+use Rattle.header.specs.Draws.{DrawsMessage}
+use Rattle.header.specs.Numbers.{outerHeader}
+use Rattle.header.specs.Wrap.{longestTotal}
+use Rattle.lent.specs.Written.{written}
+use Rattle.messages.specs.Icmp.{tooBigOf, tooBigLength}
+use Rattle.paths.specs.Packets.{LargerOfBoth}
+use Rattle.refusals.specs.declared.Refusal.{Refusal}
+use Rattle.refusals.specs.declared.Refusal.the-variants.{InnerMalformed, NoLocator, NextHopNotIsatap, TunnelEndForbidden, OutputShort, WrappedTooLong}
+use Rattle.settings.specs.Facts.{BadEnd, IsatapTo, LocatorAt}
+use Rattle.settings.specs.declared.Settings.{Settings}
+use Rattle.sending.specs.Sending.{sentOf, sentOutput}
+use Rattle.sending.specs.Wraps.{Whole, Passes, PathTakes, WrappedExactly}
+use Rattle.sending.specs.declared.SendAnswer.the-variants.{TooBig, Refused}
+
+-- the rules of 14, which names M: 8, 11, 12 and 13 do not hold, and the packet is longer than M
+pub record Exceeds (s : Settings) (P : ℕ) (packet hop : List ℕ) (k M : ℕ) : Type 0 where
+  pub passes : (a : ℕ) × Passes s packet hop k a
+  pub largest : LargerOfBoth P M
+  pub longer : M < length packet
+
+-- 14 names the length of a message that the packet draws and the room takes, or 0 where it draws none
+abbrev pub Names : List ℕ → ℕ → ℕ → Type 0
+Names packet room len =
+    (DrawsMessage packet × (len ≡ tooBigLength (length packet)) × (len ≤ room)) ⊎ ((DrawsMessage packet → ⊥) × (len ≡ 0))
+
+module _ (s : Settings) (i P : ℕ) (packet hop : List ℕ) (k : ℕ) (out : List ℕ) where
+  -- when 14 is given, and what it writes
+  pub record TooBigExactly : Type 0 where
+    -- 14 is given only when its rules hold
+    pub onlyIf : (M len : ℕ) → sentOf s i P packet hop k (length out) .answer ≡ TooBig M len
+        → Exceeds s P packet hop k M × Names packet (length out) len
+    -- and whenever they hold: with a message, which is written and what stood behind it stays
+    pub told : (M : ℕ) → Exceeds s P packet hop k M → DrawsMessage packet → tooBigLength (length packet) ≤ length out
+        → sentOf s i P packet hop k (length out) ≡ record { answer = TooBig M (tooBigLength (length packet)); identification = i }
+    pub message : (M : ℕ) → Exceeds s P packet hop k M → DrawsMessage packet → tooBigLength (length packet) ≤ length out
+        → sentOutput s i P packet hop k out ≡ written (tooBigOf (s .reporting) M packet) out
+    -- or without one, and nothing is written
+    pub silent : (M : ℕ) → Exceeds s P packet hop k M → (DrawsMessage packet → ⊥)
+        → sentOf s i P packet hop k (length out) ≡ record { answer = TooBig M 0; identification = i }
+    pub nothing : (M : ℕ) → Exceeds s P packet hop k M → (DrawsMessage packet → ⊥) → sentOutput s i P packet hop k out ≡ out
+
+  -- that refusal is given, and nothing changes
+  abbrev pub Refuses : Refusal → Type 0
+  Refuses r = (sentOf s i P packet hop k (length out) ≡ record { answer = Refused r; identification = i }) × (sentOutput s i P packet hop k out ≡ out)
+
+  -- when each refusal is given, the first in the call's order: these cases, 14 and the wrapped packet are all that can be
+  pub record RefusedExactly : Type 0 where
+    pub malformed : (Whole packet → ⊥) → Refuses InnerMalformed
+    pub noLocator : Whole packet → ((a : ℕ) → LocatorAt s k a → ⊥) → Refuses NoLocator
+    pub notIsatap : (a : ℕ) → Whole packet → LocatorAt s k a → ((v : ℕ) → IsatapTo s hop v → ⊥) → Refuses NextHopNotIsatap
+    pub badEnd : (a : ℕ) → Whole packet → LocatorAt s k a → IsatapTo s hop (lastQuad hop) → BadEnd s (lastQuad hop) → Refuses TunnelEndForbidden
+    -- too little room for the message of 14
+    pub messageShort : (M : ℕ) → Exceeds s P packet hop k M → DrawsMessage packet → length out < tooBigLength (length packet) → Refuses OutputShort
+    pub tooLong : (a : ℕ) → Passes s packet hop k a → PathTakes P (length packet) → longestTotal < outerHeader + length packet → Refuses WrappedTooLong
+    pub short : (a : ℕ) → Passes s packet hop k a → PathTakes P (length packet) → outerHeader + length packet ≤ longestTotal
+        → length out < outerHeader + length packet → Refuses OutputShort
+
+-- all of it, of a sending over a path of size P
+pub record SentExactly (s : Settings) (i P : ℕ) (packet hop : List ℕ) (k : ℕ) (out : List ℕ) : Type 0 where
+  pub wrapped : WrappedExactly s i P packet hop k out
+  pub tooBig : TooBigExactly s i P packet hop k out
+  pub refused : RefusedExactly s i P packet hop k out

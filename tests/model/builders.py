@@ -1,0 +1,63 @@
+"""Datagrams, packets, size reports and advertisements from their fields, right or wrong ones: each is built here and nowhere else.
+
+`spoil` is added to the right checksum; with None the field stays 0. `length` and `total` stand in the length fields in place of the
+right lengths.
+"""
+from .octets import checksum_field, number, pseudo_header, u16, u32
+
+
+def spoiled(check, amount):
+    return bytes(2) if amount is None else u16((number(check) + amount) % 65536)
+
+
+def packet(source, destination, payload=b"", length=None, version=6, flow=bytes(4), next_header=59, hop_limit=64):
+    """An IPv6 packet; the first four bits of `flow` are the version's."""
+    head = bytes([version << 4 | flow[0] & 15]) + flow[1:] + u16(len(payload) if length is None else length)
+    return head + bytes([next_header, hop_limit]) + source + destination + payload
+
+
+def datagram(inner, source, destination, options=b"", words=None, total=None, version=4, service=0, identification=b"\0\1", flags=0,
+             ttl=64, protocol=41, spoil=0):
+    """An IPv4 datagram around `inner`."""
+    words = 5 + len(options) // 4 if words is None else words
+    total = 20 + len(options) + len(inner) if total is None else total
+    start = bytes([version << 4 | words, service]) + u16(total) + identification + u16(flags) + bytes([ttl, protocol])
+    end = source + destination + options
+    return start + spoiled(checksum_field(start + b"\0\0" + end), spoil) + end + inner
+
+
+def report(candidate, source, neighbour, total=1500, kind=3, code=4, unused=bytes(2), version=4, words=5, options=b"",
+           free=bytes(8), protocol=41, tail=bytes(8), cut=None, spoil=0):
+    """An ICMPv4 message that quotes a header; `free` are its service, identification, flags, TTL and checksum."""
+    quoted = bytes([version << 4 | words, free[0]]) + u16(total) + free[1:6] + bytes([protocol]) + free[6:8]
+    quoted += source + neighbour + options + tail
+    message = (bytes([kind, code, 0, 0]) + unused + u16(candidate) + quoted)[:cut]
+    return (message[:2] + spoiled(checksum_field(message), spoil) + message[4:])[:len(message)]
+
+
+def advertisement(source, destination, lifetime=0, options=(), kind=134, code=0, free=bytes(10), message_cut=None, spoil=0, **fields):
+    """A router advertisement in its IPv6 packet; `free` are hop limit, flags, reachable time and retransmission timer."""
+    message = bytes([kind, code, 0, 0]) + free[:2] + u16(lifetime) + free[2:] + b"".join(options)
+    message = message[:message_cut]
+    check = checksum_field(pseudo_header(source, destination, len(message)) + message)
+    payload = (message[:2] + spoiled(check, spoil) + message[4:])[:len(message)]
+    fields = dict({"next_header": 58, "hop_limit": 255}, **fields)
+    if "payload_error" in fields:
+        fields["length"] = len(payload) + fields.pop("payload_error")
+    return packet(source, destination, payload, **fields)
+
+
+# ---- Options of an advertisement
+
+def option(kind, length, lifetime, rest=b"\1"):
+    """Eight bytes a unit; the lifetime stands in bytes 4 to 7."""
+    return bytes([kind, length, 64, 8]) + u32(lifetime) + rest * (8 * length - 8)
+
+
+def route_option(length, lifetime):
+    return option(24, length, lifetime)
+
+
+def prefix_option(length, lifetime):
+    """A small preferred lifetime stands behind the valid one."""
+    return (bytes([3, length, 64, 0xc0]) + u32(lifetime) + u32(3) + bytes(8 * length))[:8 * length]

@@ -1,0 +1,221 @@
+"""Replay inputs in the making: calls are steered into a case of document 01 while the model answers them.
+
+Where the answer is known from the faults alone it is compared with the model's, so that the model is not the only one to
+say it.
+"""
+from .builders import advertisement, datagram, option, packet, prefix_option, report, route_option
+from .faults import PLATEAU_BELOW
+from .formats import answer, encode_call, encode_settings
+from .node import Node
+from .octets import LINK_LOCAL, dotted, forbidden, isatap_address, link_local
+
+LAST_SECOND = 0xffffffff
+ISATAP_IDENTIFIERS = ("00005efe", "02005efe")
+
+
+# ---- A call's bytes from its named fields
+
+def packet_of(f):
+    return packet(f["source6"], f["destination6"], f["payload"], len(f["payload"]) + f["payload_error"], f["version6"], f["flow"],
+                  f["next_header"], f["hop_limit"])
+
+
+def datagram_of(f):
+    inner = packet_of(f)[:f["inner_cut"]] + f["tail"]
+    options = f["options"][:max(0, 4 * f["words"] - 20)]
+    header, content = 20 + len(options), inner + f["padding"]
+    total = f["total_rule"](header, header + len(content)) if f["total_rule"] else header + len(inner)
+    return datagram(content, f["source"], f["destination"], options, f["words"], total, f["version"], f["service"],
+                    f["identification"], f["flags"], f["ttl"], f["protocol"], f["spoil"])[:f["cut"]]
+
+
+def report_of(f):
+    return report(f["candidate"], f["source"], f["neighbour"], f["total"], f["type"], f["code"], f["unused"], f["version"], f["words"],
+                  f["options"][:max(0, 4 * f["words"] - 20)], f["free"], f["protocol"], f["tail"], f["cut"], f["spoil"])
+
+
+def advertisement_of(f):
+    whole = advertisement(f["source6"], f["destination6"], f["lifetime"], f["options"], f["type"], f["code"], f["free"],
+                          f["message_cut"], f["spoil"], version=f["version6"], flow=f["flow"], next_header=f["next_header"],
+                          hop_limit=f["hop_limit"], payload_error=f["payload_error"])
+    return (whole + f["tail"])[:f["cut"]]
+
+
+class Calls:
+    """A list of calls in the making, with the node that has answered it so far."""
+
+    def __init__(self, chooser, settings):
+        self.random, self.settings = chooser, settings
+        self.data = bytearray(encode_settings(settings))
+        self.node = Node(settings)
+        self.made = []
+
+    def call(self, name, *arguments, want=""):
+        line = answer(self.node, name, arguments)
+        wanted = f"{name} {want}".split()
+        if line.split()[:len(wanted)] != wanted:
+            raise AssertionError(f"steered to `{want}`, the model says `{line}`")
+        self.data += encode_call(name, arguments)
+        self.made.append((name, arguments))
+        return line
+
+    # Choices
+
+    def some(self, length):
+        return bytes(self.random.randrange(256) for _ in range(length))
+
+    def fresh(self):
+        """An address that is not forbidden, not ours, not listed and has had no report."""
+        taken = [neighbour for neighbour, _, _ in self.node.record] + [router for router, _ in self.node.routers]
+        while True:
+            address = self.some(4)
+            if any(address[:3]) and not (forbidden(address) or self.settings.own(address) or address in taken):
+                return address
+
+    def prefix(self, link_local_too=True):
+        """An on-link prefix; one that makes no bad inner source."""
+        prefixes = [prefix for prefix in self.settings.prefixes if prefix[0] != 255 and prefix != LINK_LOCAL]
+        return self.random.choice(prefixes + [LINK_LOCAL]) if link_local_too else self.random.choice(prefixes or [bytes(8)])
+
+    def other_interface(self, address):
+        interfaces = self.random.sample(range(256), 256)
+        return next(interface for interface in interfaces if (address, interface) not in self.settings.locators)
+
+    def listed_router(self):
+        if not self.node.routers:
+            self.call("routers", self.time(), [self.fresh() for _ in range(self.random.randint(1, 3))], want="accepted")
+        return self.random.choice(self.node.routers)[0]
+
+    def neighbour(self):
+        """One that has had a report, or a fresh one; never one that can go no lower."""
+        known = [neighbour for neighbour, _, _ in self.node.record[-70:] if self.node.size(neighbour) > 68]
+        return self.random.choice(known) if known and self.random.random() < 0.5 else self.fresh()
+
+    def small(self):
+        """A neighbour with a small size in force."""
+        neighbour = self.fresh()
+        self.report(neighbour=neighbour, candidate=self.random.randint(68, 575), time=self.node.latest)
+        return neighbour
+
+    def time(self):
+        latest = self.node.latest
+        near = self.random.choice((latest, latest, latest + self.random.randint(0, 9), latest - self.random.randint(0, 700), 0))
+        return min(max(near, 0), LAST_SECOND)
+
+    def change(self, f, changes):
+        for key, value in changes.items():
+            f[key] = value(self, f) if callable(value) and key != "total_rule" else value
+
+    # One call of each kind with given faults
+
+    def packet_fields(self, source6, destination6, payload):
+        return {"version6": 6, "flow": self.some(4), "next_header": 17, "hop_limit": self.random.randrange(256), "source6": source6,
+                "destination6": destination6, "payload": payload, "payload_error": 0, "tail": b"", "cut": None}
+
+    def receive(self, faults=(), variation=None):
+        address = self.fresh()
+        destination, interface = self.random.choice(self.settings.locators)
+        f = self.packet_fields(link_local(address), self.some(16), self.some(self.random.choice((0, 1, 8, 20, 33))))
+        f.update(address=address, version=4, words=5, service=self.random.randrange(256), identification=self.some(2), flags=0,
+                 ttl=self.random.randrange(256), protocol=41, source=address, destination=destination, interface=interface,
+                 options=self.some(40), total_rule=None, spoil=0, inner_cut=None, padding=b"")
+        self.change(f, variation or {})
+        for _, changes in faults:
+            self.change(f, changes)
+        if "zero_check" in f and not faults:                  # both 0000 and FFFF are right where the rest sums up to FFFF
+            f.update(identification=bytes(2))
+            f.update(identification=datagram_of(f)[10:12], spoil=f["zero_check"])
+        want = f"refuse {faults[-1][0]}" if faults else f"deliver {4 * f['words']} {40 + len(f['payload'])}"
+        data = datagram_of(f)
+        self.call("receive", f["interface"], data, want=want)
+        return data
+
+    def send(self, faults=(), n=None, end=None, time=None, next_hop=None):
+        address = next_hop[12:] if next_hop else end or self.neighbour()
+        time = self.time() if time is None else time
+        f = self.packet_fields(b"\x20" + self.some(15), self.some(16), b"")
+        f.update(address=address, index=self.random.randrange(len(self.settings.locators)), first=None, more=0, short=0,
+                 message=True, next_header=17 if faults or n else self.random.choice((0, 17, 58, 59)),
+                 next_hop=next_hop or isatap_address(self.prefix(), self.random.choice(ISATAP_IDENTIFIERS), address))
+        for _, changes in faults:
+            self.change(f, changes)
+        self.node.raise_time(time)
+        largest = max(1280, self.node.size(address) - 20)
+        numbers = [fault for fault, _ in faults]
+        n = largest + f["more"] if f["more"] else n or self.random.choice((40, 41, 60, self.random.randint(42, 200), 1280))
+        f["payload"] = self.some(n - 40)
+        if f["first"] is not None:
+            f["payload"] = bytes([f["first"]]) + f["payload"][1:]
+        written = n + 20 if n <= largest else 1280 if f["message"] else 0
+        room = max(0, written - f["short"]) if f["short"] else written + self.random.choice((0, 0, 1, 50))
+        data = (packet_of(f) + f["tail"])[:f["cut"]]
+        self.call("send", f["index"], time, f["next_hop"], room, data, want=self.send_want(numbers, n, largest, written, room))
+        return data
+
+    def send_want(self, numbers, n, largest, written, room):
+        """"Order 8, 11, 12, 13, 14, 23, 15"."""
+        early = [fault for fault in numbers if 0 < fault < 14]
+        if early:
+            return f"refuse {min(early)}"
+        if room < written:
+            return "refuse 15"
+        return f"too-big {largest} {written}" if n > largest else f"wrapped {written}"
+
+    def report_fields(self, neighbour, candidate):
+        return {"type": 3, "code": 4, "spoil": 0, "unused": b"\0\0", "candidate": candidate, "cut": None,
+                "version": 4, "words": 5, "total": self.random.randint(20, 9000), "free": self.some(8), "protocol": 41,
+                "source": self.random.choice(self.settings.locators)[0], "neighbour": neighbour,
+                "options": self.some(40), "tail": self.some(8)}
+
+    def report(self, faults=(), variation=None, neighbour=None, candidate=None, time=None):
+        neighbour = neighbour or self.neighbour()
+        time = self.time() if time is None else time
+        self.node.raise_time(time)
+        size = self.node.size(neighbour)
+        f = self.report_fields(neighbour, candidate or self.random.randint(max(68, size - 40), size - 1))
+        self.change(f, variation or {})
+        for _, changes in faults:
+            self.change(f, changes)
+        if "zero_check" in f and not faults:
+            f.update(unused=report_of(f)[2:4], spoil=f["zero_check"])
+        candidate = f["candidate"] or PLATEAU_BELOW.get(f["total"], 0)
+        accepted = f"accepted {dotted(neighbour)} {candidate}" if candidate < size else "refuse 19"
+        data = report_of(f)
+        self.call("report", time, data, want=f"refuse {faults[-1][0]}" if faults else accepted)
+        return data
+
+    def lifetimes(self):
+        interval = self.settings.interval
+        return self.random.choice((0, 0xffffffff, 1, 2 * interval - 1, 2 * interval, 2 * interval + 1, 2 * interval + 2, 7200,
+                                   self.random.randint(1, 65535)))
+
+    def option(self):
+        """One that counts, or one that does not and would show if it did."""
+        life, kind, shown = self.lifetimes(), self.random.randrange(8), 2 * self.settings.interval + 2
+        if kind < 2:
+            return prefix_option(4, life)
+        if kind < 4:
+            return route_option(self.random.randint(1, 3), life)
+        if kind == 4:
+            return route_option(4, shown)
+        if kind == 5:
+            return prefix_option(self.random.choice((1, 2, 3, 5)), shown)
+        return option(self.random.choice((1, 5, 25, 2, 4, 23, 255)), self.random.choice((1, 2, 4)), shown)
+
+    def advertisement(self, faults=(), variation=None, router=None, options=None, lifetime=None, time=None):
+        router = router or self.listed_router()
+        time = self.time() if time is None else time
+        f = self.packet_fields(isatap_address(LINK_LOCAL, self.random.choice(ISATAP_IDENTIFIERS), router), self.some(16), b"")
+        f.update(address=router, next_header=58, hop_limit=255, type=134, code=0, spoil=0, message_cut=None, free=self.some(10),
+                 lifetime=min(65535, self.lifetimes()) if lifetime is None else lifetime,
+                 options=[self.option() for _ in range(self.random.randrange(4))] if options is None else options,
+                 tail=self.some(self.random.choice((0, 0, 1, 9))))
+        self.change(f, variation or {})
+        for _, changes in faults:
+            self.change(f, changes)
+        if "zero_check" in f and not faults:
+            f.update(free=f["free"][:2] + bytes(2) + f["free"][4:])
+            f.update(free=f["free"][:2] + advertisement_of(f)[42:44] + f["free"][4:], spoil=f["zero_check"])
+        data = advertisement_of(f)
+        self.call("advertisement", time, data, want=f"refuse {faults[-1][0]}" if faults else dotted(router))
+        return data

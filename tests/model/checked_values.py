@@ -1,0 +1,197 @@
+"""Checks of the model: the values that document 01 states, and how often each answer occurs in expected lines."""
+from collections import Counter
+from pathlib import Path
+
+from . import builders
+from .formats import answer, digest, encode_datagrams, lent, program, replay
+from .node import Node
+from .octets import LINK_LOCAL, LOOPBACK, checksum_field, checksum_right, isatap_address, link_local, pseudo_header, u16
+from .rules import Settings, wrapped
+
+OWN, PEER, ROUTER = bytes((10, 0, 0, 1)), bytes((10, 0, 0, 2)), bytes((10, 0, 0, 9))
+
+# What each call can be brought to answer; 23 cannot come: L is at most 9,216, so 14 comes for every n above 9,196
+ANSWERS = {"receive": ["deliver"] + [f"refuse {number}" for number in range(2, 11)],
+           "send": ["wrapped", "too-big with message", "too-big without"] + [f"refuse {number}" for number in (8, 11, 12, 13, 15)],
+           "report": ["accepted"] + [f"refuse {number}" for number in (16, 17, 18, 19)],
+           "routers": ["accepted", "refuse 1"], "ask": ["answered"] + [f"refuse {number}" for number in (11, 22, 15)],
+           "advertisement": ["answered"] + [f"refuse {number}" for number in (8, 20, 21)],
+           "size": ["answered"], "settings": ["refuse 1"], "bad": ["input"]}
+
+
+def kind_of_answer(line):
+    name, word, *rest = line.split()
+    if word == "refuse":
+        return name, f"refuse {rest[0]}"
+    if word == "too-big":
+        return name, "too-big without" if rest[1] == "0" else "too-big with message"
+    return name, word if word in ANSWERS[name] else "answered"
+
+
+def counted(lines):
+    """How often each answer occurs, and those that can come and do not, or come and cannot."""
+    counts = Counter(kind_of_answer(line) for line in lines)
+    expected = {(name, kind) for name in ANSWERS for kind in ANSWERS[name]}
+    return counts, sorted(expected - set(counts)) + sorted(set(counts) - expected)
+
+
+def coverage(*files):
+    """Prints the table; the status is 1 if an answer that can come does not."""
+    counts, wrong = counted(line for file in files for line in Path(file).read_text().splitlines())
+    for (name, kind), count in sorted(counts.items()):
+        print(f"{name:14} {kind:22} {count:8}")
+    for name, kind in wrong:
+        print(f"{name:14} {kind:22} {'not expected' if (name, kind) in counts else 'missing':>8}")
+    return 1 if wrong else 0
+
+
+# ---- The values that document 01 states
+
+def node(link=1500, routers=(ROUTER,)):
+    return Node(Settings([(OWN, 0)], [], list(routers), link))
+
+
+def packet(n, source=link_local(PEER)):
+    return builders.packet(source, LOOPBACK, bytes(n - 40))
+
+
+def report(candidate, quoted_total=1500, neighbour=PEER):
+    return builders.report(candidate, OWN, neighbour, quoted_total)
+
+
+def said(one, name, *arguments):
+    """The answer without the call's name."""
+    return answer(one, name, arguments).split(" ", 1)[1]
+
+
+def sent(path, n, link=1500):
+    """The answer to n bytes at this path size, and the don't-fragment flag written."""
+    one, output = node(link), lent(10000)
+    if path < link:
+        one.report(0, report(path))
+    text = one.send(0, 0, link_local(PEER), output, packet(n))
+    return text, output[6] >> 6 & 1 if text.startswith("wrapped") else None
+
+
+def size_checks():
+    """★ Sizes: M, and the flag."""
+    yield "P 1,300: n 1,280 wrapped, flag clear", sent(1300, 1280), ("wrapped 1300", 0)
+    yield "P 1,300: 1,281 gives M 1,280", sent(1300, 1281), ("too-big 1280 1280", None)
+    yield "P 1,301: 1,281 wrapped, flag set", sent(1301, 1281), ("wrapped 1301", 1)
+    yield "P 1,301: 1,282 gives 1,281", sent(1301, 1282), ("too-big 1281 1280", None)
+    yield "P 1,500: 1,480 passes", sent(1500, 1480), ("wrapped 1500", 1)
+    yield "P 1,500: 1,481 gives 1,480", sent(1500, 1481), ("too-big 1480 1280", None)
+    yield "P 600: 1,280 passes, flag clear", sent(600, 1280), ("wrapped 1300", 0)
+
+
+def report_checks():
+    """★ Reports: plateaus, limits, age."""
+    for total, size in ((1500, 1492), (1492, 1006), (69, 68), (68, None)):
+        given = f"accepted 10.0.0.2 {size}" if size else "refuse 18"
+        yield f"candidate 0, quoted {total}: {given}", said(node(), "report", 0, report(0, total)), given
+    for candidate, given in ((68, "accepted 10.0.0.2 68"), (67, "refuse 18"), (1500, "refuse 19")):
+        yield f"size {candidate}: {given}", said(node(), "report", 0, report(candidate)), given
+    one = node()
+    one.report(1000, report(700))
+    for time, size in ((1599, 700), (1600, 1500)):
+        one.raise_time(time)
+        yield f"accepted at 1,000: size at {time} is {size}", one.size(PEER), size
+
+
+def neighbour_checks():
+    """Run only: the 63rd other neighbour leaves a size, the 64th removes it."""
+    one = node()
+    one.report(0, report(700))
+    for count in range(1, 65):
+        one.report(0, report(800, neighbour=bytes((10, 1, 0, count))))
+        if count >= 63:
+            yield f"after {count} other neighbours", one.size(PEER), 700 if count == 63 else 1500
+
+
+HEADER = bytes.fromhex("4500003C00010000402966960A0000020A000001")
+
+
+def example(identifier="00005efe", last=2):
+    return HEADER + packet(40, isatap_address(LINK_LOCAL, identifier, bytes((10, 0, 0, last))))
+
+
+def receive_checks():
+    """★ The header's checksum and the identifier's first byte."""
+    yield "the header above gets checksum 6696", checksum_field(HEADER[:10] + HEADER[12:]).hex(), "6696"
+    yield "the header above is what wrapping writes", wrapped(b"", 1, False, 64, PEER, OWN)[4:10].hex(), HEADER[4:10].hex()
+    for first, given in ((0, "deliver 20 40"), (2, "deliver 20 40"), (1, "refuse 10"), (3, "refuse 10")):
+        yield f"first identifier byte {first:02}: {given}", said(node(), "receive", 0, example(f"{first:02x}005efe")), given
+
+
+def program_checks():
+    start = u16(1) + OWN + b"\0" + u16(0) + u16(0)
+    two = start + encode_datagrams([(0, example(last=2)), (0, example(last=3))])
+    yield "the program's example", program(two), ["datagrams 2", "1 deliver 40", "2 refuse 10"]
+    yield "no datagram", program(start + u16(0)), ["datagrams 0"]
+    full = start + encode_datagrams([(0, bytes(65515)), (0, bytes(2))])
+    yield "65,536 bytes are taken", (len(full), program(full)), (65536, ["datagrams 2", "1 refuse 2", "2 refuse 2"])
+    for text, data in (("empty", b""), ("trailing byte", two + b"\0"), ("cut", two[:-1]), ("too long", full + b"\0"),
+                       ("no locator", bytes(8))):
+        yield f"program, {text}: bad input", program(data), ["bad input"]
+
+
+def message_checks():
+    """Messages that we write are right by their own checksums and read as RFC 4443 and RFC 4861 say."""
+    one, output = node(), lent(1300)
+    one.send(0, 0, link_local(PEER), output, packet(1481))
+    yield "Too Big: addresses, type, size", bytes(output[:48]), (
+        bytes.fromhex("6000000004d83a40") + link_local(OWN) + link_local(PEER) + b"\2\0" + bytes(output[42:44])
+        + bytes.fromhex("000005c8"))
+    yield "Too Big: checksum", checksum_right(pseudo_header(link_local(OWN), link_local(PEER), 1240) + output[40:1280]), True
+    yield "Too Big: quote, and bytes behind it", bytes(output[48:]), packet(1481)[:1232] + b"\xa5" * 20
+    output = lent(50)
+    yield "asking names the router", one.ask(0, 0, output), "10.0.0.9"
+    yield "solicitation", bytes(output), (bytes.fromhex("6000000000083aff") + link_local(OWN) + link_local(ROUTER) +
+                                          b"\x85\0" + bytes(output[42:44]) + bytes(4) + b"\xa5\xa5")
+    yield "solicitation: checksum", checksum_right(pseudo_header(link_local(OWN), link_local(ROUTER), 8) + output[40:48]), True
+
+
+def time_checks():
+    """Due times are exact and may lie past the last second."""
+    one = node()
+    one.ask(0, 0xffffffff, lent(48))
+    yield "due past the last second", said(one, "ask", 0, 0xffffffff, 0), "refuse 22 811c9dc5"
+    yield "exact due time", one.routers, [(ROUTER, 0xffffffff + 120)]
+    one.advertisement(0, builders.advertisement(link_local(ROUTER), link_local(OWN), 1800))
+    yield "half of the router's lifetime", one.routers, [(ROUTER, 0xffffffff + 900)]
+
+
+def replay_checks():
+    start = u16(1) + OWN + b"\0" + u16(0) + u16(0) + u16(1500) + b"\x40" + u16(120) + u16(1)
+    yield "FNV-1a of `foobar`", digest(b"foobar"), "bf9cf968"
+    yield "RFC 1071's example", checksum_field(bytes.fromhex("0001f203f4f5f6f7")).hex(), "220d"
+    yield "settings without calls", replay(start + b"\0"), []
+    yield "reporting flag 2", replay(start + b"\2"), ["bad input"]
+    yield "empty input", replay(b""), ["bad input"]
+    yield "multicast reporting address", replay(start + b"\1" + b"\xff" * 16), ["settings refuse 1"]
+    yield "size", replay(start + b"\0\x07" + PEER), ["size 1500"]
+    calls = (b"\1\0" + u16(60) + example() + b"\2\0" + bytes(4) + link_local(PEER) + u16(60) + u16(40) + packet(40)
+             + b"\3\0\0\0\1" + u16(36) + report(700) + b"\4\0\0\0\2" + u16(1) + ROUTER + b"\5\0\0\0\0\3" + u16(0)
+             + b"\6\0\0\0\4" + u16(0) + b"\7" + PEER)
+    yield "one call of each kind, by hand", replay(start + b"\0" + calls), [
+        "receive deliver 20 40", "send wrapped 60 " + digest(wrapped(packet(40), 1, True, 64, OWN, PEER)),
+        "report accepted 10.0.0.2 700", "routers accepted 1", "ask refuse 15 811c9dc5", "advertisement refuse 8", "size 700"]
+
+
+CHECKS = (size_checks, report_checks, neighbour_checks, receive_checks, program_checks, message_checks, time_checks, replay_checks)
+
+
+def checked():
+    """Text of each value, what the model gives, and what document 01 states."""
+    for checks in CHECKS:
+        yield from checks()
+
+
+def self_test():
+    """One line for each value; the status is 1 if one is not as stated."""
+    wrong = 0
+    for text, given, stated in checked():
+        wrong += given != stated
+        print(f"{'ok  ' if given == stated else 'FAIL'} {text}" + ("" if given == stated else f": {given!r}, not {stated!r}"))
+    print(f"{wrong} wrong")
+    return 1 if wrong else 0

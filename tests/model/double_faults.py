@@ -1,0 +1,100 @@
+"""Calls with two faults: the first in the call's order is given. All pairs that stand side by side in an order are here but 14 and 23,
+which needs a packet of 65,516 bytes (the named input `longest_packets`), and 18 and 19, which never apply together.
+
+tests/double_faults.txt has them as text, for other implementations to read.
+"""
+from .builders import advertisement, datagram, packet, report
+from .octets import LINK_LOCAL, LOOPBACK, isatap_address, link_local
+
+OWN, PEER, OTHER = (bytes((10, 0, 0, last)) for last in (1, 2, 3))
+LOCAL_HOST = bytes((127, 0, 0, 1))
+PREFIX = bytes.fromhex("20010db800000001")
+SETTINGS = {"locators": [(OWN, 0)], "prefixes": [PREFIX], "routers": []}
+OFF_LINK = bytes.fromhex("20010db800000002")
+HEAD = """# Calls with two faults. Each line is one call, at time 0, on a new node: locator 10.0.0.1 on interface 0, on-link prefix
+# 2001:db8:0:1::/64, no router, other settings default. The first number must be given; the second fault is in the call too.
+# Bytes are hexadecimal, `-` for none; other numbers are decimal. The lines are written by `python3 tests/model double-faults`.
+#   receive FIRST SECOND INTERFACE DATAGRAM
+#   send FIRST SECOND LOCATOR NEXT-HOP ROOM PACKET
+#   report FIRST SECOND MESSAGE
+#   ask FIRST SECOND LOCATOR ROOM
+#   advertisement FIRST SECOND PACKET
+# 14 is the answer Too Big with its size and the length written: here 1480, and 1280 where the packet's source can get a message.
+"""
+
+
+def received(first, second, interface=0, source6=link_local(PEER), payload=b"", length=None, version6=6, source=PEER, **fields):
+    inner = packet(source6, link_local(OWN), payload, length, version6)
+    return first, second, interface, datagram(inner, source, OWN, **fields)
+
+
+def sent(first, second, n=60, index=0, next_hop=link_local(PEER), room=2000, tail=b"", source6=link_local(OTHER), version6=6):
+    return first, second, index, next_hop, room, packet(source6, link_local(PEER), bytes(n - 40), version=version6) + tail
+
+
+def reported(first, second, candidate=600, source=OWN, neighbour=PEER, **fields):
+    return first, second, report(candidate, source, neighbour, **fields)
+
+
+def advertised(first, second, source6=link_local(PEER), **fields):
+    return first, second, advertisement(source6, link_local(OWN), 1800, **fields)
+
+
+RECEIVED = [
+    received(2, 3, version=5, spoil=1), received(2, 3, total=19, spoil=1), received(2, 3, total=61, spoil=1),
+    received(2, 4, version=5, protocol=17), received(2, 6, version=5, interface=1),
+    received(3, 4, spoil=1, protocol=17), received(3, 5, spoil=1, flags=0x2000), received(3, 6, spoil=1, interface=1),
+    received(4, 5, protocol=17, flags=0x2000), received(4, 5, protocol=17, flags=1), received(4, 6, protocol=17, interface=1),
+    received(4, 7, protocol=17, source=LOCAL_HOST), received(5, 6, flags=0x2000, interface=1), received(5, 6, flags=1, interface=1),
+    received(5, 8, flags=1, version6=4), received(6, 7, interface=1, source=LOCAL_HOST), received(6, 8, interface=1, version6=4),
+    received(6, 9, interface=1, source6=LOOPBACK), received(7, 8, source=LOCAL_HOST, version6=4),
+    received(7, 8, source=LOCAL_HOST, length=1), received(7, 9, source=LOCAL_HOST, source6=LOOPBACK),
+    received(7, 10, source=LOCAL_HOST), received(8, 9, version6=4, source6=LOOPBACK), received(8, 9, length=1, source6=bytes(16)),
+    received(8, 10, length=1, source6=link_local(OTHER)), received(9, 10, source6=LOOPBACK),
+    received(9, 10, source6=b"\xff\2" + bytes(14)), received(9, 10, source6=bytes(12) + LOCAL_HOST)]
+SENT = [
+    sent(8, 11, tail=b"\0", index=1), sent(8, 12, version6=4, next_hop=isatap_address(OFF_LINK, "00005efe", PEER)),
+    sent(8, 13, tail=b"\0", next_hop=link_local(OWN)), sent(8, 14, n=1481, tail=b"\0"), sent(8, 15, tail=b"\0", room=0),
+    sent(11, 12, index=1, next_hop=isatap_address(OFF_LINK, "00005efe", PEER)), sent(11, 13, index=1, next_hop=link_local(OWN)),
+    sent(11, 14, index=255, n=1481), sent(11, 15, index=1, room=0),
+    sent(12, 13, next_hop=isatap_address(OFF_LINK, "00005efe", LOCAL_HOST)), sent(12, 13, next_hop=isatap_address(LINK_LOCAL, "01005efe", OWN)),
+    sent(12, 14, next_hop=isatap_address(OFF_LINK, "00005efe", PEER), n=1481),
+    sent(12, 15, next_hop=isatap_address(OFF_LINK, "00005efe", PEER), room=0),
+    sent(13, 14, next_hop=link_local(LOCAL_HOST), n=1481), sent(13, 14, next_hop=link_local(OWN), n=1481),
+    sent(13, 15, next_hop=link_local(OWN), room=0), sent(14, 15, n=1481, source6=bytes(16), room=0), sent(14, 15, n=1481, room=1280),
+    sent(15, 14, n=1481, room=1279)]
+REPORTED = [
+    reported(16, 17, spoil=1, protocol=17), reported(16, 17, code=3, source=OTHER), reported(16, 17, version=6, neighbour=LOCAL_HOST),
+    reported(16, 18, spoil=1, candidate=67), reported(16, 18, kind=11, candidate=0, total=68), reported(16, 19, spoil=1, candidate=1500),
+    reported(17, 18, protocol=17, candidate=67), reported(17, 18, source=OTHER, candidate=67),
+    reported(17, 18, neighbour=OWN, candidate=0, total=68), reported(17, 18, neighbour=LOCAL_HOST, candidate=1),
+    reported(17, 19, protocol=17, candidate=1500), reported(17, 19, neighbour=LOCAL_HOST, candidate=65535)]
+ASKED = [(11, 22, 1, 48), (11, 15, 1, 0), (22, 15, 0, 0), (22, 15, 0, 47)]
+ADVERTISED = [
+    advertised(8, 20, version=4, hop_limit=254), advertised(8, 20, payload_error=1, kind=133), advertised(8, 21, version=4),
+    advertised(20, 21, hop_limit=254), advertised(20, 21, spoil=1), advertised(20, 21, kind=133), advertised(20, 21, code=1),
+    advertised(20, 21, options=[b"\1\0" + bytes(6)]), advertised(20, 21, next_header=59), advertised(20, 21, message_cut=15),
+    advertised(20, 21, source6=isatap_address(PREFIX, "00005efe", PEER))]
+CALLS = [(name, call) for name, calls in (("receive", RECEIVED), ("send", SENT), ("report", REPORTED), ("ask", ASKED),
+                                          ("advertisement", ADVERTISED)) for call in calls]
+
+
+def arguments(name, call):
+    """The arguments of the call at time 0."""
+    rest = list(call[2:])
+    place = {"receive": None, "send": 1, "report": 0, "ask": 1, "advertisement": 0}[name]
+    if place is not None:
+        rest.insert(place, 0)
+    return rest
+
+
+def make(calls):
+    """All of them on one node, of these settings; each is given its first number."""
+    for name, call in CALLS:
+        calls.call(name, *arguments(name, call), want="too-big 1480" if call[0] == 14 else f"refuse {call[0]}")
+
+
+def lines():
+    """The text of tests/double_faults.txt."""
+    shown = [" ".join([name] + [(part.hex() or "-") if isinstance(part, bytes) else str(part) for part in call]) for name, call in CALLS]
+    return (HEAD + "".join(line + "\n" for line in shown)).encode()

@@ -1,0 +1,119 @@
+"""The faults of calls: for each number of document 01 the changes that bring it about in a call that would else pass.
+
+A call is built from named fields. A fault is a number with changes to fields; a variation changes fields and keeps the
+call accepted.
+"""
+from .octets import LINK_LOCAL, LOOPBACK, UNSPECIFIED, isatap_address, link_local
+
+FORBIDDEN = [bytes(parts) for parts in ((0, 0, 0, 0), (127, 0, 0, 0), (127, 0, 0, 1), (127, 255, 255, 255), (224, 0, 0, 0),
+                                        (239, 255, 255, 255), (232, 1, 2, 3), (255, 255, 255, 255))]
+NEARLY_FORBIDDEN = [bytes(parts) for parts in ((0, 0, 0, 1), (126, 255, 255, 255), (128, 0, 0, 0), (223, 255, 255, 255),
+                                               (240, 0, 0, 0), (255, 255, 255, 254))]
+MULTICAST = bytes.fromhex("ff02") + bytes(13) + b"\1"
+GLOBAL = bytes.fromhex("20010db8000000000000000000000007")
+# Quoted total length and the plateau below it, by hand from the list of document 01
+PLATEAU_BELOW = {69: 68, 296: 68, 297: 296, 508: 296, 509: 508, 1006: 508, 1007: 1006, 1492: 1006, 1493: 1492, 1500: 1492,
+                 2002: 1492, 2003: 2002, 4352: 2002, 4353: 4352, 8166: 4352, 8167: 8166, 17914: 8166}
+
+
+# ---- Faults and variations; a callable value is given the list of calls and the fields
+
+def off_link(calls, f):
+    return isatap_address(bytes.fromhex("fe80000000000001"), "00005efe", f["address"])
+
+
+def one_of(key, values):
+    """One change for each value of a field."""
+    return [{key: value} for value in values]
+
+
+def faults(number, *changes):
+    return [(number, change) for change in changes]
+
+
+NOT_ISATAP = [{"source6": lambda calls, f, text=text: isatap_address(LINK_LOCAL, text, f["address"])}
+              for text in ("01005efe", "03005efe", "04005efe", "00015efe", "00005efd", "00005ffe", "80005efe")]
+UNLISTED = {"source6": lambda calls, f: link_local(calls.fresh())}
+
+# Receiving
+
+BAD_SOURCES = [MULTICAST, bytes([255]) + bytes(15), UNSPECIFIED, LOOPBACK] + [bytes(12) + address for address in FORBIDDEN]
+WRONG_SOURCES = NOT_ISATAP + [
+    UNLISTED, {"source6": off_link}, {"source6": GLOBAL}, {"source6": lambda calls, f: link_local(calls.listed_router())}, {"source6": lambda calls, f: bytes(12) + f["address"]},
+    {"source6": lambda calls, f: link_local(f["address"][:3] + bytes([f["address"][3] ^ 1]))}]
+TOTALS = [lambda header, whole: header - 1, lambda header, whole: 0,
+          lambda header, whole: whole + 1, lambda header, whole: 65535]
+RECEIVE_FAULTS = (
+    faults(2, *one_of("cut", (0, 1, 19)), *one_of("version", (5, 6)), *one_of("words", (0, 4)), *one_of("total_rule", TOTALS),
+           {"words": 15, "cut": 59}, {"words": 6, "cut": 20})
+    + faults(3, *one_of("spoil", (1, 0x100, 0x8000, None)))
+    + faults(4, *one_of("protocol", (0, 4, 40, 42, 255)))
+    + faults(5, *one_of("flags", (0x2000, 0x6000, 1, 0x100, 0x1000, 0x1fff, 0x2001)))
+    + faults(6, {"interface": lambda calls, f: calls.other_interface(f["destination"])},
+             {"destination": lambda calls, f: calls.fresh()})
+    + faults(7, *one_of("source", FORBIDDEN))
+    + faults(8, *one_of("version6", (4, 7)), {"inner_cut": 0, "tail": b""}, {"inner_cut": 39, "tail": b""},
+             {"payload_error": 1, "tail": b""}, {"payload_error": 1, "tail": b"", "padding": bytes(9)})
+    + faults(9, *one_of("source6", BAD_SOURCES))
+    + faults(10, *[dict(change, source=lambda calls, f: f["address"]) for change in WRONG_SOURCES]))
+BY_ROUTER = [GLOBAL, bytes(12) + b"\x0a\1\1\1", isatap_address(LINK_LOCAL, "01005efe", b"\x0a\1\1\1"), bytes(11) + b"\1" + bytes(4),
+             b"\xfe" + bytes(15), link_local(FORBIDDEN[2]), bytes(10) + b"\xff\xff\x0a\1\1\1", bytes(10) + b"\xff\xff" + FORBIDDEN[2]]
+RECEIVE_VARIATIONS = (
+    one_of("words", (5, 6, 9, 15)) + one_of("padding", (b"\1", bytes(26))) + one_of("flags", (0x4000, 0x8000, 0xc000))
+    + one_of("zero_check", (0, 0xffff)) + [{"payload": b""}, {"tail": b"\7"}, {"tail": bytes(9), "words": 7, "padding": b"\1"}]
+    + [{"source6": lambda calls, f, text=text: isatap_address(calls.prefix(), text, f["source"])} for text in ("00005efe", "02005efe")]
+    + [{"source": address, "source6": link_local(address)} for address in NEARLY_FORBIDDEN]
+    + [{"source": lambda calls, f: calls.listed_router(), "source6": source} for source in BY_ROUTER]
+    + [{"source": lambda calls, f: f["destination"], "source6": lambda calls, f: link_local(f["source"])}])
+
+# Sending; `more` bytes above M, `short` bytes of room missing, `first` byte of the payload
+
+MESSAGE = [{}, {"more": 7}, {"source6": LOOPBACK}, {"source6": bytes([0xfe]) + bytes(15)}, {"next_header": 17, "first": 1},
+           {"destination6": MULTICAST}]
+MESSAGE += [{"next_header": 58, "first": first} for first in (128, 133, 136, 138, 255)]
+NO_MESSAGE = one_of("source6", (MULTICAST, bytes([255]) + bytes(15), UNSPECIFIED))
+NO_MESSAGE += [{"next_header": 58, "first": first} for first in (0, 1, 2, 127, 137)]
+SEND_FAULTS = (
+    faults(8, *one_of("cut", (0, 39)), *one_of("version6", (4, 5)), {"tail": b"\0"}, {"payload_error": 1})
+    + faults(11, {"index": lambda calls, f: len(calls.settings.locators)}, {"index": 255})
+    + faults(12, *one_of("next_hop", (off_link, GLOBAL, UNSPECIFIED)),
+             *[{"next_hop": lambda calls, f, text=text: isatap_address(calls.prefix(), text, f["address"])}
+               for text in ("01005efe", "03005efe", "00005efd", "00015efe")])
+    + faults(13, *one_of("next_hop", [link_local(address) for address in FORBIDDEN]),
+             {"index": 0, "next_hop": lambda calls, f: link_local(calls.settings.locators[0][0])},
+             {"index": 0, "next_hop": lambda calls, f: link_local(calls.settings.locators[-1][0])})
+    + faults(14, *[dict({"more": 1}, **change) for change in MESSAGE],
+             *[dict({"more": 1, "message": False}, **change) for change in NO_MESSAGE])
+    + faults(15, *one_of("short", (1, 2, 1279))))
+
+# Size reports
+
+REPORT_FAULTS = (
+    faults(16, *one_of("cut", (0, 1, 8, 27)), *one_of("spoil", (1, 0x200, None)), *one_of("words", (0, 4)), {"version": 6},
+           {"words": 6, "cut": 31}, {"words": 15, "cut": 28},
+           *[{"type": kind, "code": code} for kind, code in ((3, 3), (3, 5), (11, 4), (0, 0), (4, 3))])
+    + faults(17, *one_of("protocol", (4, 40, 42)), {"source": lambda calls, f: calls.fresh()}, *one_of("neighbour", FORBIDDEN),
+             {"neighbour": lambda calls, f: calls.random.choice(calls.settings.locators)[0]})
+    + faults(18, *one_of("candidate", (1, 67)), *[{"candidate": 0, "total": total} for total in (0, 67, 68)])
+    + faults(19, {"candidate": lambda calls, f: calls.node.size(f["neighbour"])},
+             {"candidate": lambda calls, f: calls.node.size(f["neighbour"]) + 1}, {"candidate": 65535},
+             {"candidate": 0, "total": 65535},
+             {"candidate": 0, "total": 17914, "neighbour": lambda calls, f: calls.small()}))
+REPORT_VARIATIONS = (
+    one_of("tail", (b"", b"\1\2\3")) + one_of("zero_check", (0, 0xffff)) + [{"words": 6}, {"words": 15, "tail": b""}, {"unused": b"\1\2"}, {"candidate": 68}]
+    + [{"source": lambda calls, f: calls.random.choice(calls.settings.locators)[0]},
+       {"candidate": lambda calls, f: calls.node.size(f["neighbour"]) - 1}]
+    + [{"candidate": 0, "total": total} for total in PLATEAU_BELOW])
+
+# Advertisements
+
+BROKEN_OPTIONS = [[b"\1\0" + bytes(6)], [b"\1\1" + bytes(6), b"\5\0"], [b"\1"], [b"\1\1" + bytes(6), b"\5"],
+                  [b"\1\1" + bytes(5)], [b"\3\4" + bytes(29)], [b"\1\2" + bytes(6)], [b"\1\1" + bytes(7)], [b"\xff\xff" + bytes(64)]]
+ADVERTISEMENT_FAULTS = (
+    faults(8, *one_of("cut", (0, 39)), {"version6": 4}, {"payload_error": 1, "tail": b""})
+    + faults(20, {"next_header": 59}, *one_of("hop_limit", (0, 254)), *one_of("spoil", (1, None)), *one_of("type", (133, 135)), {"code": 1},
+             *one_of("message_cut", (0, 1, 4, 8, 15)), *one_of("options", BROKEN_OPTIONS),
+             *one_of("source6", (off_link, GLOBAL)), {"source6": lambda calls, f: isatap_address(calls.prefix(False), "00005efe", f["address"])})
+    + faults(21, UNLISTED, *NOT_ISATAP))
+FAULTS = {"receive": RECEIVE_FAULTS, "send": SEND_FAULTS, "report": REPORT_FAULTS, "advertisement": ADVERTISEMENT_FAULTS}
+VARIATIONS = {"receive": RECEIVE_VARIATIONS, "report": REPORT_VARIATIONS, "advertisement": one_of("zero_check", (0, 0xffff))}

@@ -1,0 +1,161 @@
+"""The inputs and lines of `replay` (docs/REPLAY.md) and of the program of document 01."""
+from .node import Node
+from .octets import number, u16, u32
+from .rules import Refused, Settings
+
+REPLAY_LIMIT = 1 << 20
+PROGRAM_LIMIT = 1 << 16
+
+# Fields: B, H, I numbers of 1, 2, 4 bytes; A an IPv4, N an IPv6 address; D bytes after their length; R a list of addresses
+CALLS = {1: ("receive", "BD"), 2: ("send", "BINHD"), 3: ("report", "ID"), 4: ("routers", "IR"),
+         5: ("ask", "BIH"), 6: ("advertisement", "ID"), 7: ("size", "A")}
+
+
+# ---- Writing inputs
+
+def encode_lists(settings):
+    """Locators, prefixes and routers, each after its count."""
+    locators = [address + bytes([interface]) for address, interface in settings.locators]
+    return b"".join(u16(len(items)) + b"".join(items) for items in (locators, settings.prefixes, settings.routers))
+
+
+def encode_settings(settings):
+    data = encode_lists(settings) + u16(settings.link) + bytes([settings.ttl]) + u16(settings.interval) + u16(settings.identification)
+    return data + (b"\0" if settings.reporting is None else b"\1" + settings.reporting)
+
+
+def encode_call(name, arguments):
+    kind = next(kind for kind in CALLS if CALLS[kind][0] == name)
+    data = bytes([kind])
+    for form, value in zip(CALLS[kind][1], arguments):
+        data += {"B": lambda: bytes([value]), "H": lambda: u16(value), "I": lambda: u32(value), "A": lambda: value,
+                 "N": lambda: value, "D": lambda: u16(len(value)) + value,
+                 "R": lambda: u16(len(value)) + b"".join(value)}[form]()
+    return data
+
+
+def encode_datagrams(datagrams):
+    """The last section of an input of the program: interface, length and bytes of each, after their count."""
+    return u16(len(datagrams)) + b"".join(bytes([interface]) + u16(len(datagram)) + datagram for interface, datagram in datagrams)
+
+
+# ---- Reading them
+
+class BadInput(Exception):
+    pass
+
+
+class Reader:
+    def __init__(self, data):
+        self.data, self.place = data, 0
+
+    def take(self, count):
+        part = self.data[self.place:self.place + count]
+        if len(part) < count:
+            raise BadInput
+        self.place += count
+        return part
+
+    def number(self, width):
+        return number(self.take(width))
+
+    def ended(self):
+        return self.place == len(self.data)
+
+    def many(self, width):
+        return [self.take(width) for _ in range(self.number(2))]
+
+    def field(self, form):
+        widths = {"B": 1, "H": 2, "I": 4}
+        if form in widths:
+            return self.number(widths[form])
+        return {"A": lambda: self.take(4), "N": lambda: self.take(16), "R": lambda: self.many(4),
+                "D": lambda: self.take(self.number(2))}[form]()
+
+    def lists(self):
+        """Locators, prefixes and routers, in both programs first."""
+        return [(pair[:4], pair[4]) for pair in self.many(5)], self.many(8), self.many(4)
+
+    def settings(self):
+        lists = self.lists()
+        link, ttl, interval, identification = (self.number(width) for width in (2, 1, 2, 2))
+        flag = self.number(1)
+        if flag > 1:
+            raise BadInput
+        return Settings(*lists, link, ttl, interval, identification, self.take(16) if flag else None)
+
+    def call(self):
+        kind = self.number(1)
+        if kind not in CALLS:
+            raise BadInput
+        name, forms = CALLS[kind]
+        return name, [self.field(form) for form in forms]
+
+
+# ---- Lines
+
+def digest(output):
+    """The 32-bit FNV-1a hash of the whole lent output."""
+    value = 2166136261
+    for byte in output:
+        value = (value ^ byte) * 16777619 & 0xffffffff
+    return f"{value:08x}"
+
+
+def lent(room):
+    return bytearray(b"\xa5" * room)
+
+
+def answer(node, name, arguments):
+    """The line that `replay` prints for one call."""
+    output = None
+    arguments = list(arguments)
+    if name in ("send", "ask"):
+        place = {"send": 3, "ask": 2}[name]
+        output = arguments[place] = lent(arguments[place])
+    try:
+        line = str(getattr(node, {"routers": "replace_routers"}.get(name, name))(*arguments))
+    except Refused as refused:
+        line = f"refuse {refused.number}"
+    return f"{name} {line}" + ("" if output is None else " " + digest(output))
+
+
+def replay(data):
+    """All lines of the replay program."""
+    try:
+        if len(data) > REPLAY_LIMIT:
+            raise BadInput
+        reader = Reader(data)
+        settings, calls = reader.settings(), []
+        while not reader.ended():
+            calls.append(reader.call())
+        node = Node(settings)
+    except BadInput:
+        return ["bad input"]
+    except Refused:
+        return ["settings refuse 1"]
+    return [answer(node, *call) for call in calls]
+
+
+def program(data):
+    """All lines of "The program"."""
+    try:
+        if len(data) > PROGRAM_LIMIT:
+            raise BadInput
+        reader = Reader(data)
+        settings = Settings(*reader.lists())
+        datagrams = [(reader.number(1), reader.field("D")) for _ in range(reader.number(2))]
+        if not reader.ended():
+            raise BadInput
+        node = Node(settings)
+    except (BadInput, Refused):
+        return ["bad input"]
+    lines = [f"datagrams {len(datagrams)}"]
+    for place, (interface, datagram) in enumerate(datagrams, 1):
+        words = answer(node, "receive", (interface, datagram)).split()
+        lines.append(f"{place} {words[1]} {words[-1]}")
+    return lines
+
+
+def text(lines):
+    return "".join(line + "\n" for line in lines).encode()

@@ -1,0 +1,145 @@
+"""Whole inputs by chance: lists of calls, bad inputs, inputs of the program of document 01."""
+import random
+
+from .calls import Calls
+from .faults import FAULTS, FORBIDDEN, GLOBAL, NEARLY_FORBIDDEN, VARIATIONS
+from .formats import REPLAY_LIMIT, encode_call, encode_datagrams, encode_lists, encode_settings, replay
+from .octets import LINK_LOCAL, LOOPBACK, forbidden, isatap_address
+from .rules import Settings
+from .scenarios import PREFIXES, SCENARIOS, neighbours, neighbours_moved, plain_settings, times_near_the_end
+
+
+def random_settings(chooser):
+    def address():
+        while True:
+            parts = chooser.choice([bytes(chooser.randrange(256) for _ in range(4)), chooser.choice(NEARLY_FORBIDDEN)])
+            if not forbidden(parts):
+                return parts
+    locators = []
+    for _ in range(chooser.choice((1, 1, 2, 3, 8))):
+        again = locators and chooser.random() < 0.3
+        locators.append((chooser.choice(locators)[0] if again else address(), chooser.choice((0, 1, 255, chooser.randrange(256)))))
+    locators = list(dict.fromkeys(locators))
+    own = [locator for locator, _ in locators]
+    routers = list({router for router in (address() for _ in range(chooser.choice((0, 1, 2, 3, 16)))) if router not in own})
+    return Settings(locators, [chooser.choice(PREFIXES) for _ in range(chooser.choice((0, 1, 2, 8)))], sorted(routers),
+                    chooser.choice((576, 577, 1280, 1299, 1300, 1301, 1302, 1500, 1500, 1500, 4352, 9216, chooser.randint(576, 9216))),
+                    chooser.choice((1, 64, 255)), chooser.choice((1, 2, 120, 3600, chooser.randint(1, 3600))),
+                    chooser.choice((0, 1, 65530, 65534, 65535, chooser.randrange(65536))),
+                    chooser.choice((None, None, GLOBAL, LOOPBACK, bytes([0xfe]) + bytes(15))))
+
+
+# ---- Single calls
+
+def with_faults(calls, name, *faults):
+    """One call with these faults, the lowest number applied last, and some variation of it."""
+    faults = sorted(faults, key=lambda fault: -fault[0])
+    if name not in VARIATIONS:
+        return getattr(calls, name)(faults)
+    return getattr(calls, name)(faults, calls.random.choice(VARIATIONS[name]) if calls.random.random() < 0.5 else None)
+
+
+def mutated(chooser, data):
+    """A byte flipped, the end cut off, or bytes added."""
+    data, way = bytearray(data), chooser.randrange(4)
+    if way < 2 and data:
+        data[chooser.randrange(min(len(data), chooser.choice((12, 48, 4000))))] ^= 1 << chooser.randrange(8)
+    elif way == 2:
+        del data[chooser.randrange(len(data) + 1):]
+    else:
+        data += bytes(chooser.randrange(1, 20))
+    return bytes(data)
+
+
+def mutate_call(calls, name, data):
+    data, time = mutated(calls.random, data), calls.time()
+    if name == "receive":
+        calls.call(name, calls.random.choice(calls.settings.locators)[1], data)
+    elif name == "send":
+        calls.call(name, 0, time, calls.some(8) + LINK_LOCAL if calls.random.random() < 0.1 else
+                   isatap_address(LINK_LOCAL, "02005efe", calls.neighbour()), calls.random.choice((len(data) + 20, 1280, 9300)), data)
+    else:
+        calls.call(name, time, data)
+
+
+def random_call(calls, name, fault):
+    second = [other for other in FAULTS[name] if fault is None or other[0] != fault[0]]
+    faults = [fault] if fault else []
+    if fault and calls.random.random() < 0.25:
+        faults.append(calls.random.choice(second))
+    data = with_faults(calls, name, *faults)
+    if calls.random.random() < 0.3:
+        mutate_call(calls, name, data)
+
+
+def deck(chooser):
+    """Every fault once, as many calls without one, and each scenario."""
+    cards = [(name, fault) for name in FAULTS for fault in FAULTS[name]]
+    cards += [(name, None) for name in FAULTS for _ in FAULTS[name]]
+    cards += [("scenario", scenario) for scenario in 4 * SCENARIOS + [neighbours, neighbours_moved]]
+    chooser.shuffle(cards)
+    return cards
+
+
+def generate(seed, count, most=REPLAY_LIMIT - 150000):
+    """About `count` calls; the last second is reached in some lists, and only at the end."""
+    chooser = random.Random(seed)
+    calls, cards = Calls(chooser, random_settings(chooser)), []
+    while len(calls.made) < count and len(calls.data) < most and calls.node.latest < 1 << 31:
+        cards = cards or deck(chooser)
+        name, card = cards.pop()
+        if name == "scenario":
+            card(calls)
+        else:
+            random_call(calls, name, card)
+    if chooser.random() < 0.5:
+        times_near_the_end(calls)
+    return bytes(calls.data)
+
+
+# ---- Bad inputs
+
+def longest(length=REPLAY_LIMIT):
+    """Good calls only, of exactly this length."""
+    data = encode_settings(plain_settings(link=9216))
+    whole = encode_call("report", (0, bytes(65535)))
+    while len(data) + 2 * len(whole) < length:
+        data += whole
+    half = (length - len(data)) // 2
+    return data + encode_call("report", (0, bytes(half - 7))) + encode_call("report", (0, bytes(length - len(data) - half - 7)))
+
+
+def bad(seed):
+    """Cut off, of an unknown kind, with a flag above 1, or too long; sometimes with settings that would be refused."""
+    chooser = random.Random(seed)
+    good, way = generate(seed, 15), chooser.randrange(8)
+    settings = encode_settings(plain_settings())
+    if way == 0:
+        return longest(REPLAY_LIMIT + chooser.choice((1, 2, 5000)))
+    if way < 3:
+        return good + bytes([chooser.choice((0, 8, 9, 255))]) + bytes(chooser.randrange(9))
+    if way == 3:
+        return settings[:-1] + bytes([chooser.choice((2, 255))]) + chooser.choice((b"", GLOBAL)) + encode_call("size", [bytes(4)])
+    if way == 4:
+        return encode_settings(Settings([], [], [])) + b"\x09"
+    data = good
+    while replay(data) != ["bad input"]:                      # a cut between two calls is not bad
+        data = good[:chooser.randrange(len(good))]
+    return data
+
+
+# ---- Inputs of the program of document 01
+
+def program_input(seed):
+    """Lists of the settings and datagrams; one in eight is cut, has a byte too many or refused settings."""
+    chooser = random.Random(seed)
+    some = random_settings(chooser)
+    calls = Calls(chooser, Settings(some.locators, some.prefixes, some.routers))
+    for fault in chooser.sample(FAULTS["receive"], 20) + 20 * [None]:
+        random_call(calls, "receive", fault)
+    data = encode_datagrams([arguments for name, arguments in calls.made if name == "receive"])
+    way = chooser.randrange(24)
+    if way == 0:
+        calls.settings.locators.append((FORBIDDEN[1], 0))
+    data = encode_lists(calls.settings) + data
+    return data[:chooser.randrange(len(data))] if way == 1 else data + b"\0" if way == 2 else data

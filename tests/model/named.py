@@ -1,0 +1,237 @@
+"""The named set: inputs that each show what their name says."""
+import random
+from pathlib import Path
+
+from . import double_faults
+from .builders import datagram, packet
+from .calls import Calls
+from .faults import FAULTS, GLOBAL, MULTICAST, VARIATIONS
+from .formats import REPLAY_LIMIT, encode_call, encode_datagrams, encode_lists, encode_settings, program, replay, text
+from .generator import bad, generate, longest, program_input, with_faults
+from .octets import LINK_LOCAL, LOOPBACK, UNSPECIFIED, isatap_address, link_local, u16
+from .rules import Settings
+from .scenarios import PREFIXES, advertised_due_time, advertised_earlier, ageing, ask, asking, dropped_router
+from .scenarios import advertised_alone, each_locator, each_prefix, each_router, earlier_times, identifications, long_ages
+from .scenarios import longest_lifetime, longest_packets, near_neighbours, neighbours, neighbours_moved, path_sizes, plain_settings
+from .scenarios import plateaus, refused_sizes, router_lists, second_carries, times_going_back, times_near_the_end
+from .scenarios import times_raised_by_refused_calls, waits, zero_checksums
+
+
+def numbered(first, count):
+    return [bytes((203, 0, 113, place)) for place in range(first, first + count)]
+
+
+REFUSED_SETTINGS = {
+    "no_locator": {"locators": []}, "nine_locators": {"locators": [(address, 0) for address in numbered(1, 9)]},
+    "pair_twice": {"locators": [(bytes((10, 0, 0, 1)), 4), (bytes((10, 0, 0, 2)), 4), (bytes((10, 0, 0, 1)), 4)]},
+    "forbidden_locator": {"locators": [(bytes((10, 0, 0, 1)), 0), (bytes((224, 0, 0, 1)), 0)]},
+    "nine_prefixes": {"prefixes": [PREFIXES[0]] * 9}, "seventeen_routers": {"routers": numbered(1, 17)},
+    "router_twice": {"routers": numbered(1, 3) + numbered(2, 1)},
+    "forbidden_router": {"routers": numbered(1, 1) + [bytes((127, 9, 9, 9))]},
+    "router_is_locator": {"routers": [bytes((192, 0, 2, 7))]}, "link_575": {"link": 575}, "link_9217": {"link": 9217}, "ttl_0": {"ttl": 0},
+    "interval_0": {"interval": 0}, "interval_3601": {"interval": 3601}, "reporting_multicast": {"reporting": MULTICAST},
+    "reporting_unspecified": {"reporting": UNSPECIFIED}}
+ALLOWED_SETTINGS = {
+    "least": {"locators": [(bytes((10, 0, 0, 1)), 255)], "prefixes": [], "routers": [],
+              "link": 576, "ttl": 1, "interval": 1, "identification": 0},
+    "most": {"locators": [(address, 0) for address in numbered(1, 8)], "prefixes": [PREFIXES[0]] * 8, "routers": numbered(20, 16),
+             "link": 9216, "ttl": 255, "interval": 3600, "identification": 65535, "reporting": LOOPBACK},
+    "one_address_on_two_interfaces": {"locators": [(bytes((10, 0, 0, 1)), 0), (bytes((10, 0, 0, 1)), 1)]}}
+
+
+def each_fault(calls, name, keep=lambda fault: True):
+    for fault in FAULTS[name]:
+        if keep(fault):
+            with_faults(calls, name, fault)
+
+
+def each_variation(calls, name):
+    for variation in VARIATIONS[name]:
+        getattr(calls, name)((), variation)
+
+
+def each_pair(calls, name, rounds=1):
+    """For each two numbers calls that have both faults: the first in the call's order is given."""
+    by_number = {}
+    for number, changes in FAULTS[name]:
+        by_number.setdefault(number, []).append((number, changes))
+    pairs = [(first, second) for first in by_number for second in by_number if first < second]
+    for first, second in rounds * pairs:
+        with_faults(calls, name, calls.random.choice(by_number[first]), calls.random.choice(by_number[second]))
+
+
+def no_router(calls):
+    ask(calls, want="refuse 22")
+    ask(calls, room=0, want="refuse 22")
+    calls.advertisement([(21, {})], router=calls.fresh())
+    calls.receive([(10, {"source6": GLOBAL})])
+
+
+def rooms(calls):
+    """One byte short and just fitting, for a wrapped packet, a message and no message."""
+    large, unanswered = (14, {"more": 1}), (14, {"more": 1, "message": False, "source6": UNSPECIFIED})
+    for short in (1, 1280):
+        calls.send([(15, {"short": short})])
+        calls.send([(15, {"short": short}), large])
+        calls.send([(15, {"short": short}), unanswered])
+    calls.send()
+    calls.send([large])
+
+
+def sends(calls, count=12):
+    for _ in range(count):
+        calls.send()
+        calls.send([(15, {"short": 1})])
+
+
+NAMED = {
+    "receive_refusals": lambda calls: each_fault(calls, "receive"),
+    "receive_two_faults": lambda calls: each_pair(calls, "receive", 5),
+    "receive_delivered": lambda calls: each_variation(calls, "receive"),
+    "send_refusals": lambda calls: each_fault(calls, "send", lambda fault: fault[0] != 14),
+    "send_too_big_with_message": lambda calls: each_fault(
+        calls, "send", lambda fault: fault[0] == 14 and "message" not in fault[1]),
+    "send_too_big_without_message": lambda calls: each_fault(calls, "send", lambda fault: "message" in fault[1]),
+    "send_two_faults": lambda calls: each_pair(calls, "send", 2),
+    "send_rooms": rooms,
+    "send_path_sizes": lambda calls: path_sizes(calls, (68, 600, 1299, 1300, 1301, 1302, 1499, 1500)),
+    "zero_checksums": zero_checksums,
+    "report_refusals": lambda calls: each_fault(calls, "report"),
+    "report_two_faults": lambda calls: each_pair(calls, "report", 20),
+    "report_accepted": lambda calls: each_variation(calls, "report"),
+    "report_plateaus": plateaus,
+    "ageing": lambda calls: [ageing(calls) for _ in range(6)],
+    "times_raised_by_refused_calls": times_raised_by_refused_calls,
+    "times_going_back": lambda calls: [times_going_back(calls) for _ in range(3)],
+    "times_near_the_end": times_near_the_end,
+    "neighbours_63": lambda calls: neighbours(calls, 63, False),
+    "neighbours_64": lambda calls: neighbours(calls, 64, False),
+    "neighbours_65": lambda calls: neighbours(calls, 65, False),
+    "neighbours_63_reported_again": lambda calls: neighbours(calls, 63, True),
+    "neighbours_64_reported_again": lambda calls: neighbours(calls, 64, True),
+    "neighbours_moved": neighbours_moved,
+    "router_lists": lambda calls: [router_lists(calls), dropped_router(calls)],
+    "asking": lambda calls: [asking(calls), asking(calls)],
+    "advertisement_refusals": lambda calls: each_fault(calls, "advertisement"),
+    "advertisement_two_faults": lambda calls: each_pair(calls, "advertisement", 20),
+    "advertisement_lifetimes": lambda calls: advertised_due_time(calls, waits(calls.settings.interval)),
+    "advertisement_earlier": advertised_earlier,
+    "advertisement_accepted": lambda calls: each_variation(calls, "advertisement"),
+    "second_carries": second_carries,
+    "long_ages": long_ages,
+    "refused_sizes": refused_sizes,
+    "near_neighbours": near_neighbours,
+    "longest_lifetime": longest_lifetime,
+    "longest_packets": longest_packets,
+    "earlier_times": earlier_times,
+    "identifications": identifications,
+    "advertised_alone": advertised_alone,
+    "no_calls": lambda calls: None,
+}
+EIGHT = [(bytes((198, 18, place, 9)), interface) for place, interface in enumerate((0, 7, 255, 7, 3, 0, 128, 31))]
+NAMED_SETTINGS = {"double_faults": (double_faults.SETTINGS, double_faults.make),
+                  "eight_locators": ({"locators": EIGHT}, each_locator), "sixteen_routers": ({"routers": numbered(1, 16)}, each_router),
+                  "reporting_address": ({"reporting": GLOBAL}, lambda calls: calls.send([(14, {"more": 1})])),
+                  "other_interval": ({"interval": 77}, lambda calls: [asking(calls), advertised_alone(calls)]),
+                  "eight_prefixes": ({"prefixes": PREFIXES}, each_prefix), "fe80_among_prefixes": ({"prefixes": [LINK_LOCAL]}, each_prefix),
+                  "prefix_twice": ({"prefixes": [PREFIXES[1], PREFIXES[0], PREFIXES[1]]}, each_prefix),
+                  "no_router": ({"routers": []}, no_router), "identification_wrap": ({"identification": 65530}, sends),
+                  "send_path_sizes_large_link": ({"link": 9216}, lambda calls: path_sizes(calls, (8166, 1500, 9216))),
+                  "report_plateaus_large_link": ({"link": 9216}, plateaus),
+                  "advertisement_lifetimes_long_interval": ({"interval": 3600}, lambda calls: advertised_due_time(calls, waits(3600)))}
+
+
+def named_inputs():
+    """Name and bytes of each."""
+    for place, (name, scenario) in enumerate(NAMED.items()):
+        yield name, scenario_bytes(place, {}, scenario)
+    for name, (changes, scenario) in NAMED_SETTINGS.items():
+        yield name, scenario_bytes(7, changes, scenario)
+    for name, changes in REFUSED_SETTINGS.items():
+        yield "settings_refused_" + name, encode_settings(plain_settings(**changes)) + encode_call("size", [bytes(4)])
+    for name, changes in ALLOWED_SETTINGS.items():
+        yield "settings_" + name, scenario_bytes(3, changes, sends)
+    good = scenario_bytes(5, {}, no_calls_but_some)
+    yield from {"bad_input_empty": b"", "bad_input_cut_settings": good[:11], "bad_input_cut": good[:-1],
+                "bad_input_kind_0": good + b"\0", "bad_input_kind_8": good + b"\x08", "bad_input_flag": encode_settings(plain_settings())[:-1] + b"\2",
+                "bad_input_flag_before_address": encode_settings(plain_settings())[:-1] + b"\2" + GLOBAL,
+                "bad_input_refused_settings": encode_settings(plain_settings(ttl=0)) + b"\x08",
+                "bad_input_reporting_cut": encode_settings(plain_settings(reporting=GLOBAL))[:-1]}.items()
+
+
+def no_calls_but_some(calls):
+    calls.receive()
+    calls.report()
+
+
+def scenario_bytes(seed, changes, scenario):
+    calls = Calls(random.Random(seed), plain_settings(**changes))
+    scenario(calls)
+    return bytes(calls.data)
+
+
+def program_inputs():
+    """Inputs of the program of document 01 that each show what their name says."""
+    own, peer, other, router = (bytes((10, 0, 0, last)) for last in (1, 2, 3, 9))
+    example = [(0, datagram(packet(link_local(source), link_local(own)), peer, own)) for source in (peer, other)]
+    start = encode_lists(Settings([(own, 0)], [], []))
+    yield "example", start + encode_datagrams(example)
+    yield "no_datagram", start + encode_datagrams([])
+    yield "other_interface", start + encode_datagrams([(1, example[0][1])])
+    yield "options", start + encode_datagrams([(0, datagram(packet(link_local(peer), link_local(own)), peer, own, bytes(8)))])
+    on_link = datagram(packet(isatap_address(PREFIXES[0], "02005efe", peer), GLOBAL), peer, own)
+    by_router = datagram(packet(GLOBAL, GLOBAL), router, own)
+    yield "prefix_and_router", encode_lists(Settings([(own, 0)], PREFIXES[:1], [router])) + encode_datagrams([(0, on_link), (0, by_router)])
+    yield "empty", b""
+    yield "trailing_byte", start + encode_datagrams(example) + b"\0"
+    yield "cut", (start + encode_datagrams(example))[:-1]
+    yield "fewer_datagrams", start + u16(3) + encode_datagrams(example)[2:]
+    yield "refused_settings", encode_lists(Settings([(own, 0)], [], [own])) + encode_datagrams(example)
+    for name, length in (("of_65536_bytes", 2), ("of_65537_bytes", 3)):
+        yield name, start + encode_datagrams([(0, bytes(65515)), (0, bytes(length))])
+
+
+BATCHES = range(1, 13)                                        # seeds
+
+
+def gate_inputs(batches=True):
+    """Name, program and bytes of all that tests/compare runs: the named set and the fixed batches."""
+    for name, data in named_inputs():
+        yield name, "replay", data
+    yield "longest", "replay", longest()
+    yield "bad_input_too_long", "replay", longest(REPLAY_LIMIT + 1)
+    for name, data in program_inputs():
+        yield "program_" + name, "program", data
+    for seed in BATCHES if batches else ():
+        yield f"batch_{seed}", "replay", generate(seed, 250)
+        yield f"bad_{seed}", "replay", bad(seed)
+        yield f"program_batch_{seed}", "program", program_input(seed)
+
+
+def expected(batches=True):
+    """Name, program, bytes and the model's lines of each."""
+    return [(name, kind, data, {"replay": replay, "program": program}[kind](data)) for name, kind, data in gate_inputs(batches)]
+
+
+# ---- Stored data
+
+STORED_LAST = ("long_ages", "times_near_the_end")             # they leave no time for others
+NOT_STORED = ("longest_packets", "longest_lifetime", "neighbours_65", "neighbours_64_reported_again")  # long, or shown by others
+
+
+def stored():
+    """One list of calls on one node with as much as a list can show; crates/replay/stdin."""
+    names = [name for name in NAMED if name not in STORED_LAST + NOT_STORED] + list(STORED_LAST)
+    changes = {"locators": EIGHT, "prefixes": PREFIXES, "routers": numbered(1, 16), "interval": 77, "ttl": 65, "identification": 65530,
+               "reporting": GLOBAL}
+    return scenario_bytes(11, changes, lambda calls: [scenario(calls) for scenario in (
+        each_router, each_locator, each_prefix, *[NAMED[name] for name in names])])
+
+
+def write_inputs(directory):
+    """NAME.replay or NAME.program, and its lines behind that name and `.lines`."""
+    directory = Path(directory)
+    directory.mkdir(parents=True, exist_ok=True)
+    for name, kind, data, lines in expected():
+        (directory / f"{name}.{kind}").write_bytes(data)
+        (directory / f"{name}.{kind}.lines").write_bytes(text(lines))

@@ -1,0 +1,138 @@
+"""The node: one tunnel end. Path sizes are the plain record: every accepted report, in order."""
+from .octets import LINK_LOCAL, checksum_right, dotted, forbidden, number, pseudo_header
+from .rules import gets_no_message, inner_length, inner_source_bad, need, outer_header, reported_candidate, smallest_lifetime
+from .rules import solicitation, too_big_message, wrapped
+
+
+class Node:
+    def __init__(self, settings):
+        settings.check()
+        self.settings = settings
+        self.latest = 0
+        self.record = []                                      # (neighbour, candidate, latest time)
+        self.routers = [(router, 0) for router in settings.routers]  # "At setup all are due at time 0"
+        self.identification = settings.identification
+
+    def raise_time(self, time):
+        """"an earlier one is read as the latest"."""
+        self.latest = max(self.latest, time)
+
+    def listed(self, address):
+        return address in [router for router, _ in self.routers]
+
+    def locator(self, index):
+        need(index < len(self.settings.locators), 11)
+        return self.settings.locators[index][0]
+
+    def size(self, neighbour):
+        """"under 600 s old and fewer than 64 other neighbours have had an accepted report since; otherwise L"."""
+        others = set()
+        for reporter, candidate, time in reversed(self.record):
+            if reporter == neighbour:
+                return candidate if self.latest - time < 600 and len(others) < 64 else self.settings.link
+            others.add(reporter)
+        return self.settings.link
+
+    def receive(self, interface, datagram):
+        """"Order 2 to 10"; where the inner packet starts, and its length."""
+        header, total = outer_header(datagram)
+        need(checksum_right(datagram[:header]), 3)
+        need(datagram[9] == 41, 4)
+        need(number(datagram[6:8]) & 0x3fff == 0, 5)
+        need((datagram[16:20], interface) in self.settings.locators, 6)
+        outer_source = datagram[12:16]
+        need(not forbidden(outer_source), 7)
+        length = inner_length(datagram[header:total])
+        source = datagram[header + 8:header + 24]
+        need(not inner_source_bad(source), 9)
+        embeds = self.settings.isatap(source) and source[12:] == outer_source
+        need(embeds or self.listed(outer_source), 10)
+        return f"deliver {header} {length}"
+
+    def send(self, index, time, next_hop, output, packet):
+        """"Order 8, 11, 12, 13, 14, 23, 15"; writes into `output`."""
+        self.raise_time(time)
+        need(inner_length(packet) == len(packet), 8)
+        source = self.locator(index)
+        need(self.settings.isatap(next_hop), 12)
+        end = next_hop[12:]
+        need(not forbidden(end) and not self.settings.own(end), 13)
+        path = self.size(end)
+        largest = max(1280, path - 20)
+        if len(packet) > largest:
+            return self.too_big(packet, largest, output)
+        need(20 + len(packet) <= 65535, 23)
+        need(20 + len(packet) <= len(output), 15)
+        whole = path - 20 > 1280
+        output[:20 + len(packet)] = wrapped(packet, self.identification, whole, self.settings.ttl, source, end)
+        self.identification = (self.identification + 1) % 65536
+        return f"wrapped {20 + len(packet)}"
+
+    def too_big(self, packet, largest, output):
+        """"Too little room for the message gives 15"."""
+        message = b"" if gets_no_message(packet) else too_big_message(self.settings.reporting, packet, largest)
+        need(len(message) <= len(output), 15)
+        output[:len(message)] = message
+        return f"too-big {largest} {len(message)}"
+
+    def report(self, time, message):
+        """"Order 16, 17, 18, 19"; an accepted report is "the new last entry" of the record."""
+        self.raise_time(time)
+        need(len(message) >= 28, 16)
+        need(checksum_right(message), 16)
+        need(message[:2] == b"\3\4", 16)
+        quoted = message[8:]
+        need(quoted[0] >> 4 == 4, 16)
+        need(20 <= 4 * (quoted[0] & 15), 16)
+        need(4 * (quoted[0] & 15) <= len(quoted), 16)
+        neighbour = quoted[16:20]
+        need(quoted[9] == 41, 17)
+        need(self.settings.own(quoted[12:16]), 17)
+        need(not forbidden(neighbour), 17)
+        need(not self.settings.own(neighbour), 17)
+        candidate = reported_candidate(message, quoted)
+        need(candidate >= 68, 18)
+        need(candidate < self.size(neighbour), 19)
+        self.record.append((neighbour, candidate, self.latest))
+        return f"accepted {dotted(neighbour)} {candidate}"
+
+    def replace_routers(self, time, routers):
+        """"a router in both lists keeps its due time, a new one is due now"."""
+        self.raise_time(time)
+        self.settings.check_routers(routers)
+        due = dict(self.routers)
+        self.routers = [(router, due.get(router, self.latest)) for router in routers]
+        return f"accepted {len(routers)}"
+
+    def set_due(self, router, time):
+        self.routers = [(other, time if other == router else due) for other, due in self.routers]
+
+    def ask(self, index, time, output):
+        """"Order 11, 22, 15: the router with the earliest due time that is not in the future, lowest place on a tie"."""
+        self.raise_time(time)
+        source = self.locator(index)
+        router, due = min(self.routers, key=lambda entry: entry[1], default=(None, None))
+        need(router is not None and due <= self.latest, 22)
+        need(len(output) >= 48, 15)
+        output[:48] = solicitation(source, router)
+        self.set_due(router, self.latest + self.settings.interval)
+        return dotted(router)
+
+    def advertisement(self, time, packet):
+        """"order 8 as in receiving, 20, 21"; the router's next due time follows from the smallest lifetime."""
+        self.raise_time(time)
+        packet = packet[:inner_length(packet)]
+        source, message = packet[8:24], packet[40:]
+        need(packet[6] == 58, 20)
+        need(packet[7] == 255, 20)
+        need(source[:8] == LINK_LOCAL, 20)
+        need(checksum_right(pseudo_header(source, packet[24:40], len(message)) + message), 20)
+        need(len(message) >= 16, 20)
+        need(message[0] == 134, 20)
+        need(message[1] == 0, 20)
+        smallest = smallest_lifetime(message)
+        router = source[12:]
+        need(self.settings.isatap(source) and self.listed(router), 21)
+        wait = 3600 if smallest is None else max(self.settings.interval, smallest // 2)
+        self.set_due(router, self.latest + wait)
+        return dotted(router)

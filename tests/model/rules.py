@@ -1,0 +1,139 @@
+"""Settings, what a packet must be, and how one is written; no state."""
+from .octets import LINK_LOCAL, LOOPBACK, UNSPECIFIED, checksum_field, forbidden, link_local, number, pseudo_header, u16, u32
+
+PLATEAUS = (65535, 32000, 17914, 8166, 4352, 2002, 1492, 1006, 508, 296, 68)
+
+
+class Refused(Exception):
+    """A call was given one of the "Numbers given back"."""
+
+    def __init__(self, number):
+        super().__init__(number)
+        self.number = number
+
+
+def need(holds, number):
+    if not holds:
+        raise Refused(number)
+
+
+class Settings:
+    """Locators are pairs (address, interface). Defaults as document 01 states them."""
+
+    def __init__(self, locators, prefixes, routers, link=1500, ttl=64, interval=120, identification=1, reporting=None):
+        self.locators, self.prefixes, self.routers = locators, prefixes, routers
+        self.link, self.ttl, self.interval = link, ttl, interval
+        self.identification, self.reporting = identification, reporting
+
+    def own(self, address):
+        """A locator address, whatever its interface."""
+        return address in [locator for locator, _ in self.locators]
+
+    def check(self):
+        """The rules under "Settings"; 1 where they are broken."""
+        need(1 <= len(self.locators) <= 8, 1)
+        need(len(set(self.locators)) == len(self.locators), 1)
+        need(not any(forbidden(locator) for locator, _ in self.locators), 1)
+        need(len(self.prefixes) <= 8, 1)
+        self.check_routers(self.routers)
+        need(576 <= self.link <= 9216, 1)
+        need(1 <= self.ttl <= 255, 1)
+        need(1 <= self.interval <= 3600, 1)
+        if self.reporting is None:
+            self.reporting = link_local(self.locators[0][0])
+        need(self.reporting[0] != 0xff, 1)
+        need(self.reporting != UNSPECIFIED, 1)
+
+    def check_routers(self, routers):
+        """"Routers 0 to 16, distinct"; none forbidden, none a locator address."""
+        need(len(routers) <= 16, 1)
+        need(len(set(routers)) == len(routers), 1)
+        need(not any(forbidden(router) for router in routers), 1)
+        need(not any(self.own(router) for router in routers), 1)
+
+    def on_link(self, prefix):
+        return prefix == LINK_LOCAL or prefix in self.prefixes
+
+    def isatap(self, address):
+        """"an on-link prefix, then 00 or 02, 00, 5E, FE, then the IPv4 address"."""
+        return self.on_link(address[:8]) and address[8] in (0, 2) and address[9:12] == b"\0\x5e\xfe"
+
+
+def outer_header(datagram):
+    """The header length and the total length; 2 if malformed."""
+    need(len(datagram) >= 20, 2)
+    need(datagram[0] >> 4 == 4, 2)
+    header, total = 4 * (datagram[0] & 15), number(datagram[2:4])
+    need(20 <= header, 2)
+    need(header <= len(datagram), 2)
+    need(header <= total, 2)
+    need(total <= len(datagram), 2)
+    return header, total
+
+
+def inner_length(packet):
+    """40 + payload length; 8 if malformed as in receiving."""
+    need(len(packet) >= 40, 8)
+    need(packet[0] >> 4 == 6, 8)
+    length = 40 + number(packet[4:6])
+    need(length <= len(packet), 8)
+    return length
+
+
+def inner_source_bad(source):
+    """"ff00::/8, `::`, `::1`, or 96 zero bits followed by a forbidden IPv4 address"."""
+    if source[0] == 0xff or source in (UNSPECIFIED, LOOPBACK):
+        return True
+    return source[:12] == bytes(12) and forbidden(source[12:])
+
+
+def gets_no_message(packet):
+    """"source is multicast or `::`, or its first next header is 58 with payload and the type is below 128 or is 137"."""
+    source, payload = packet[8:24], packet[40:]
+    if source[0] == 0xff or source == UNSPECIFIED:
+        return True
+    return packet[6] == 58 and len(payload) > 0 and (payload[0] < 128 or payload[0] == 137)
+
+
+def icmpv6_packet(source, destination, hop_limit, message):
+    """Traffic class and flow label 0; `message` has its checksum field 0."""
+    check = checksum_field(pseudo_header(source, destination, len(message)) + message)
+    message = message[:2] + check + message[4:]
+    return b"\x60\0\0\0" + u16(len(message)) + bytes([58, hop_limit]) + source + destination + message
+
+
+def too_big_message(reporting, packet, size):
+    """"reporting address to the packet's source, hop limit 64, type 2, code 0, M, then the first min(n, 1,232) bytes"."""
+    return icmpv6_packet(reporting, packet[8:24], 64, bytes([2, 0, 0, 0]) + u32(size) + packet[:1232])
+
+
+def solicitation(source, router):
+    """"our link-local address to the router's, hop limit 255, type 133, code 0, no options"."""
+    return icmpv6_packet(link_local(source), link_local(router), 255, bytes([133, 0, 0, 0]) + bytes(4))
+
+
+def wrapped(packet, identification, keep_whole, ttl, source, destination):
+    """The 20-byte outer header and the packet."""
+    start = b"\x45\0" + u16(20 + len(packet)) + u16(identification) + (b"\x40\0" if keep_whole else b"\0\0")
+    start, end = start + bytes([ttl, 41]), source + destination
+    return start + checksum_field(start + b"\0\0" + end) + end + packet
+
+
+def smallest_lifetime(message):
+    """Walks the options of an advertisement; None if no lifetime counts, 20 if they do not end exactly."""
+    lifetimes, options = [number(message[6:8])], message[16:]
+    while options:
+        need(len(options) >= 2, 20)
+        kind, length = options[0], options[1]
+        need(length > 0, 20)
+        need(8 * length <= len(options), 20)
+        if (kind == 3 and length == 4) or (kind == 24 and 1 <= length <= 3):
+            lifetimes.append(number(options[4:8]))
+        options = options[8 * length:]
+    return min((life for life in lifetimes if life not in (0, 0xffffffff)), default=None)
+
+
+def reported_candidate(message, quoted):
+    """"bytes 6 and 7; if 0, the largest plateau below the quoted total length"; 0 if there is none."""
+    below = [plateau for plateau in PLATEAUS if plateau < number(quoted[2:4])]
+    return number(message[6:8]) or max(below, default=0)

@@ -1,0 +1,462 @@
+"""Runs of calls that each show one rule; the answers are worked out here, beside the model."""
+from .builders import option, packet, prefix_option, route_option
+from .calls import ISATAP_IDENTIFIERS, LAST_SECOND
+from .faults import FORBIDDEN, GLOBAL, PLATEAU_BELOW
+from .octets import LINK_LOCAL, LOOPBACK, UNSPECIFIED, dotted, isatap_address, link_local, number, pseudo_header, u16
+from .rules import Settings, solicitation, too_big_message, wrapped
+
+PREFIXES = [bytes.fromhex(text) for text in ("20010db800000001", "20010db800000002", "2002c00002010000", "fec0000000000000",
+                                             "fe80000000000000", "ff02000000000000", "0000000000000000", "fe80000000000100")]
+
+
+def plain_settings(**changes):
+    fields = {"locators": [(bytes((10, 0, 0, 1)), 0), (bytes((192, 0, 2, 7)), 3)], "prefixes": PREFIXES[:2],
+              "routers": [bytes((198, 51, 100, 1)), bytes((198, 51, 100, 2)), bytes((198, 51, 100, 3))]}
+    return Settings(**dict(fields, **changes))
+
+
+REFUSED_AT_ONCE = [("report", (b"",), "refuse 16"), ("send", (bytes(16), 3, b""), "refuse 8"), ("ask", (60,), "refuse 11"),
+                   ("routers", ([bytes(4)],), "refuse 1"), ("advertisement", (bytes(39),), "refuse 8")]
+
+
+def raise_time(calls, time, way=None):
+    """Any call with a time raises the latest time, also a refused one."""
+    name, rest, want = way or calls.random.choice(REFUSED_AT_ONCE)
+    number = (255,) if name in ("send", "ask") else ()
+    calls.call(name, *number, time, *rest, want=want)
+
+
+def size_is(calls, neighbour, size):
+    calls.call("size", neighbour, want=str(size))
+
+
+def query_all(calls):
+    """The size toward every neighbour of the last reports."""
+    for neighbour in dict.fromkeys(neighbour for neighbour, _, _ in calls.node.record[-140:]):
+        calls.call("size", neighbour)
+    size_is(calls, calls.settings.locators[0][0], calls.settings.link)
+    size_is(calls, bytes(4), calls.settings.link)
+
+
+def path_sizes(calls, sizes=None):
+    """n at M and M + 1 for sizes about the smallest IPv6 size; 1,280 and 1,281 for small ones."""
+    link = calls.settings.link
+    for size in sizes or calls.random.sample((68, 600, 1280, 1299, 1300, 1301, 1302, link), 3):
+        neighbour = calls.fresh()
+        if size < link:
+            calls.report(neighbour=neighbour, candidate=size)
+        largest = max(1280, min(size, link) - 20)
+        calls.send(n=largest, end=neighbour)
+        calls.send(n=largest + 1, end=neighbour)
+
+
+def ageing(calls):
+    """In force at 599 s, gone at 600 s; an equal report renews nothing, a lower one does."""
+    neighbour, start, size = calls.fresh(), calls.node.latest, calls.random.randint(70, 575)
+    calls.report(neighbour=neighbour, candidate=size, time=start)
+    raise_time(calls, start + 598)
+    calls.report([(19, {"candidate": size})], neighbour=neighbour, time=start + 599)
+    size_is(calls, neighbour, size)
+    if calls.random.random() < 0.5:
+        calls.report(neighbour=neighbour, candidate=size - 1, time=start + 599)
+        start, size = start + 599, size - 1
+        raise_time(calls, start + 599)
+        size_is(calls, neighbour, size)
+    raise_time(calls, start + 600)
+    size_is(calls, neighbour, calls.settings.link)
+    calls.report(neighbour=neighbour, candidate=size + 1)
+
+
+def plateaus(calls):
+    """Candidate 0 toward a neighbour without a report, for quoted lengths at and just above each plateau."""
+    for total in PLATEAU_BELOW:
+        calls.report(variation={"candidate": 0, "total": total}, neighbour=calls.fresh())
+
+
+def refused_calls():
+    """Each number that a call with a time can be brought to give, as a call at a given time; 14 among them."""
+    def asked(want, index=0, room=48):
+        return lambda calls, time: calls.call("ask", index, time, room, want=want)
+    for number, changes in ((8, {"version6": 4}), (11, {"index": 255}), (12, {"next_hop": GLOBAL}), (13, {"next_hop": link_local(FORBIDDEN[1])}),
+                            (14, {"more": 1}), (15, {"short": 1})):
+        yield lambda calls, time, fault=(number, changes): calls.send([fault], time=time)
+    for number, changes in ((16, {"spoil": 1}), (17, {"protocol": 4}), (18, {"candidate": 67}), (19, {"candidate": 65535})):
+        yield lambda calls, time, fault=(number, changes): calls.report([fault], neighbour=calls.fresh(), time=time)
+    yield lambda calls, time: calls.call("routers", time, [bytes(4)], want="refuse 1")
+    yield asked("refuse 11", index=255)
+    yield asked("refuse 15", room=47)
+    yield lambda calls, time: [calls.call("routers", 0, []), asked("refuse 22")(calls, time)]
+    for number, changes in ((8, {"version6": 4}), (20, {"hop_limit": 254})):
+        yield lambda calls, time, fault=(number, changes): calls.advertisement([fault], time=time)
+    yield lambda calls, time: calls.advertisement([(21, {"source6": link_local(calls.fresh())})], time=time)
+
+
+def times_raised_by_refused_calls(calls):
+    """A size is in force in its last second and gone in the next, whichever call comes then and whatever number it is given."""
+    for refused in refused_calls():
+        neighbour, start = calls.fresh(), calls.node.latest
+        calls.report(neighbour=neighbour, candidate=500, time=start)
+        refused(calls, start + 599)
+        size_is(calls, neighbour, 500)
+        refused(calls, start + 600)
+        size_is(calls, neighbour, calls.settings.link)
+
+
+def long_ages(calls):
+    """Ages are reckoned in full: 65,536 s and more are no small age."""
+    for later in (65536, 65536 + 599, 3 * 65536 + 1, 256 * 60, 1 << 24, 1 << 31):
+        neighbour, start = calls.fresh(), calls.node.latest
+        calls.report(neighbour=neighbour, candidate=500, time=start)
+        raise_time(calls, start + later)
+        size_is(calls, neighbour, calls.settings.link)
+
+
+def refused_sizes(calls):
+    """A report refused with 19 changes nothing: not the size, not its age, not which neighbour was the last one."""
+    for larger in (600, 500, 9216, 65535, calls.settings.link):
+        neighbour, start = calls.fresh(), calls.node.latest
+        calls.report(neighbour=neighbour, candidate=500, time=start)
+        calls.report([(19, {"candidate": larger})], neighbour=neighbour, time=start + 599)
+        size_is(calls, neighbour, 500)
+        raise_time(calls, start + 600)
+        size_is(calls, neighbour, calls.settings.link)
+    first, others = calls.fresh(), [calls.fresh() for _ in range(64)]
+    calls.report(neighbour=first, candidate=500)
+    for other in others[:63]:
+        calls.report(neighbour=other, candidate=501)
+    for larger in (500, 600, 65535):
+        calls.report([(19, {"candidate": larger})], neighbour=first)
+    size_is(calls, first, 500)
+    calls.report(neighbour=others[63], candidate=501)
+    size_is(calls, first, calls.settings.link)
+    query_all(calls)
+
+
+def near_neighbours(calls):
+    """Neighbours that differ in one bit have sizes of their own."""
+    neighbour, near = bytes((192, 88, 99, 64)), [bytes(parts) for parts in ((192, 88, 99, 65), (192, 88, 98, 64), (192, 89, 99, 64), (193, 88, 99, 64))]
+    calls.report(neighbour=neighbour, candidate=500)
+    for place, other in enumerate(near):
+        size_is(calls, other, calls.settings.link)
+        calls.report(neighbour=other, candidate=510 + place)
+    for place, other in enumerate(near):
+        size_is(calls, other, 510 + place)
+    size_is(calls, neighbour, 500)
+
+
+def times_going_back(calls):
+    """A report with an earlier time is as old as the latest time says."""
+    neighbour, start = calls.fresh(), calls.node.latest + 1000
+    raise_time(calls, start)
+    calls.report(neighbour=neighbour, candidate=500, time=start - 900)
+    size_is(calls, neighbour, 500)
+    raise_time(calls, start + 599)
+    raise_time(calls, start - 1)
+    size_is(calls, neighbour, 500)
+    raise_time(calls, start + 600)
+    size_is(calls, neighbour, calls.settings.link)
+
+
+def neighbours(calls, count=None, again=None):
+    """"the 63rd other neighbour leaves a size, the 64th removes it"; a repeated or refused report counts no more."""
+    count = count or calls.random.choice((62, 63, 64, 65))
+    again = calls.random.random() < 0.5 if again is None else again
+    first, now, others = calls.fresh(), calls.node.latest, []
+    calls.report(neighbour=first, candidate=500, time=now)
+    while len(others) < count:
+        others.append(calls.fresh())
+        calls.report(neighbour=others[-1], candidate=570, time=now)
+        if again and calls.random.random() < 0.4:
+            calls.report([(19, {"candidate": 9216})], neighbour=calls.fresh(), time=now)
+            other = calls.random.choice(others)
+            if calls.node.size(other) < 571 and calls.node.size(other) > 68:
+                calls.report(neighbour=other, time=now)
+    size_is(calls, first, 500 if count < 64 else calls.settings.link)
+    query_all(calls)
+
+
+def neighbours_moved(calls):
+    """A new report makes a neighbour the last one: the next new neighbour removes another."""
+    now, all_of_them = calls.node.latest, []
+    for _ in range(64):
+        all_of_them.append(calls.fresh())
+        calls.report(neighbour=all_of_them[-1], candidate=500, time=now)
+    calls.report(neighbour=all_of_them[-1], candidate=490, time=now)
+    size_is(calls, all_of_them[0], 500)                       # the 64 are as before
+    calls.report(neighbour=all_of_them[0], candidate=499, time=now)
+    calls.report(neighbour=calls.fresh(), candidate=498, time=now)
+    size_is(calls, all_of_them[0], 499)
+    size_is(calls, all_of_them[1], calls.settings.link)
+    size_is(calls, all_of_them[2], 500)
+    calls.report(neighbour=all_of_them[1], candidate=510, time=now)
+    query_all(calls)
+
+
+def ask(calls, time=None, room=None, want="", index=None):
+    index = calls.random.randrange(len(calls.settings.locators)) if index is None else index
+    room = calls.random.choice((48, 48, 49, 100)) if room is None else room
+    return calls.call("ask", index, calls.node.latest if time is None else time, room, want=want)
+
+
+def asking(calls):
+    """Asks until none is due; then just before and exactly at the earliest due time; rooms 47 and 48."""
+    calls.listed_router()
+    while min(due for _, due in calls.node.routers) <= calls.node.latest:
+        ask(calls, room=calls.random.choice((0, 47)), want="refuse 15")
+        ask(calls, want=dotted(min(calls.node.routers, key=lambda entry: entry[1])[0]))
+    due = min(due for _, due in calls.node.routers)
+    ask(calls, room=47, want="refuse 22")
+    calls.call("ask", len(calls.settings.locators), calls.node.latest, 0, want="refuse 11")
+    if due <= LAST_SECOND:
+        ask(calls, time=due - 1, want="refuse 22")
+        ask(calls, time=due, room=47, want="refuse 15")
+        ask(calls, time=calls.random.choice((due, 0)), room=48)
+    if calls.node.latest < LAST_SECOND - 2 * calls.settings.interval:
+        calls.call("routers", calls.node.latest, [calls.fresh()], want="accepted 1")
+        ask(calls, time=max(0, calls.node.latest - calls.settings.interval))  # due from the latest time on, not from an earlier one
+        ask(calls, time=calls.node.latest + calls.settings.interval - 1, want="refuse 22")
+
+
+def ask_when_due(calls, router, due):
+    """Shows the due time of the only router: none due the second before, asked in that second."""
+    if due > LAST_SECOND:
+        ask(calls, time=LAST_SECOND, want="refuse 22")
+        return
+    if due > calls.node.latest:
+        ask(calls, time=due - 1, want="refuse 22")
+    ask(calls, time=due, want=dotted(router))
+
+
+def waits(interval):
+    """Router lifetime, options and the wait after them, by hand from "Routers"."""
+    longer, many = 2 * interval + 3, 0xffffffff
+    return [(0, [], 3600), (1, [], interval), (2 * interval, [], interval), (2 * interval + 1, [], interval),
+            (2 * interval + 2, [], interval + 1), (65535, [], max(interval, 32767)), (0, [prefix_option(4, many)], 3600),
+            (0, [prefix_option(4, 0), route_option(1, 0), route_option(3, many)], 3600),
+            (0, [prefix_option(4, longer)], interval + 1), (7300, [route_option(1, longer)], min(max(3650, interval), interval + 1)),
+            (0, [route_option(2, longer + 1)], interval + 2), (0, [route_option(3, longer + 2)], interval + 2),
+            (0, [route_option(4, longer)], 3600), (0, [prefix_option(5, longer)], 3600), (0, [prefix_option(3, longer)], 3600),
+            (0, [option(1, 1, 2), option(25, 3, 2), option(4, 4, 2), route_option(1, 20000)], 10000),
+            (0, [route_option(1, 20000), option(23, 2, 2), option(2, 4, 2)], 10000), (0, [prefix_option(4, 300001)], 150000),
+            (9000, [prefix_option(4, 20000), route_option(1, 20000)], 4500), (0, [route_option(2, 20001), prefix_option(4, 20003)], 10000)]
+
+
+def advertised_due_time(calls, cases=None):
+    router = calls.fresh()
+    calls.call("routers", calls.time(), [router], want="accepted 1")
+    for lifetime, options, wait in cases or [calls.random.choice(waits(calls.settings.interval))]:
+        calls.advertisement(router=router, options=options, lifetime=lifetime)
+        ask_when_due(calls, router, calls.node.latest + wait)
+
+
+def longest_lifetime(calls):
+    """0xfffffffe counts: due half of it later, to the second."""
+    router, start = calls.fresh(), calls.node.latest
+    calls.call("routers", start, [router], want="accepted 1")
+    calls.advertisement(router=router, lifetime=0, options=[prefix_option(4, 0xfffffffe), route_option(2, 0xffffffff)])
+    ask_when_due(calls, router, calls.node.latest + 0x7fffffff)
+    ask_when_due(calls, router, calls.node.latest + calls.settings.interval)
+
+
+def each_prefix(calls):
+    """Every prefix of the settings, and fe80::/64, is on link for the inner source and for the next hop."""
+    for prefix in calls.settings.prefixes + [LINK_LOCAL]:
+        for identifier in ISATAP_IDENTIFIERS:
+            source = {"source6": lambda calls, f: isatap_address(prefix, identifier, f["source"])}
+            calls.receive([(9, source)] if prefix[0] == 255 else (), source)
+            calls.send(next_hop=isatap_address(prefix, identifier, calls.fresh()))
+        near = prefix[:7] + bytes([prefix[7] ^ 0x80])         # one that is not on link
+        if prefix[0] != 255:
+            calls.receive([(10, {"source6": lambda calls, f: isatap_address(near, "00005efe", f["source"])})])
+        calls.send([(12, {"next_hop": isatap_address(near, "00005efe", calls.fresh())})])
+
+
+def each_locator(calls):
+    """Every locator with every interface: only its own pairs are matched; every locator sends and is quoted."""
+    for place, (address, _) in enumerate(calls.settings.locators):
+        for interface in sorted({interface for _, interface in calls.settings.locators}):
+            ours = (address, interface) in calls.settings.locators
+            calls.receive(() if ours else [(6, {"destination": address, "interface": interface})],
+                          {"destination": address, "interface": interface})
+        calls.send([(0, {"index": place})], n=40)
+        calls.send([(13, {"index": 0, "next_hop": link_local(address)})])
+        calls.report(variation={"source": address}, neighbour=calls.fresh())
+        calls.report([(17, {"neighbour": address})])
+
+
+def each_router(calls):
+    """Every router of the list delivers and advertises, due or not; those that did not advertise keep their due times."""
+    routers = [router for router, _ in calls.node.routers]
+    for router in routers:
+        calls.receive(variation={"source": router, "source6": GLOBAL})
+        calls.receive([(9, {"source": router, "source6": LOOPBACK})])
+    for router in routers:
+        ask(calls, want=dotted(router))
+        calls.receive(variation={"source": router, "source6": GLOBAL})
+        calls.advertisement(router=router, lifetime=9000, options=[])
+    ask(calls, want="refuse 22")
+
+
+def advertised_alone(calls):
+    """An advertisement moves its own router; a due time that is the same for all is served by place."""
+    first, second, third = (calls.fresh() for _ in range(3))
+    calls.call("routers", calls.node.latest, [first, second, third], want="accepted 3")
+    calls.advertisement(router=second, lifetime=1, options=[], time=0)
+    ask(calls, want=dotted(first))
+    calls.advertisement(router=third, lifetime=1, options=[], time=0)
+    ask(calls, want="refuse 22")
+    for router in (first, second, third):
+        ask(calls, time=calls.node.latest + (calls.settings.interval if router == first else 0), want=dotted(router))
+
+
+def identifications(calls):
+    """Only a wrapped packet uses an identification: not a refusal, a Too Big, an asking, a report."""
+    for number, changes in ((8, {"version6": 4}), (11, {"index": 255}), (12, {"next_hop": GLOBAL}), (13, {"next_hop": link_local(FORBIDDEN[1])}),
+                            (14, {"more": 1}), (14, {"more": 1, "message": False, "source6": UNSPECIFIED}), (15, {"short": 1})):
+        calls.send(n=40)
+        calls.send([(number, changes)])
+    ask(calls)
+    calls.send(n=40)
+    calls.report()
+    calls.advertisement()
+    calls.receive()
+    calls.send(n=40)
+
+
+def earlier_times(calls):
+    """A call with an earlier time, answered or refused, does not take the latest time back."""
+    calls.call("routers", calls.node.latest, [calls.fresh()], want="accepted 1")
+    router = calls.node.routers[0][0]
+    for way in (lambda time: calls.send(n=40, time=time), lambda time: calls.send([(14, {"more": 1})], time=time),
+                lambda time: calls.report(neighbour=calls.fresh(), time=time), lambda time: ask(calls, time=time, want=dotted(router)),
+                lambda time: calls.call("routers", time, [router], want="accepted 1"),
+                lambda time: calls.advertisement(router=router, lifetime=0, options=[], time=time),
+                *[lambda time, refused=refused: refused(calls, time) for refused in list(refused_calls())[:13]]):
+        neighbour, start = calls.fresh(), calls.node.latest
+        calls.report(neighbour=neighbour, candidate=500, time=start)
+        raise_time(calls, start + 600)
+        way(start + 1)
+        size_is(calls, neighbour, calls.settings.link)
+
+
+def longest_packets(calls):
+    """Packets too long to be wrapped by any path size: 14 and never 23."""
+    for n in (65515, 65516, 65535):
+        data = packet(GLOBAL, GLOBAL, bytes(n - 40))
+        largest = max(1280, calls.settings.link - 20)
+        calls.call("send", 0, 0, link_local(calls.fresh()), 1300, data, want=f"too-big {largest} 1280")
+
+
+def second_carries(calls):
+    """Sums whose first carry gives another, in each thing we write."""
+    def word(data, field):
+        """The word that makes the sum of `data`, which has 0 in its place and in that of the checksum, two carries long."""
+        total = sum(number(data[place:place + 2]) for place in range(0, len(data), 2)) - number(field)
+        return u16(next(more for more in range(65536) if (total + more & 0xffff) + (total + more >> 16) == 0x10000))
+    node, settings, own = calls.node, calls.settings, calls.settings.locators[0][0]
+    start, data = bytes((223, 255)), packet(GLOBAL, GLOBAL)
+    header = wrapped(data, node.identification, settings.link > 1300, settings.ttl, own, start + b"\0\0")[:20]
+    calls.call("send", 0, 0, link_local(start + word(header, header[10:12])), 60, data, want="wrapped 60")
+    largest = max(1280, settings.link - 20)
+    data = packet(GLOBAL, GLOBAL, bytes(largest - 39))
+    message = too_big_message(settings.reporting, data, largest)
+    data = data[:1230] + word(pseudo_header(message[8:24], message[24:40], 1240) + message[40:], message[42:44]) + data[1232:]
+    calls.call("send", 0, 0, link_local(calls.fresh()), 1280, data, want=f"too-big {largest} 1280")
+    message = solicitation(own, start + b"\0\0")
+    calls.call("routers", 0, [start + word(pseudo_header(message[8:24], message[24:40], 8) + message[40:], message[42:44])])
+    ask(calls, index=0)
+
+
+def advertised_earlier(calls):
+    """An accepted advertisement may also make a due time earlier."""
+    router = calls.fresh()
+    calls.call("routers", calls.time(), [router], want="accepted 1")
+    calls.advertisement(router=router, lifetime=65535, options=[])
+    calls.advertisement(router=router, lifetime=1, options=[])
+    ask_when_due(calls, router, calls.node.latest + calls.settings.interval)
+
+
+def router_lists(calls):
+    """Kept routers keep their due times, new ones are due now; refused lists change nothing."""
+    kept, new = [calls.fresh() for _ in range(3)], [calls.fresh() for _ in range(2)]
+    now = calls.node.latest
+    calls.call("routers", now, [], want="accepted 0")
+    ask(calls, want="refuse 22")
+    calls.call("routers", now + 5, kept, want="accepted 3")
+    ask(calls, want=dotted(kept[0]))
+    ask(calls, want=dotted(kept[1]))
+    calls.call("routers", now + 9, [new[0], kept[1], kept[2], kept[0], new[1]], want="accepted 5")
+    own = calls.random.choice(calls.settings.locators)[0]
+    seventeen = [calls.fresh() for _ in range(17)]
+    for refused in ([calls.random.choice(FORBIDDEN)], [kept[0], new[0], kept[0]], [kept[2], own], seventeen):
+        calls.call("routers", calls.time(), refused, want="refuse 1")
+    calls.call("receive", 0, b"", want="refuse 2")
+    for router in (kept[2], new[0], new[1]):
+        ask(calls, want=dotted(router) if calls.settings.interval > 30 else "")
+    ask(calls)
+    first, second = calls.fresh(), calls.fresh()
+    calls.call("routers", now + 20, [first], want="accepted 1")
+    calls.call("routers", now + 3, [first, second], want="accepted 2")
+    ask(calls, want=dotted(first))
+    calls.call("routers", 0, [first], want="accepted 1")
+    calls.call("routers", 0, [], want="accepted 0")
+    calls.call("routers", 0, [second], want="accepted 1")
+    calls.call("routers", 0, [first, second], want="accepted 2")  # both due now: the lowest place of the new list
+    ask(calls, want=dotted(first))
+    calls.call("routers", now, list(dict.fromkeys([kept[2]] + [calls.fresh() for _ in range(15)])), want="accepted 16")
+
+
+def dropped_router(calls):
+    """A router of an earlier list admits nothing and advertises nothing."""
+    router = calls.fresh()
+    calls.call("routers", calls.time(), [router], want="accepted 1")
+    by_router = {"source": router, "source6": GLOBAL}
+    calls.receive(variation=by_router)
+    calls.call("routers", calls.time(), [], want="accepted 0")
+    calls.receive([(10, by_router)])
+    calls.advertisement([(21, {})], router=router)
+
+
+def times_near_the_end(calls):
+    """Due times past the last second are exact: never due, and they do not wrap."""
+    router, neighbour = calls.fresh(), calls.fresh()
+    start = max(calls.node.latest, LAST_SECOND - calls.settings.interval - 700)
+    calls.call("routers", start, [router], want="accepted 1")
+    calls.report(neighbour=neighbour, candidate=100, time=start)
+    raise_time(calls, min(start + 599, LAST_SECOND))
+    calls.call("size", neighbour)
+    calls.send(end=neighbour, time=min(start + 600, LAST_SECOND))
+    ask(calls, time=max(calls.node.latest, LAST_SECOND - calls.settings.interval), want=dotted(router))
+    if calls.node.latest + calls.settings.interval == LAST_SECOND:
+        ask(calls, time=LAST_SECOND - 1, want="refuse 22")
+        ask(calls, time=LAST_SECOND, want=dotted(router))
+    ask(calls, time=LAST_SECOND, want="refuse 22")
+    calls.advertisement(router=router, lifetime=0, options=[])
+    second = calls.fresh()
+    calls.call("routers", 0, [router, second], want="accepted 2")
+    ask(calls, want=dotted(second))
+    ask(calls, want="refuse 22")
+    calls.advertisement(router=router, lifetime=0, options=[prefix_option(4, 0xfffffffe)])
+    ask(calls, want="refuse 22")
+    calls.report(time=LAST_SECOND)
+    query_all(calls)
+
+
+def zero_checksums(calls):
+    """Checksums that come out as 0 in each thing we write: a word that occurs once is set to the checksum without it."""
+    node, settings, own = calls.node, calls.settings, calls.settings.locators[0][0]
+    start, data = calls.fresh()[:2], packet(GLOBAL, GLOBAL)
+    header = wrapped(data, node.identification, settings.link > 1300, settings.ttl, own, start + b"\0\0")
+    calls.call("send", 0, 0, link_local(start + header[10:12]), 60, data)
+    largest = max(1280, settings.link - 20)
+    data = packet(GLOBAL, GLOBAL, bytes(largest - 39))
+    message = too_big_message(settings.reporting, data, largest)
+    data = data[:1230] + message[42:44] + data[1232:]
+    calls.call("send", 0, 0, link_local(calls.fresh()), 1280, data, want=f"too-big {largest} 1280")
+    message = solicitation(own, start + b"\0\0")
+    calls.call("routers", 0, [start + message[42:44]])
+    ask(calls, index=0)
+
+
+SCENARIOS = [path_sizes, plateaus, zero_checksums, ageing, times_going_back, asking, advertised_due_time, advertised_earlier,
+             router_lists, dropped_router]

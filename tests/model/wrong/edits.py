@@ -1,0 +1,17 @@
+"""The list of wrong models: each is the model with one edit of its text, named by what it does wrong."""
+WRONG = {}                                                    # name: (module, old text, new text)
+
+# Texts of `formats` that more than one edit changes
+CALL = "str(getattr(node, {\"routers\": \"replace_routers\"}.get(name, name))(*arguments))"
+ANSWERED = f"    try:\n        line = {CALL}\n    except Refused as refused:\n        line = f\"refuse {{refused.number}}\"\n"
+
+
+def wrong(module, name, old, new):
+    if name in WRONG:
+        raise AssertionError(f"{name} stands twice")
+    WRONG[name] = module, old, new
+
+
+def swapped(name, first, second):
+    """Two lines of a call in the other order."""
+    wrong("node", name, f"        {first}\n        {second}\n", f"        {second}\n        {first}\n")

@@ -1,0 +1,57 @@
+"""Numbers given in another order."""
+from .edits import swapped, wrong
+
+wrong("node", "order of receiving: 3 before 2", "        header, total = outer_header(datagram)\n",
+      "        need(len(datagram) < 20 or checksum_right(datagram[:4 * (datagram[0] & 15)]), 3)\n        header, total = outer_header(datagram)\n")
+swapped("order of receiving: 4 before 3", "need(checksum_right(datagram[:header]), 3)", "need(datagram[9] == 41, 4)")
+swapped("order of receiving: 5 before 4", "need(datagram[9] == 41, 4)", "need(number(datagram[6:8]) & 0x3fff == 0, 5)")
+swapped("order of receiving: 6 before 5", "need(number(datagram[6:8]) & 0x3fff == 0, 5)",
+        "need((datagram[16:20], interface) in self.settings.locators, 6)")
+wrong("node", "order of receiving: 7 before 6", "        need((datagram[16:20], interface) in self.settings.locators, 6)\n",
+      "        need(not forbidden(datagram[12:16]), 7)\n        need((datagram[16:20], interface) in self.settings.locators, 6)\n")
+swapped("order of receiving: 8 before 7", "need(not forbidden(outer_source), 7)", "length = inner_length(datagram[header:total])")
+wrong("node", "order of receiving: 9 before 8", "        length = inner_length(datagram[header:total])\n",
+      "        need(total - header < 40 or not inner_source_bad(datagram[header + 8:header + 24]), 9)\n"
+      "        length = inner_length(datagram[header:total])\n")
+wrong("node", "order of receiving: 10 before 9", "        need(not inner_source_bad(source), 9)\n",
+      "        need(self.settings.isatap(source) and source[12:] == outer_source or self.listed(outer_source), 10)\n"
+      "        need(not inner_source_bad(source), 9)\n")
+wrong("node", "order of sending: 11 before 8", "        need(inner_length(packet) == len(packet), 8)\n",
+      "        self.locator(index)\n        need(inner_length(packet) == len(packet), 8)\n")
+swapped("order of sending: 12 before 11", "source = self.locator(index)", "need(self.settings.isatap(next_hop), 12)")
+wrong("node", "order of sending: 13 before 12", "        need(self.settings.isatap(next_hop), 12)\n",
+      "        need(not forbidden(next_hop[12:]) and not self.settings.own(next_hop[12:]), 13)\n        need(self.settings.isatap(next_hop), 12)\n")
+wrong("node", "order of sending: 14 before 13", "        need(not forbidden(end) and not self.settings.own(end), 13)\n",
+      "        if len(packet) > max(1280, self.size(end) - 20):\n            return self.too_big(packet, max(1280, self.size(end) - 20), output)\n"
+      "        need(not forbidden(end) and not self.settings.own(end), 13)\n")
+wrong("node", "order of sending: 23 before 14", "        if len(packet) > largest:\n",
+      "        need(20 + len(packet) <= 65535, 23)\n        if len(packet) > largest:\n")
+wrong("node", "order of sending: 15 before 14", "        if len(packet) > largest:\n",
+      "        need(min(1280, 20 + len(packet)) <= len(output), 15)\n        if len(packet) > largest:\n")
+wrong("node", "order of sending: 8 last of all",
+      "        need(inner_length(packet) == len(packet), 8)\n        source = self.locator(index)\n"
+      "        need(self.settings.isatap(next_hop), 12)\n",
+      "        source = self.locator(index)\n        need(self.settings.isatap(next_hop), 12)\n"
+      "        need(inner_length(packet) == len(packet), 8)\n")
+wrong("node", "order of reports: 17 before 16", "        need(checksum_right(message), 16)\n",
+      "        need(self.settings.own(message[20:24]) and message[17] == 41, 17)\n        need(checksum_right(message), 16)\n")
+wrong("node", "order of reports: 18 before 16", "        need(checksum_right(message), 16)\n",
+      "        need(not 1 <= number(message[6:8]) < 68, 18)\n        need(checksum_right(message), 16)\n")
+wrong("node", "order of reports: 18 before 17", "        neighbour = quoted[16:20]\n",
+      "        need(reported_candidate(message, quoted) >= 68, 18)\n        neighbour = quoted[16:20]\n")
+wrong("node", "order of reports: 19 before 17", "        neighbour = quoted[16:20]\n",
+      "        need(reported_candidate(message, quoted) < self.size(quoted[16:20]), 19)\n        neighbour = quoted[16:20]\n")
+wrong("node", "order of asking: 22 before 11", "        source = self.locator(index)\n        router, due",
+      "        need(any(due <= self.latest for _, due in self.routers), 22)\n        source = self.locator(index)\n        router, due")
+wrong("node", "order of asking: 15 before 22", "        need(router is not None and due <= self.latest, 22)\n",
+      "        need(len(output) >= 48, 15)\n        need(router is not None and due <= self.latest, 22)\n")
+wrong("node", "order of asking: 15 before 11", "        source = self.locator(index)\n        router, due",
+      "        need(len(output) >= 48, 15)\n        source = self.locator(index)\n        router, due")
+wrong("node", "order of advertisements: 20 before 8", "        packet = packet[:inner_length(packet)]\n",
+      "        need(len(packet) < 40 or packet[6] == 58 and packet[7] == 255, 20)\n        packet = packet[:inner_length(packet)]\n")
+wrong("node", "order of advertisements: 21 before 20", "        need(packet[6] == 58, 20)\n",
+      "        need(not self.settings.isatap(source) or source[:8] != LINK_LOCAL or self.listed(source[12:]), 21)\n        need(packet[6] == 58, 20)\n")
+wrong("node", "order of advertisements: 21 before 8", "        packet = packet[:inner_length(packet)]\n",
+      "        need(len(packet) < 40 or self.listed(packet[20:24]), 21)\n        packet = packet[:inner_length(packet)]\n")
+wrong("node", "order of advertisements: 21 before the options are walked", "        smallest = smallest_lifetime(message)\n",
+      "        need(self.settings.isatap(source) and self.listed(source[12:]), 21)\n        smallest = smallest_lifetime(message)\n")
