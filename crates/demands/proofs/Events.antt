@@ -22,14 +22,14 @@ use Rattle.sending.specs.Plan.{sendCheck}
 use Rattle.sending.proofs.Seen.{tooBigSeen, takesMessage, seenAfter, sent-seen}
 use Rattle.sending.specs.declared.SendAnswer.{SendAnswer}
 use Rattle.sending.specs.declared.SendAnswer.the-variants as sent
-use Rattle.reports.specs.Report.{judgedOf, acceptedBelow, answerAt}
+use Rattle.reports.specs.Report.{judgedOf, neighbourIn, acceptedBelow, answerAt}
 use Rattle.reports.specs.declared.Judged.{Judged}
 use Rattle.reports.specs.declared.Judged.the-variants as judged
 use Rattle.reports.specs.declared.ReportAnswer.{ReportAnswer}
 use Rattle.reports.specs.declared.ReportAnswer.the-variants as reported
 use Rattle.node.specs.Node.{pathSizeAt}
 use Rattle.node.specs.Send.{pathSizeToward, sentBy, sendOf}
-use Rattle.node.specs.Report.{neighbourIn, pathsAfter, reportAnswerOf, reportOf}
+use Rattle.node.specs.Report.{pathsAfter, reportAnswerOf, reportOf}
 use Rattle.node.specs.declared.Node.{Node}
 use Rattle.demands.specs.Calls.{NodeCall, Outcome, outcomeOf, OfSizes, aSending, aReport, noSize, viewOf}
 use Rattle.demands.specs.Sender.{sentEvent, reportedEvent, eventIn, nodeEvents}

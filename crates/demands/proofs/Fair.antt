@@ -52,7 +52,7 @@ asking-turn : (n : Node) (k time : ℕ) (out : List ℕ) (a : AskAnswer) → ask
     → Turn n time anAsking (outcomeOf n (asking k time out))
 unfolding askOf askedBy
 asking-turn n k time out (ask.Router b) e =
-    let a = asking.answered-only-if (n .service .settings) (n .service .routers) (max (n .latest) time) k out b e in
+    let a = asking.answered-next (n .service .settings) (n .service .routers) (max (n .latest) time) k out b e in
     asks b (rw e) (a .next) (a .rescheduled)
 asking-turn n k time out (ask.Refused x) e =
     leaves (rw e) (asking.refused-unchanged (n .service .settings) (n .service .routers) (max (n .latest) time) k out x e .0)

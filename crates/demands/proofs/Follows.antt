@@ -10,12 +10,12 @@ use Rattle.paths.specs.Claim.{tableOf}
 use Rattle.paths.specs.declared.PathTable.{PathTable}
 use Rattle.paths.proofs.Answers.{same-in-force}
 use Rattle.sending.specs.Sending.{sentOf, sendGiven}
-use Rattle.reports.specs.Report.{judgedOf, reportGiven}
+use Rattle.reports.specs.Report.{judgedOf, neighbourIn, reportGiven}
 use Rattle.reports.specs.declared.ReportAnswer.{ReportAnswer}
 use Rattle.reports.specs.declared.ReportAnswer.the-variants.{Accepted, Refused}
 use Rattle.node.specs.Node.{nodeOf, pathSizeAt}
 use Rattle.node.specs.Send.{sentBy, sendOf}
-use Rattle.node.specs.Report.{neighbourIn, pathsAfter, reportAnswerOf}
+use Rattle.node.specs.Report.{pathsAfter, reportAnswerOf}
 use Rattle.node.specs.declared.Node.{Node}
 use Rattle.demands.specs.Calls.{NodeCall, Outcome, outcomeOf, OfSizes, aSending, aReport, noSize, viewOf, nodeAfter}
 use Rattle.demands.specs.Plain.{Plain, freshPlain, raised, entered, plainSize, plainReport, plainSend, plainGiven, plainEntered, plainNext, plainAfter, plainRun, givenIf, run}

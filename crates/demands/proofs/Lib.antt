@@ -4,5 +4,6 @@ pub mod Events
 pub mod Three
 pub mod Starred
 pub mod One
+pub mod RightList
 pub mod Two
 pub mod Fair

@@ -8,13 +8,11 @@ use Rattle.address.specs.Address.{lastQuad}
 use Rattle.settings.specs.declared.Settings.{Settings}
 use Rattle.paths.specs.Kept.{Report, inForce}
 use Rattle.paths.specs.Record.{recordKept, recordAfter}
-use Rattle.sending.specs.Plan.{planOf}
-use Rattle.sending.specs.Sending.{planAnswer, sendGiven}
+use Rattle.sending.specs.Sending.{answerOf, sendGiven}
 use Rattle.sending.specs.declared.SendAnswer.{SendAnswer}
-use Rattle.reports.specs.Report.{judgedOf, answerAt, reportGiven}
+use Rattle.reports.specs.Report.{judgedOf, neighbourIn, answerAt, reportGiven}
 use Rattle.reports.specs.declared.ReportAnswer.{ReportAnswer}
 use Rattle.reports.specs.declared.ReportAnswer.the-variants.{Accepted, Refused}
-use Rattle.node.specs.Report.{neighbourIn}
 use Rattle.node.specs.declared.Node.{Node}
 use Rattle.demands.specs.Calls.{NodeCall, outcomeOf, OfSizes, aSending, aReport, noSize, viewOf}
 
@@ -48,7 +46,7 @@ module _ (s : Settings) where
 
   -- the rules of sending, for the record's size toward the tunnel end
   abbrev pub plainSend : Plain → List ℕ → List ℕ → ℕ → ℕ → SendAnswer
-  plainSend r packet hop k room = planAnswer (planOf s (plainSize r (lastQuad hop)) packet hop k room) (length packet)
+  plainSend r packet hop k room = answerOf s (plainSize r (lastQuad hop)) packet hop k room
 
   -- its answer to a call, with that much room in the output; none where the call is neither a sending nor a report
   abbrev pub plainGiven : Plain → ℕ → OfSizes → Option Given

@@ -3,19 +3,13 @@ use Prim.Native.Nat.{ℕ, max}
 use mathlib.Core.List.{List}
 use Rattle.paths.specs.Table.{tableAfter}
 use Rattle.paths.specs.declared.PathTable.{PathTable}
-use Rattle.reports.specs.Report.{judgedOf, answerAt}
+use Rattle.reports.specs.Report.{judgedOf, neighbourIn, answerAt}
 use Rattle.reports.specs.declared.Judged.{Judged}
-use Rattle.reports.specs.declared.Judged.the-variants as judged
 use Rattle.reports.specs.declared.ReportAnswer.{ReportAnswer}
 use Rattle.reports.specs.declared.ReportAnswer.the-variants.{Accepted, Refused}
 use Rattle.node.specs.Node.{nodeWith, pathSizeAt}
 use Rattle.node.specs.declared.Node.{Node}
 use Rattle.node.specs.declared.report.Reported.{Reported}
-
--- the neighbour of a report that 16, 17 and 18 pass
-abbrev pub neighbourIn : Judged → ℕ
-neighbourIn (judged.Report v c) = v
-neighbourIn (judged.Refused r) = 0
 
 -- an accepted report is the neighbour's last
 abbrev pub pathsAfter : ReportAnswer → PathTable → ℕ → PathTable
