@@ -67,7 +67,7 @@ tells n time lent o size len e state message =
     record {
       state = λ h. state;
       output = λ h g. absurd (g (rw e));
-      tooBig = λ m l h. let same : len ≡ l = ends (o .given) m l e h in rw (← same) message;
+      tooBig = λ m l h. record { message = message .message; size = message .size ∙ ends (o .given) m l e h; output = message .output };
     }
   where
     ends : (g : Given) (m l : ℕ) → g ≡ record { number = 14; values = size ∷ len ∷ [] } → g ≡ record { number = 14; values = m ∷ l ∷ [] } → len ≡ l
