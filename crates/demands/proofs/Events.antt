@@ -4,12 +4,12 @@ use mathlib.Core.Path.{_≡_, refl, ap, sym, _∙_}
 use mathlib.Core.Bool.{Bool, true, false, cond, _&&_}
 use mathlib.Core.List.{List, [], _∷_}
 use native.Mathlib.Omega.{arith}
+use native.Mathlib.Nat.{max-zero}
 use lib.Dec.{ltb, eqb}
 use lib.ListN.{length}
 use Rattle.address.specs.Address.{lastQuad}
 use Rattle.refusals.specs.declared.Check.{Check}
 use Rattle.refusals.specs.declared.Check.the-variants.{Pass, Stop}
-use Rattle.settings.specs.Settings.{areRoutersRight}
 use Rattle.settings.specs.declared.Settings.{Settings}
 use Rattle.paths.specs.Candidate.{isBelow}
 use Rattle.paths.specs.Kept.{inForce}
@@ -22,21 +22,18 @@ use Rattle.sending.specs.Plan.{sendCheck}
 use Rattle.sending.proofs.Seen.{tooBigSeen, takesMessage, seenAfter, sent-seen}
 use Rattle.sending.specs.declared.SendAnswer.{SendAnswer}
 use Rattle.sending.specs.declared.SendAnswer.the-variants as sent
-use Rattle.reports.specs.Report.{judgedOf, acceptedBelow, answerAt}
+use Rattle.reports.specs.Report.{judgedOf, neighbourIn, acceptedBelow, answerAt}
 use Rattle.reports.specs.declared.Judged.{Judged}
 use Rattle.reports.specs.declared.Judged.the-variants as judged
 use Rattle.reports.specs.declared.ReportAnswer.{ReportAnswer}
 use Rattle.reports.specs.declared.ReportAnswer.the-variants as reported
-use Rattle.node.specs.Node.{raisedTo, pathSizeAt}
+use Rattle.node.specs.Node.{pathSizeAt}
 use Rattle.node.specs.Send.{pathSizeToward, sentBy, sendOf}
-use Rattle.node.specs.Report.{neighbourIn, pathsAfter, reportAnswerOf, reportOf}
-use Rattle.node.specs.RouterList.{replaceOf}
-use Rattle.node.specs.Ask.{askOf}
-use Rattle.node.specs.Hear.{hearOf}
+use Rattle.node.specs.Report.{pathsAfter, reportAnswerOf, reportOf}
 use Rattle.node.specs.declared.Node.{Node}
-use Rattle.demands.specs.Calls.{NodeCall, receiving, receivingPart, sending, reporting, relisting, asking, hearing, timeOf, nodeNext}
-use Rattle.demands.proofs.Follows.{chosen}
-use Rattle.demands.specs.Sender.{sentEvent, reportedEvent, nodeEvents}
+use Rattle.demands.specs.Calls.{NodeCall, Outcome, outcomeOf, OfSizes, aSending, aReport, noSize, viewOf}
+use Rattle.demands.specs.Sender.{sentEvent, reportedEvent, eventIn, nodeEvents}
+use Rattle.demands.proofs.Left.{Left, left}
 
 abbrev passes : Check → Bool
 passes Pass = true
@@ -47,20 +44,17 @@ abbrev judgedCall : Judged → PathCall
 judgedCall (judged.Report v c) = report v c
 judgedCall (judged.Refused r) = clock 0
 
--- what is seen of a call
-abbrev callSeen : Settings → Bool → NodeCall → PathCall
-callSeen s mine (receiving d interface) = clock 0
-callSeen s mine (receivingPart d interface) = clock 0
-callSeen s mine (sending packet hop k time out) =
-    send mine (lastQuad hop) (length packet) (passes (sendCheck s packet hop k) && takesMessage packet (length out))
-callSeen s mine (reporting m time) = judgedCall (judgedOf s m)
-callSeen s mine (relisting addresses count time) = clock 0
-callSeen s mine (asking k time out) = clock 0
-callSeen s mine (hearing packet time) = clock 0
+-- what is seen of a call, with that much room in the output
+abbrev callSeen : Settings → Bool → ℕ → OfSizes → PathCall
+callSeen s mine room (aSending packet hop k) =
+    send mine (lastQuad hop) (length packet) (passes (sendCheck s packet hop k) && takesMessage packet room)
+callSeen s mine room (aReport m) = judgedCall (judgedOf s m)
+callSeen s mine room noSize = clock 0
 
 abbrev pub callsSeen : Settings → (ℕ → Bool) → List NodeCall → List PathCall
 callsSeen s choice [] = []
-callsSeen s choice (x ∷ xs) = clock (timeOf x) ∷ (callSeen s (choice 0) x ∷ callsSeen s (λ k. choice (suc k)) xs)
+callsSeen s choice (x ∷ xs) =
+    clock (viewOf x .time) ∷ (callSeen s (choice 0) (length (viewOf x .lent)) (viewOf x .sizes) ∷ callsSeen s (λ k. choice (suc k)) xs)
 
 -- ---- answers
 
@@ -141,67 +135,46 @@ module _ (v : ℕ) where
       eventsOf v (history table largestPacket (n .service .settings .«link_size») (n .paths) (n .latest) (callsSeen (n .service .settings) choice xs))
       ≡ spaced (nodeEvents choice v n xs)
 
-  -- a call that changes neither settings nor table is a clock alone
-  clocked : (choice : ℕ → Bool) (n m : Node) (time : ℕ) (xs : List NodeCall) → m .service .settings ≡ n .service .settings → m .paths ≡ n .paths
-      → m .latest ≡ max (n .latest) time → Same choice m xs
-      → eventsOf v (history table largestPacket (n .service .settings .«link_size») (n .paths) (n .latest) (clock time ∷ (clock 0 ∷ callsSeen (n .service .settings) choice xs)))
-      ≡ nothing ∷ (nothing ∷ spaced (nodeEvents choice v m xs))
-  clocked choice n m time xs es ep el same =
-      ap (λ (h : List Event). nothing ∷ h)
-      (one-more v (n .service .settings .«link_size») (n .paths) (n .paths) (max (n .latest) time) (m .latest) (clock 0) other nothing
-      (callsSeen (n .service .settings) choice xs) (spaced (nodeEvents choice v m xs)) refl refl (omega arith) refl (rw (← es, ← ep) same))
-
-  -- a list that is taken, or not: neither settings nor table are another
-  relisted : (n : Node) (addresses : List ℕ) (count time : ℕ)
-      → (replaceOf n addresses count time .node .service .settings ≡ n .service .settings)
-      × (replaceOf n addresses count time .node .paths ≡ n .paths)
-      × (replaceOf n addresses count time .node .latest ≡ max (n .latest) time)
-  unfolding replaceOf raisedTo
-  relisted n addresses count time =
-      chosen (areRoutersRight (n .service .settings) addresses count) _ _
-      (λ x. (x .service .settings ≡ n .service .settings) × (x .paths ≡ n .paths) × (x .latest ≡ max (n .latest) time)) (refl, refl, refl) (refl, refl, refl)
+  -- a call is its clock, which is nothing, and then what is seen of it
+  module _ (mine : Bool) (choice : ℕ → Bool) (n : Node) (time room : ℕ) (o : Outcome) (xs : List NodeCall) (same : Same choice (o .node) xs) where
+    clocked : (c : OfSizes) → Left n time room c o
+        → eventsOf v
+        (history table largestPacket (n .service .settings .«link_size») (n .paths) (max (n .latest) time)
+        (callSeen (n .service .settings) mine room c ∷ callsSeen (n .service .settings) choice xs))
+        ≡ eventIn mine v n time room c ∷ spaced (nodeEvents choice v (o .node) xs)
+    unfolding sendOf sentBy reportOf reportAnswerOf pathSizeAt
+    clocked (aSending packet hop k) l =
+        let s : Settings = n .service .settings in
+        let now : ℕ = max (n .latest) time in
+        let a : SendAnswer = sendOf n packet hop k time room .answer in
+        one-more v (s .«link_size») (n .paths) (o .node .paths) now (o .node .latest) (callSeen s mine room (aSending packet hop k)) (tooBigSeen a)
+        (cond (mine && eqb (lastQuad hop) v) (sentEvent (length packet) a) nothing) (callsSeen s choice xs) (spaced (nodeEvents choice v (o .node) xs))
+        (send-seen (sendCheck s packet hop k) (largestPacket (pathSizeToward n hop time)) (length packet) (takesMessage packet room)
+        ∙ sym (sent-seen s (n .service .identification) (pathSizeToward n hop time) packet hop k room))
+        (sent-remembered (s .«link_size») now (n .paths) a ∙ sym (l .sizes .1)) (sym (l .latest))
+        (ap (λ (e : Event). cond (mine && eqb (lastQuad hop) v) e nothing) (sent-event a (length packet)))
+        (rw (← l .settings) same)
+    clocked (aReport m) l =
+        let s : Settings = n .service .settings in
+        let now : ℕ = max (n .latest) time in
+        let j : Judged = judgedOf s m in
+        let P : ℕ = inForce (s .«link_size») (keptIn (n .paths) (neighbourIn j) now) in
+        let a : ReportAnswer = answerAt j P in
+        one-more v (s .«link_size») (n .paths) (o .node .paths) now (o .node .latest) (judgedCall j) (judgedSeen j a) (reportedEvent v a)
+        (callsSeen s choice xs) (spaced (nodeEvents choice v (o .node) xs))
+        (report-seen (s .«link_size») now (n .paths) j) (judged-remembered (s .«link_size») now (n .paths) j P ∙ sym (l .sizes .1))
+        (judged-latest j now ∙ sym (l .latest)) (judged-event j v P)
+        (rw (← l .settings) same)
+    clocked noSize l =
+        let s : Settings = n .service .settings in
+        one-more v (s .«link_size») (n .paths) (o .node .paths) (max (n .latest) time) (o .node .latest) (clock 0) other nothing
+        (callsSeen s choice xs) (spaced (nodeEvents choice v (o .node) xs)) refl (sym (l .sizes)) (max-zero _ ∙ sym (l .latest)) refl
+        (rw (← l .settings) same)
 
   pub same-events : (choice : ℕ → Bool) (n : Node) (xs : List NodeCall) → Same choice n xs
-  unfolding sendOf sentBy reportOf reportAnswerOf askOf hearOf pathSizeAt
   same-events choice n [] = refl
-  same-events choice n (receiving d interface ∷ xs) =
-      clocked (λ k. choice (suc k)) n n 0 xs refl refl (omega arith) (same-events (λ k. choice (suc k)) n xs)
-  same-events choice n (receivingPart d interface ∷ xs) =
-      clocked (λ k. choice (suc k)) n n 0 xs refl refl (omega arith) (same-events (λ k. choice (suc k)) n xs)
-  same-events choice n (sending packet hop k time out ∷ xs) =
-      let s : Settings = n .service .settings in
-      let x : NodeCall = sending packet hop k time out in
-      let now : ℕ = max (n .latest) time in
-      let a : SendAnswer = sendOf n packet hop k time (length out) .answer in
-      let rest : List Event = spaced (nodeEvents (λ i. choice (suc i)) v (nodeNext n x) xs) in
+  same-events choice n (x ∷ xs) =
+      let later : ℕ → Bool = λ k. choice (suc k) in
       ap (λ (h : List Event). nothing ∷ h)
-      (one-more v (s .«link_size») (n .paths) (n .paths) now now (callSeen s (choice 0) x) (tooBigSeen a)
-      (cond (choice 0 && eqb (lastQuad hop) v) (sentEvent (length packet) a) nothing) (callsSeen s (λ i. choice (suc i)) xs) rest
-      (send-seen (sendCheck s packet hop k) (largestPacket (pathSizeToward n hop time)) (length packet) (takesMessage packet (length out))
-      ∙ sym (sent-seen s (n .service .identification) (pathSizeToward n hop time) packet hop k (length out)))
-      (sent-remembered (s .«link_size») now (n .paths) a) refl
-      (ap (λ (e : Event). cond (choice 0 && eqb (lastQuad hop) v) e nothing) (sent-event a (length packet)))
-      (same-events (λ i. choice (suc i)) (nodeNext n x) xs))
-  same-events choice n (reporting m time ∷ xs) =
-      let s : Settings = n .service .settings in
-      let x : NodeCall = reporting m time in
-      let now : ℕ = max (n .latest) time in
-      let j : Judged = judgedOf s m in
-      let P : ℕ = inForce (s .«link_size») (keptIn (n .paths) (neighbourIn j) now) in
-      let a : ReportAnswer = answerAt j P in
-      let rest : List Event = spaced (nodeEvents (λ i. choice (suc i)) v (nodeNext n x) xs) in
-      ap (λ (h : List Event). nothing ∷ h)
-      (one-more v (s .«link_size») (n .paths) (pathsAfter a (n .paths) now) now now (judgedCall j) (judgedSeen j a) (reportedEvent v a)
-      (callsSeen s (λ i. choice (suc i)) xs) rest
-      (report-seen (s .«link_size») now (n .paths) j) (judged-remembered (s .«link_size») now (n .paths) j P) (judged-latest j now) (judged-event j v P)
-      (same-events (λ i. choice (suc i)) (nodeNext n x) xs))
-  same-events choice n (relisting addresses count time ∷ xs) =
-      let f = relisted n addresses count time in
-      clocked (λ k. choice (suc k)) n (nodeNext n (relisting addresses count time)) time xs (f .0) (f .1) (f .2)
-      (same-events (λ k. choice (suc k)) (nodeNext n (relisting addresses count time)) xs)
-  same-events choice n (asking k time out ∷ xs) =
-      clocked (λ i. choice (suc i)) n (nodeNext n (asking k time out)) time xs refl refl refl
-      (same-events (λ i. choice (suc i)) (nodeNext n (asking k time out)) xs)
-  same-events choice n (hearing packet time ∷ xs) =
-      clocked (λ i. choice (suc i)) n (nodeNext n (hearing packet time)) time xs refl refl refl
-      (same-events (λ i. choice (suc i)) (nodeNext n (hearing packet time)) xs)
+      (clocked (choice 0) later n (viewOf x .time) (length (viewOf x .lent)) (outcomeOf n x) xs
+      (same-events later (outcomeOf n x .node) xs) (viewOf x .sizes) (left n x))

@@ -1,32 +1,25 @@
 -- The plain record keeps up with the node: the same settings and latest time, and the table of the record's entries. Assumes nothing.
 use Prim.Native.Nat.{ℕ, max}
-use mathlib.Core.Path.{_≡_, refl, ap}
-use mathlib.Core.Bool.{Bool, true, false, cond}
+use mathlib.Core.Path.{_≡_, refl, ap, _∙_}
 use mathlib.Core.List.{List, [], _∷_}
+use mathlib.Core.Option.{some}
+use lib.ListN.{length}
 use Rattle.address.specs.Address.{lastQuad}
-use Rattle.settings.specs.Settings.{areRoutersRight}
 use Rattle.settings.specs.declared.Settings.{Settings}
 use Rattle.paths.specs.Claim.{tableOf}
+use Rattle.paths.specs.declared.PathTable.{PathTable}
 use Rattle.paths.proofs.Answers.{same-in-force}
-use Rattle.sending.specs.Sending.{sentOf}
-use Rattle.reports.specs.Report.{judgedOf}
+use Rattle.sending.specs.Sending.{sentOf, sendGiven}
+use Rattle.reports.specs.Report.{judgedOf, neighbourIn, reportGiven}
 use Rattle.reports.specs.declared.ReportAnswer.{ReportAnswer}
 use Rattle.reports.specs.declared.ReportAnswer.the-variants.{Accepted, Refused}
-use Rattle.node.specs.Node.{nodeOf, raisedTo, pathSizeAt}
+use Rattle.node.specs.Node.{nodeOf, pathSizeAt}
 use Rattle.node.specs.Send.{sentBy, sendOf}
-use Rattle.node.specs.Report.{neighbourIn, pathsAfter, reportAnswerOf, reportOf}
-use Rattle.node.specs.RouterList.{replaceOf}
-use Rattle.node.specs.Ask.{askOf}
-use Rattle.node.specs.Hear.{hearOf}
+use Rattle.node.specs.Report.{pathsAfter, reportAnswerOf}
 use Rattle.node.specs.declared.Node.{Node}
-use Rattle.node.specs.declared.router_list.Replaced.{Replaced}
-use Rattle.demands.specs.Calls.{NodeCall, receiving, receivingPart, sending, reporting, relisting, asking, hearing, nodeNext, nodeAfter}
-use Rattle.demands.specs.Plain.{Plain, freshPlain, raised, entered, reported, plainSize, plainReport, plainSeen, plainNext, plainAfter, plainRun, seenOf, run}
-
--- what holds of the node of either of two answers holds of the chosen one
-pub chosen : (b : Bool) (x y : Replaced) (P : Node → Type 0) → P (x .node) → P (y .node) → P (cond b x y .node)
-chosen true x y P px py = px
-chosen false x y P px py = py
+use Rattle.demands.specs.Calls.{NodeCall, Outcome, outcomeOf, OfSizes, aSending, aReport, noSize, viewOf, nodeAfter}
+use Rattle.demands.specs.Plain.{Plain, freshPlain, raised, entered, plainSize, plainReport, plainSend, plainGiven, plainEntered, plainNext, plainAfter, plainRun, givenIf, run}
+use Rattle.demands.proofs.Left.{Left, left}
 
 pub record Follows (s : Settings) (n : Node) (r : Plain) : Type 0 where
   pub settings : n .service .settings ≡ s
@@ -38,6 +31,12 @@ module _ (s : Settings) where
   unfolding nodeOf
   fresh-follows = record { settings = refl; latest = refl; paths = refl }
 
+  -- what an answer to a report leaves of both
+  same-entries : (r : Plain) (a : ReportAnswer) (t : PathTable) → t ≡ tableOf (r .entries)
+      → (pathsAfter a t (r .latest) ≡ tableOf (entered r a .entries)) × (entered r a .latest ≡ r .latest)
+  same-entries r (Accepted v c) t e = (rw e, refl)
+  same-entries r (Refused x) t e = (e, refl)
+
   module _ (n : Node) (r : Plain) (f : Follows s n r) where
     -- toward any neighbour and at any time both have the same size
     pub size-at : (v time : ℕ) → pathSizeAt n v (max (n .latest) time) ≡ plainSize s (raised r time) v
@@ -48,48 +47,40 @@ module _ (s : Settings) where
     unfolding reportAnswerOf
     same-report m time = cc (f .settings, size-at (neighbourIn (judgedOf s m)) time)
 
-    same-seen : (x : NodeCall) → seenOf n x ≡ plainSeen s r x
-    unfolding sendOf sentBy sentOf reportOf
-    same-seen (receiving d interface) = refl
-    same-seen (receivingPart d interface) = refl
-    same-seen (sending packet hop k time out) = cc (f .settings, size-at (lastQuad hop) time)
-    same-seen (reporting m time) = ap reported (same-report m time)
-    same-seen (relisting addresses count time) = refl
-    same-seen (asking k time out) = refl
-    same-seen (hearing packet time) = refl
+    same-send : (packet hop : List ℕ) (k time room : ℕ) → sendOf n packet hop k time room .answer ≡ plainSend s (raised r time) packet hop k room
+    unfolding sendOf sentBy sentOf
+    same-send packet hop k time room = cc (f .settings, size-at (lastQuad hop) time)
 
-    -- what a call leaves that changes neither settings nor table
-    raised-follows : (x : Node) (time : ℕ) → x .service .settings ≡ n .service .settings → x .paths ≡ n .paths → x .latest ≡ max (n .latest) time
-        → Follows s x (raised r time)
-    raised-follows x time es ep el = record { settings = rw (es, f .settings); latest = rw (el, f .latest); paths = rw (ep, f .paths) }
+    module _ (time room : ℕ) (o : Outcome) where
+      same-given : (c : OfSizes) → Left n time room c o → givenIf c (o .given) ≡ plainGiven s (raised r time) room c
+      same-given (aSending packet hop k) l = ap some (l .sizes .0 ∙ ap sendGiven (same-send packet hop k time room))
+      same-given (aReport m) l = ap some (l .sizes .0 ∙ ap reportGiven (same-report m time))
+      same-given noSize l = refl
 
-  -- what a report leaves, by its answer
-  entered-follows : (n : Node) (r : Plain) (a : ReportAnswer) (now : ℕ) → Follows s n r → now ≡ r .latest
-      → Follows s (record { service = n .service; paths = pathsAfter a (n .paths) now; latest = now }) (entered r a)
-  unfolding nodeOf
-  entered-follows n r (Accepted v c) now f e = record { settings = f .settings; latest = e; paths = rw (e, f .paths) }
-  entered-follows n r (Refused x) now f e = record { settings = f .settings; latest = e; paths = f .paths }
+      follows-left : (c : OfSizes) → Left n time room c o → Follows s (o .node) (plainEntered s (raised r time) c)
+      follows-left (aSending packet hop k) l =
+          record { settings = rw (l .settings, f .settings); latest = rw (l .latest, f .latest); paths = rw (l .sizes .1, f .paths) }
+      follows-left (aReport m) l =
+          let e = same-entries (raised r time) (plainReport s (raised r time) m) (n .paths) (f .paths) in
+          record {
+            settings = rw (l .settings, f .settings);
+            latest = rw (e .1, l .latest, f .latest);
+            paths = rw (l .sizes .1, same-report m time, f .latest) (e .0);
+          }
+      follows-left noSize l =
+          record { settings = rw (l .settings, f .settings); latest = rw (l .latest, f .latest); paths = rw (l .sizes, f .paths) }
 
-  follows-next : (n : Node) (r : Plain) → Follows s n r → (x : NodeCall) → Follows s (nodeNext n x) (plainNext s r x)
-  unfolding sendOf reportOf replaceOf raisedTo askOf hearOf
-  follows-next n r f (receiving d interface) = f
-  follows-next n r f (receivingPart d interface) = f
-  follows-next n r f (sending packet hop k time out) = raised-follows n r f _ time refl refl refl
-  follows-next n r f (reporting m time) =
-      rw (← same-report n r f m time)
-      (entered-follows (record { service = n .service; paths = n .paths; latest = max (n .latest) time }) (raised r time)
-      (reportAnswerOf n m (max (n .latest) time)) (max (n .latest) time)
-      (raised-follows n r f _ time refl refl refl) (rw (f .latest)))
-  follows-next n r f (relisting addresses count time) =
-      chosen (areRoutersRight (n .service .settings) addresses count) _ _ (λ x. Follows s x (raised r time))
-      (raised-follows n r f _ time refl refl refl) (raised-follows n r f _ time refl refl refl)
-  follows-next n r f (asking k time out) = raised-follows n r f _ time refl refl refl
-  follows-next n r f (hearing packet time) = raised-follows n r f _ time refl refl refl
+    follows-next : (x : NodeCall) → Follows s (outcomeOf n x .node) (plainNext s r x)
+    follows-next x = follows-left (viewOf x .time) (length (viewOf x .lent)) (outcomeOf n x) (viewOf x .sizes) (left n x)
 
   pub same-run : (n : Node) (r : Plain) → Follows s n r → (xs : List NodeCall) → run n xs ≡ plainRun s r xs
   same-run n r f [] = refl
-  same-run n r f (x ∷ xs) = cc (same-seen n r f x, same-run (nodeNext n x) (plainNext s r x) (follows-next n r f x) xs)
+  same-run n r f (x ∷ xs) =
+      cc (
+        same-given n r f (viewOf x .time) (length (viewOf x .lent)) (outcomeOf n x) (viewOf x .sizes) (left n x),
+        same-run (outcomeOf n x .node) (plainNext s r x) (follows-next n r f x) xs,
+      )
 
   pub follows-after : (n : Node) (r : Plain) → Follows s n r → (xs : List NodeCall) → Follows s (nodeAfter n xs) (plainAfter s r xs)
   follows-after n r f [] = f
-  follows-after n r f (x ∷ xs) = follows-after (nodeNext n x) (plainNext s r x) (follows-next n r f x) xs
+  follows-after n r f (x ∷ xs) = follows-after (outcomeOf n x .node) (plainNext s r x) (follows-next n r f x) xs

@@ -27,7 +27,7 @@ heard-spaced (lowered ∷ h) = ap (λ (k : List Event). lowered ∷ k) (heard-sp
 heard-spaced (nothing ∷ h) = heard-spaced h
 
 -- accepted settings make the node of them
-made : (s : Settings) → isAccepted s ≡ true → setupOf s .node ≡ nodeOf s
+pub made : (s : Settings) → isAccepted s ≡ true → setupOf s .node ≡ nodeOf s
 unfolding setupOf
 made s a = rw a
 

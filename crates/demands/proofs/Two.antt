@@ -1,33 +1,49 @@
 -- Demand 2 holds of every node: each call's own law, at what is in force. Assumes nothing.
-use Prim.Native.Nat.{max}
+use Prim.Native.Nat.{ℕ, max}
 use mathlib.Core.Path.{refl}
+use mathlib.Core.List.{List}
+use Rattle.lists.proofs.Decides.{refutes}
+use Rattle.settings.specs.Settings.{areRoutersRight}
 use Rattle.routers.specs.Routers.{live}
-use Rattle.reports.proofs.AcceptsLaws.{accepted-exactly}
-use Rattle.sending.proofs.WrapsLaws.{wrapped-exactly}
-use Rattle.receiving.specs.Admitted as receiving
-use Rattle.receiving.proofs.Delivered as receiving-laws
-use Rattle.asking.proofs.Laws as asking
-use Rattle.hearing.proofs.Laws as hearing
+use Rattle.reports.proofs.AcceptsLaws.{reported-exactly}
+use Rattle.sending.proofs.ExactlyLaws.{sent-exactly}
+use Rattle.receiving.specs.Admitted.{DeliversExactly}
+use Rattle.receiving.proofs.Delivered.{delivers-exactly}
+use Rattle.asking.proofs.Laws.{asked-exactly}
+use Rattle.hearing.proofs.Laws.{heard-exactly}
+use Rattle.node.specs.Node.{pathSizeAt}
 use Rattle.node.specs.Receive.{receiveOf, partIn}
-use Rattle.node.specs.Send.{pathSizeToward}
-use Rattle.node.specs.Report.{reportAnswerOf}
-use Rattle.node.specs.Ask.{askedBy, askOf}
+use Rattle.node.specs.Send.{pathSizeToward, sentBy, sendOf, sendOutput}
+use Rattle.node.specs.Report.{reportAnswerOf, reportOf}
+use Rattle.node.specs.RouterList.{replaceOf}
+use Rattle.node.specs.declared.Node.{Node}
+use Rattle.node.specs.Ask.{askedBy, askOf, askOutput}
 use Rattle.node.specs.Hear.{heardBy, hearOf}
-use Rattle.demands.specs.Two.{DemandTwo}
+use Rattle.demands.specs.Two.{Relists, DemandTwo}
+use Rattle.demands.proofs.RightList.{decides-right}
+
+relists : (n : Node) (addresses : List ℕ) (count time : ℕ) → Relists n addresses count time
+unfolding replaceOf
+relists n addresses count time =
+    let s = n .service .settings in
+    let d = decides-right s addresses count in
+    record { taken = λ right. rw (d .passes right); refused = λ wrong. rw (refutes (areRoutersRight s addresses count) d wrong) }
 
 pub demand-two : DemandTwo
-unfolding DemandTwo receiving.DeliversExactly receiveOf partIn reportAnswerOf askOf askedBy hearOf heardBy
+unfolding DemandTwo DeliversExactly receiveOf partIn sendOf sentBy sendOutput reportOf reportAnswerOf askOf askedBy askOutput hearOf heardBy
 demand-two n =
     let s = n .service .settings in
     let routers = n .service .routers in
     record {
-      receives = λ d interface. receiving-laws.delivers-exactly s (live routers) d interface;
-      part = λ d interface. refl;
-      sends = λ packet hop k time out. wrapped-exactly s (n .service .identification) (pathSizeToward n hop time) packet hop k out;
-      reports = λ m now v c. accepted-exactly s m _ v c;
-      judged = λ m now. refl;
-      asks = λ k time out router h. asking.answered-only-if s routers (max (n .latest) time) k out router h;
-      asked = λ k time out from router l next room. asking.answered-if s routers (max (n .latest) time) k out from router l next room;
-      hears = λ packet time router h. hearing.accepted-only-if s routers (max (n .latest) time) packet router h;
-      heard = λ packet time router a. hearing.accepted-if s routers (max (n .latest) time) packet router a;
+      receives = λ d interface. record { number = refl; part = refl; exactly = delivers-exactly s (live routers) d interface };
+      sends = λ packet hop k time out. record {
+        answer = refl;
+        node = refl;
+        output = refl;
+        exactly = sent-exactly s (n .service .identification) (pathSizeToward n hop time) packet hop k out;
+      };
+      reports = λ m time. record { answer = refl; node = refl; exactly = reported-exactly s m (λ v. pathSizeAt n v (max (n .latest) time)) };
+      relists = relists n;
+      asks = λ k time out. record { answer = refl; node = refl; output = refl; exactly = asked-exactly s routers (max (n .latest) time) k out };
+      hears = λ packet time. record { answer = refl; node = refl; exactly = heard-exactly s routers (max (n .latest) time) packet };
     }

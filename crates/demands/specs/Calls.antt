@@ -1,4 +1,4 @@
--- A list of calls on one node, run by the definitions that the contracts of `node` cite.
+-- A list of calls on one node, run by the definitions that the contracts of `node` cite; and a call as the demands see it.
 use Prim.Native.Nat.{ℕ}
 use mathlib.Core.List.{List, [], _∷_}
 use lib.ListN.{length}
@@ -20,7 +20,7 @@ use Rattle.node.specs.declared.Node.{Node}
 pub data NodeCall : Type 0 where
   -- receiving, the call for the number: datagram, arrival interface
   receiving : List ℕ → ℕ → NodeCall
-  -- receiving, the call for the part: the same
+  -- receiving, the call for the part: datagram, arrival interface
   receivingPart : List ℕ → ℕ → NodeCall
   -- sending: packet, next hop, locator number, time, output
   sending : List ℕ → List ℕ → ℕ → ℕ → List ℕ → NodeCall
@@ -33,56 +33,72 @@ pub data NodeCall : Type 0 where
   -- an advertisement: inner packet, time
   hearing : List ℕ → ℕ → NodeCall
 
--- the time of a call, 0 where it has none: the latest time is never below 0
-abbrev pub timeOf : NodeCall → ℕ
-timeOf (receiving d interface) = 0
-timeOf (receivingPart d interface) = 0
-timeOf (sending packet hop k time out) = time
-timeOf (reporting m time) = time
-timeOf (relisting addresses count time) = time
-timeOf (asking k time out) = time
-timeOf (hearing packet time) = time
+-- what comes of a call: document 01's number and values, the next node, and what then stands in the lent output, no byte where none is lent
+pub record Outcome : Type 0 where
+  pub given : Given
+  pub node : Node
+  pub output : List ℕ
 
--- document 01's number and values of the answer; the call for the part gives its bytes
-abbrev pub givenTo : Node → NodeCall → Given
-givenTo n (receiving d interface) = receivedGiven (receiveOf n d interface)
-givenTo n (receivingPart d interface) = answered (partIn n d interface)
-givenTo n (sending packet hop k time out) = sendGiven (sendOf n packet hop k time (length out) .answer)
-givenTo n (reporting m time) = reportGiven (reportOf n m time .answer)
-givenTo n (relisting addresses count time) = listGiven (replaceOf n addresses count time .answer)
-givenTo n (asking k time out) = askGiven (askOf n k time (length out) .answer)
-givenTo n (hearing packet time) = heardGiven (hearOf n packet time .answer)
+-- what comes of each call; the values of the call for the part are its bytes
+abbrev pub outcomeOf : Node → NodeCall → Outcome
+outcomeOf n (receiving d interface) = record { given = receivedGiven (receiveOf n d interface); node = n; output = [] }
+outcomeOf n (receivingPart d interface) = record { given = answered (partIn n d interface); node = n; output = [] }
+outcomeOf n (sending packet hop k time out) = record {
+  given = sendGiven (sendOf n packet hop k time (length out) .answer);
+  node = sendOf n packet hop k time (length out) .node;
+  output = sendOutput n packet hop k time out;
+}
+outcomeOf n (reporting m time) =
+    record { given = reportGiven (reportOf n m time .answer); node = reportOf n m time .node; output = [] }
+outcomeOf n (relisting addresses count time) =
+    record { given = listGiven (replaceOf n addresses count time .answer); node = replaceOf n addresses count time .node; output = [] }
+outcomeOf n (asking k time out) = record {
+  given = askGiven (askOf n k time (length out) .answer);
+  node = askOf n k time (length out) .node;
+  output = askOutput n k time out;
+}
+outcomeOf n (hearing packet time) =
+    record { given = heardGiven (hearOf n packet time .answer); node = hearOf n packet time .node; output = [] }
 
--- the next node
-abbrev pub nodeNext : Node → NodeCall → Node
-nodeNext n (receiving d interface) = n
-nodeNext n (receivingPart d interface) = n
-nodeNext n (sending packet hop k time out) = sendOf n packet hop k time (length out) .node
-nodeNext n (reporting m time) = reportOf n m time .node
-nodeNext n (relisting addresses count time) = replaceOf n addresses count time .node
-nodeNext n (asking k time out) = askOf n k time (length out) .node
-nodeNext n (hearing packet time) = hearOf n packet time .node
+-- what a call is to the path sizes
+pub data OfSizes : Type 0 where
+  -- a sending: packet, next hop, locator number
+  aSending : List ℕ → List ℕ → ℕ → OfSizes
+  -- a size report: its message
+  aReport : List ℕ → OfSizes
+  -- anything else
+  noSize : OfSizes
 
--- the lent output before a call, and after it; a call without one has no byte of it
-abbrev pub lentTo : NodeCall → List ℕ
-lentTo (receiving d interface) = []
-lentTo (receivingPart d interface) = []
-lentTo (sending packet hop k time out) = out
-lentTo (reporting m time) = []
-lentTo (relisting addresses count time) = []
-lentTo (asking k time out) = out
-lentTo (hearing packet time) = []
+-- what a call is to the router list
+pub data OfRouters : Type 0 where
+  -- an asking
+  anAsking : OfRouters
+  -- an advertisement
+  anAdvertisement : OfRouters
+  -- a new list
+  aList : OfRouters
+  -- anything else
+  noRouter : OfRouters
 
-abbrev pub outputOf : Node → NodeCall → List ℕ
-outputOf n (receiving d interface) = []
-outputOf n (receivingPart d interface) = []
-outputOf n (sending packet hop k time out) = sendOutput n packet hop k time out
-outputOf n (reporting m time) = []
-outputOf n (relisting addresses count time) = []
-outputOf n (asking k time out) = askOutput n k time out
-outputOf n (hearing packet time) = []
+-- a call as the demands see it: its time, 0 where it has none, for the latest time is never below 0; the output lent to it, no byte where
+-- none is; and what it is to the path sizes and to the router list
+pub record View : Type 0 where
+  pub time : ℕ
+  pub lent : List ℕ
+  pub sizes : OfSizes
+  pub routers : OfRouters
 
--- the node after a list of calls: each gets the state that the last one left
+-- each call as the demands see it
+abbrev pub viewOf : NodeCall → View
+viewOf (receiving d interface) = record { time = 0; lent = []; sizes = noSize; routers = noRouter }
+viewOf (receivingPart d interface) = record { time = 0; lent = []; sizes = noSize; routers = noRouter }
+viewOf (sending packet hop k time out) = record { time = time; lent = out; sizes = aSending packet hop k; routers = noRouter }
+viewOf (reporting m time) = record { time = time; lent = []; sizes = aReport m; routers = noRouter }
+viewOf (relisting addresses count time) = record { time = time; lent = []; sizes = noSize; routers = aList }
+viewOf (asking k time out) = record { time = time; lent = out; sizes = noSize; routers = anAsking }
+viewOf (hearing packet time) = record { time = time; lent = []; sizes = noSize; routers = anAdvertisement }
+
+-- the node after a list of calls: each gets the node that the last one left
 abbrev pub nodeAfter : Node → List NodeCall → Node
 nodeAfter n [] = n
-nodeAfter n (x ∷ xs) = nodeAfter (nodeNext n x) xs
+nodeAfter n (x ∷ xs) = nodeAfter (outcomeOf n x .node) xs

@@ -7,19 +7,22 @@ use lib.ListN.{length}
 use Rattle.lent.specs.Written.{written}
 use Rattle.node.specs.Node.{raisedTo}
 use Rattle.node.specs.declared.Node.{Node}
-use Rattle.demands.specs.Calls.{NodeCall, timeOf, givenTo, nodeNext, lentTo, outputOf}
+use Rattle.demands.specs.Calls.{NodeCall, Outcome, outcomeOf, viewOf}
 
--- what 14 may write into an output d: a message w of the length that it names
+-- what 14 may write into an output d: a message of the length that it names, behind which d stays
 pub record Message (d e : List ℕ) (n : ℕ) : Type 0 where
   pub message : List ℕ
   pub size : length message ≡ n
   pub output : e ≡ written message d
 
-pub record Refusing (n : Node) (x : NodeCall) : Type 0 where
-  pub state : (givenTo n x .number ≡ 0 → ⊥) → nodeNext n x ≡ raisedTo n (timeOf x)
-  pub output : (givenTo n x .number ≡ 0 → ⊥) → (givenTo n x .number ≡ 14 → ⊥) → outputOf n x ≡ lentTo x
-  pub tooBig : (size len : ℕ) → givenTo n x ≡ record { number = 14; values = size ∷ len ∷ [] } → Message (lentTo x) (outputOf n x) len
+-- a refusal changes nothing of the node n but its latest time, and writes nothing, but for the message of 14
+pub record Refusing (n : Node) (time : ℕ) (lent : List ℕ) (o : Outcome) : Type 0 where
+  pub state : (o .given .number ≡ 0 → ⊥) → o .node ≡ raisedTo n time
+  pub output : (o .given .number ≡ 0 → ⊥) → (o .given .number ≡ 14 → ⊥) → o .output ≡ lent
+  pub tooBig : (size len : ℕ) → o .given ≡ record { number = 14; values = size ∷ len ∷ [] } → Message lent (o .output) len
 
--- of every node, whose reporting address has 16 bytes, and every call
+-- of every node and every call; a reporting address has 16 bytes, which is its type (`node::Node::put_back` shows it of every service)
 unfoldable pub DemandOne : Type 0
-DemandOne = (n : Node) → length (n .service .settings .reporting) ≡ 16 → (x : NodeCall) → Refusing n x
+DemandOne =
+    (n : Node) → length (n .service .settings .reporting) ≡ 16
+    → (x : NodeCall) → Refusing n (viewOf x .time) (viewOf x .lent) (outcomeOf n x)

@@ -13,7 +13,7 @@ use Rattle.reports.specs.declared.ReportAnswer.the-variants as report
 use Rattle.node.specs.Send.{sendOf}
 use Rattle.node.specs.Report.{reportOf}
 use Rattle.node.specs.declared.Node.{Node}
-use Rattle.demands.specs.Calls.{NodeCall, receiving, receivingPart, sending, reporting, relisting, asking, hearing, nodeNext}
+use Rattle.demands.specs.Calls.{NodeCall, outcomeOf, OfSizes, aSending, aReport, noSize, viewOf}
 
 -- "Each offers n bytes; its Too Big answers are its 14s, with a message or without"
 abbrev pub sentEvent : ℕ → SendAnswer → Event
@@ -26,18 +26,16 @@ abbrev pub reportedEvent : ℕ → ReportAnswer → Event
 reportedEvent v (report.Accepted w c) = cond (eqb w v) lowered nothing
 reportedEvent v (report.Refused r) = nothing
 
--- a call to the sender with neighbour v, where `mine` says whether it is one of the sender's
-abbrev pub nodeEvent : Bool → ℕ → Node → NodeCall → Event
-nodeEvent mine v n (receiving d interface) = nothing
-nodeEvent mine v n (receivingPart d interface) = nothing
-nodeEvent mine v n (sending packet hop k time out) =
-    cond (mine && eqb (lastQuad hop) v) (sentEvent (length packet) (sendOf n packet hop k time (length out) .answer)) nothing
-nodeEvent mine v n (reporting m time) = reportedEvent v (reportOf n m time .answer)
-nodeEvent mine v n (relisting addresses count time) = nothing
-nodeEvent mine v n (asking k time out) = nothing
-nodeEvent mine v n (hearing packet time) = nothing
+-- a call with that time and room to the sender with neighbour v, where `mine` says whether it is one of the sender's
+abbrev pub eventIn : Bool → ℕ → Node → ℕ → ℕ → OfSizes → Event
+eventIn mine v n time room (aSending packet hop k) =
+    cond (mine && eqb (lastQuad hop) v) (sentEvent (length packet) (sendOf n packet hop k time room .answer)) nothing
+eventIn mine v n time room (aReport m) = reportedEvent v (reportOf n m time .answer)
+eventIn mine v n time room noSize = nothing
 
 -- the calls of a list, of which `choice` picks the sender's by their place
 abbrev pub nodeEvents : (ℕ → Bool) → ℕ → Node → List NodeCall → List Event
 nodeEvents choice v n [] = []
-nodeEvents choice v n (x ∷ xs) = nodeEvent (choice 0) v n x ∷ nodeEvents (λ k. choice (suc k)) v (nodeNext n x) xs
+nodeEvents choice v n (x ∷ xs) =
+    eventIn (choice 0) v n (viewOf x .time) (length (viewOf x .lent)) (viewOf x .sizes)
+    ∷ nodeEvents (λ k. choice (suc k)) v (outcomeOf n x .node) xs

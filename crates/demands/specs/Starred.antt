@@ -2,28 +2,30 @@
 -- neighbour 10.0.0.2.
 use Prim.Native.Nat.{ℕ, _-_}
 use mathlib.Core.Path.{_≡_}
-use mathlib.Core.Bool.{false}
+use mathlib.Core.Bool.{true, false}
 use mathlib.Core.List.{List, [], _∷_, _++_}
 use lib.ListN.{getD, replicate}
 use Rattle.checksum.specs.Sum.{onesSum, onesComplement}
-use Rattle.address.specs.Address.{linkLocalOf}
+use Rattle.address.specs.Address.{quadOf, linkLocalOf}
 use Rattle.refusals.specs.Given.{Given, answered, refused}
 use Rattle.refusals.specs.declared.Refusal.the-variants.{SizeUnusable, SizeNotBelow, OuterSourceWrong}
 use Rattle.header.specs.Wrap.{be16, be32, outerBytes}
 use Rattle.settings.specs.Locators.{noLocator}
-use Rattle.settings.specs.Settings.{defaultsFor}
+use Rattle.settings.specs.Settings.{defaultsFor, isAccepted}
 use Rattle.settings.specs.declared.Settings.{Settings}
-use Rattle.node.specs.Node.{nodeOf, pathSize}
+use Rattle.node.specs.Node.{setupOf, pathSize}
 use Rattle.node.specs.declared.Node.{Node}
-use Rattle.demands.specs.Calls.{NodeCall, receiving, sending, reporting, asking, givenTo, outputOf, nodeAfter}
+use Rattle.demands.specs.Calls.{NodeCall, receiving, sending, reporting, asking, outcomeOf, nodeAfter}
 
--- 10.0.0.1, our locator; 10.0.0.2, the neighbour
+-- our locator
 abbrev us : ℕ
-us = 167772161
+us = quadOf 10 0 0 1
 
+-- the neighbour
 abbrev neighbour : ℕ
-neighbour = 167772162
+neighbour = quadOf 10 0 0 2
 
+-- the settings of the program's example
 abbrev settings : Settings
 settings =
     defaultsFor (record { address = us; interface = 0 } ∷ replicate 7 noLocator) 1 (replicate 64 0) 0 (replicate 16 0) 0
@@ -31,44 +33,53 @@ settings =
 -- an ICMPv4 report of a size, that quotes a datagram of ours of a total length to the neighbour
 abbrev reportWith : ℕ → ℕ → ℕ → List ℕ
 reportWith sum size total =
-    3 ∷ 4 ∷ be16 sum (be16 0 (be16 size (69 ∷ 0 ∷ be16 total (0 ∷ 1 ∷ 0 ∷ 0 ∷ 64 ∷ 41 ∷ be16 0 (be32 us (be32 neighbour []))))))
+    3 ∷ 4 ∷ be16 sum (be16 0 (be16 size (0x45 ∷ 0 ∷ be16 total (0 ∷ 1 ∷ 0 ∷ 0 ∷ 64 ∷ 41 ∷ be16 0 (be32 us (be32 neighbour []))))))
 
+-- the call with that report, its checksum right
 abbrev report : ℕ → ℕ → NodeCall
 report size total = reporting (reportWith (onesComplement (onesSum (reportWith 0 size total))) size total) 0
 
--- a packet of n bytes to the neighbour, into an output of 2,000 bytes
+-- a packet of n bytes to the neighbour
 abbrev packet : ℕ → List ℕ
-packet n = 96 ∷ 0 ∷ 0 ∷ 0 ∷ be16 (n - 40) (59 ∷ 64 ∷ linkLocalOf us ++ (linkLocalOf neighbour ++ replicate (n - 40) 0))
+packet n = 0x60 ∷ 0 ∷ 0 ∷ 0 ∷ be16 (n - 40) (59 ∷ 64 ∷ linkLocalOf us ++ (linkLocalOf neighbour ++ replicate (n - 40) 0))
 
+-- the sending of such a packet, into an output of 2,000 bytes
 abbrev send : ℕ → NodeCall
 send n = sending (packet n) (linkLocalOf neighbour) 0 0 (replicate 2000 0)
 
--- a datagram of 60 bytes from the neighbour, whose inner source's identifier begins with a byte b
+-- an inner packet from the neighbour, whose source's identifier begins with a byte b
 abbrev inner : ℕ → List ℕ
-inner b = 96 ∷ 0 ∷ 0 ∷ 0 ∷ 0 ∷ 0 ∷ 59 ∷ 64 ∷ 254 ∷ 128 ∷ 0 ∷ 0 ∷ 0 ∷ 0 ∷ 0 ∷ 0 ∷ b ∷ 0 ∷ 94 ∷ 254 ∷ be32 neighbour (linkLocalOf us)
+inner b =
+    0x60 ∷ 0 ∷ 0 ∷ 0 ∷ 0 ∷ 0 ∷ 59 ∷ 64 ∷ 0xFE ∷ 0x80 ∷ 0 ∷ 0 ∷ 0 ∷ 0 ∷ 0 ∷ 0 ∷ b ∷ 0 ∷ 0x5E ∷ 0xFE ∷ be32 neighbour (linkLocalOf us)
 
+-- the datagram of 60 bytes that wraps it
 abbrev datagram : ℕ → List ℕ
 datagram b = 0x45 ∷ 0x00 ∷ 0x00 ∷ 0x3C ∷ 0x00 ∷ 0x01 ∷ 0x00 ∷ 0x00 ∷ 0x40 ∷ 0x29 ∷ 0x66 ∷ 0x96 ∷ be32 neighbour (be32 us (inner b))
 
--- what the last of some calls gets on a fresh node
+-- what is given back to the call after some others
 abbrev pub givenLast : Node → List NodeCall → NodeCall → Given
-givenLast n calls x = givenTo (nodeAfter n calls) x
+givenLast n calls x = outcomeOf (nodeAfter n calls) x .given
 
--- the byte of the flags that it writes
+-- the byte of the flags that it writes into the outer header
 abbrev pub flagsLast : Node → List NodeCall → NodeCall → ℕ
-flagsLast n calls x = getD (outputOf (nodeAfter n calls) x) 6 0
+flagsLast n calls x = getD (outcomeOf (nodeAfter n calls) x .output) 6 0
 
+-- the node that these settings make
 abbrev node : Node
-node = nodeOf settings
+node = setupOf settings .node
 
 -- 14, with the size it names; the message is of 1,280 bytes
 abbrev tooBig : ℕ → Given
 tooBig size = record { number = 14; values = size ∷ 1280 ∷ [] }
 
-abbrev accepted : ℕ → Given
-accepted size = answered (neighbour ∷ size ∷ [])
+-- a report of the neighbour, with the size that is accepted
+abbrev reported : ℕ → Given
+reported size = answered (neighbour ∷ size ∷ [])
 
+-- the starred values, on that node
 pub record Starred : Type 0 where
+  -- the settings keep the rules, so this is a node of them
+  pub accepted : isAccepted settings ≡ true
   -- P 1,300: n 1,280 wrapped, flag clear; 1,281 gives M 1,280
   pub path1300 : (givenLast node (report 1300 1500 ∷ []) (send 1280) ≡ answered (1300 ∷ []))
       × (flagsLast node (report 1300 1500 ∷ []) (send 1280) ≡ 0)
@@ -83,12 +94,12 @@ pub record Starred : Type 0 where
   pub path600 : (givenLast node (report 600 1500 ∷ []) (send 1280) ≡ answered (1300 ∷ []))
       × (flagsLast node (report 600 1500 ∷ []) (send 1280) ≡ 0)
   -- candidate 0: quoted 1,500 gives 1,492; 1,492 gives 1,006; 69 gives 68; 68 is 18
-  pub plateaus : (givenLast node [] (report 0 1500) ≡ accepted 1492)
-      × (givenLast node [] (report 0 1492) ≡ accepted 1006)
-      × (givenLast node [] (report 0 69) ≡ accepted 68)
+  pub plateaus : (givenLast node [] (report 0 1500) ≡ reported 1492)
+      × (givenLast node [] (report 0 1492) ≡ reported 1006)
+      × (givenLast node [] (report 0 69) ≡ reported 68)
       × (givenLast node [] (report 0 68) ≡ refused SizeUnusable)
   -- size 68 accepted, 67 is 18, 1,500 is 19
-  pub sizes : (givenLast node [] (report 68 1500) ≡ accepted 68)
+  pub sizes : (givenLast node [] (report 68 1500) ≡ reported 68)
       × (givenLast node [] (report 67 1500) ≡ refused SizeUnusable)
       × (givenLast node [] (report 1500 1500) ≡ refused SizeNotBelow)
   -- accepted at 1,000: in force at 1,599, gone at 1,600

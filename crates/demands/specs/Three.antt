@@ -18,6 +18,7 @@ module _ (s : Settings) (calls : List NodeCall) where
   abbrev pub start : Node
   start = setupOf s .node
 
+  -- what demand 3 says of a list of calls on it
   pub record Holds : Type 0 where
     -- every report gets the record's answer, and every sending the answer of the rules for the record's size toward the tunnel
     -- end: 14, with the size it names, exactly as they say

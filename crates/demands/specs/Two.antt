@@ -1,55 +1,112 @@
--- Demand 2 at the node: each call does exactly what the rules say, with the settings, the router list and the path size that are
--- in force. The rules stand as records of plain facts beside the definitions of each call.
+-- Demand 2 at the node: each call does exactly what the rules say, with the settings, the router list and the path size that are in force
+-- at the call's time. The rules stand as plain facts over bytes and members beside each call; here each call of the node is joined to them.
 use Prim.Native.Nat.{ℕ, _≤_, max}
 use mathlib.Core.Path.{_≡_}
-use mathlib.Core.List.{List}
-use lib.ListN.{length}
-use Rattle.messages.specs.Icmp.{solicitationLength}
-use Rattle.routers.specs.Routers.{live, nextOf}
-use Rattle.routers.specs.declared.Next.the-variants.{Due}
-use Rattle.settings.specs.Locators.{locatorFound}
-use Rattle.settings.specs.declared.locators.Found.the-variants.{Address}
-use Rattle.reports.specs.Accepts as reports
-use Rattle.reports.specs.Report.{judgedOf, answerAt}
-use Rattle.sending.specs.Wraps.{WrappedExactly}
-use Rattle.receiving.specs.Admitted.{DeliveredExactly, delivered}
-use Rattle.asking.specs.Answered.{Answered}
-use Rattle.asking.specs.declared.AskAnswer.the-variants as ask
-use Rattle.hearing.specs.Accepted as hearing
-use Rattle.hearing.specs.declared.HeardAnswer.the-variants as hear
-use Rattle.node.specs.Node.{pathSizeAt}
-use Rattle.node.specs.Receive.{partIn}
-use Rattle.node.specs.Send.{pathSizeToward}
-use Rattle.node.specs.Report.{neighbourIn, reportAnswerOf}
-use Rattle.node.specs.Ask.{askOf}
+use mathlib.Core.List.{List, [], _∷_, List·Memᴰ}
+use lib.ListN.{length, take}
+use Rattle.lists.specs.Any.{Some}
+use Rattle.refusals.specs.declared.Refusal.the-variants as refusal
+use Rattle.routers.specs.Routers.{live, replacedOf}
+use Rattle.settings.specs.Facts.{BadEnd}
+use Rattle.settings.specs.declared.Settings.{Settings}
+use Rattle.reports.specs.Accepts.{answerToward, ReportedExactly}
+use Rattle.sending.specs.Exactly.{SentExactly}
+use Rattle.sending.specs.Sending.{sentOf, sentOutput}
+use Rattle.receiving.specs.Admitted.{DeliveredExactly}
+use Rattle.receiving.specs.Receive.{receivedOf, partOf}
+use Rattle.asking.specs.Ask.{askedOf, askedOutput}
+use Rattle.asking.specs.Facts.{AskedExactly}
+use Rattle.hearing.specs.Facts.{HeardExactly}
+use Rattle.hearing.specs.Heard.{heardOf}
+use Rattle.node.specs.Node.{nodeWith, raisedTo, pathSizeAt}
+use Rattle.node.specs.Receive.{receiveOf, partIn}
+use Rattle.node.specs.Send.{pathSizeToward, withIdentification, sendOf, sendOutput}
+use Rattle.node.specs.Report.{pathsAfter, reportOf}
+use Rattle.node.specs.RouterList.{withRouters, replaceOf}
+use Rattle.node.specs.Ask.{askOf, askOutput}
 use Rattle.node.specs.Hear.{hearOf}
 use Rattle.node.specs.declared.Node.{Node}
+use Rattle.node.specs.declared.router_list.ListAnswer.the-variants as list
 
-pub record Exactly (n : Node) : Type 0 where
-  -- a datagram is delivered exactly when the rules of 2 to 10 admit it, and then as the inner packet, unchanged
-  pub receives : (d : List ℕ) (interface : ℕ) → DeliveredExactly (n .service .settings) (live (n .service .routers)) d interface
-  pub part : (d : List ℕ) (interface : ℕ) → partIn n d interface ≡ delivered (n .service .settings) (live (n .service .routers)) d interface
-  -- a packet is wrapped exactly when the rules of sending hold for the path size in force, and then those bytes are written
-  pub sends : (packet hop : List ℕ) (k time : ℕ) (out : List ℕ)
-      → WrappedExactly (n .service .settings) (n .service .identification) (pathSizeToward n hop time) packet hop k out
-  -- a report is accepted exactly when 16 to 19 do not hold at the size in force toward its neighbour
-  pub reports : (m : List ℕ) (now v c : ℕ)
-      → reports.AcceptedExactly (n .service .settings) m (pathSizeAt n (neighbourIn (judgedOf (n .service .settings) m)) now) v c
-  pub judged : (m : List ℕ) (now : ℕ)
-      → reportAnswerOf n m now ≡ answerAt (judgedOf (n .service .settings) m) (pathSizeAt n (neighbourIn (judgedOf (n .service .settings) m)) now)
-  -- an asking names a router exactly if the rules hold, and then the solicitation is written and the router is due after the interval
-  pub asks : (k time : ℕ) (out : List ℕ) (router : ℕ) → askOf n k time (length out) .answer ≡ ask.Router router
-      → Answered (n .service .settings) (n .service .routers) (max (n .latest) time) k out router
-  pub asked : (k time : ℕ) (out : List ℕ) (from router : ℕ)
-      → locatorFound (n .service .settings .locators) (n .service .settings .«locator_count») k ≡ Address from
-      → nextOf (max (n .latest) time) (live (n .service .routers)) ≡ Due router
-      → solicitationLength ≤ length out
-      → askOf n k time (length out) .answer ≡ ask.Router router
-  -- an advertisement is accepted exactly when it is valid and its source embeds a listed router
-  pub hears : (packet : List ℕ) (time router : ℕ) → hearOf n packet time .answer ≡ hear.Router router
-      → hearing.Accepts (n .service .settings) (n .service .routers) (max (n .latest) time) packet router
-  pub heard : (packet : List ℕ) (time router : ℕ)
-      → hearing.Accepts (n .service .settings) (n .service .routers) (max (n .latest) time) packet router → hearOf n packet time .answer ≡ hear.Router router
+-- no address stands twice
+abbrev pub Distinct : List ℕ → Type 0
+Distinct [] = Unit {0}
+Distinct (a ∷ bs) = (List·Memᴰ a bs → ⊥) × Distinct bs
 
+-- the first `count` of the addresses may be the router list: 0 to 16, distinct, none forbidden and none a locator address
+pub record RightList (s : Settings) (addresses : List ℕ) (count : ℕ) : Type 0 where
+  pub few : count ≤ 16
+  pub distinct : Distinct (take count addresses)
+  pub allowed : Some (BadEnd s) (take count addresses) → ⊥
+
+module _ (n : Node) where
+  -- a datagram is delivered exactly when the rules of 2 to 10 admit it, and then as the inner packet, unchanged; otherwise the first of the
+  -- numbers is given whose fact holds
+  pub record Receives (d : List ℕ) (interface : ℕ) : Type 0 where
+    pub number : receiveOf n d interface ≡ receivedOf (n .service .settings) (live (n .service .routers)) d interface
+    pub part : partIn n d interface ≡ partOf (receivedOf (n .service .settings) (live (n .service .routers)) d interface) d
+    pub exactly : DeliveredExactly (n .service .settings) (live (n .service .routers)) d interface
+
+  -- a packet is wrapped, answered by 14 or refused exactly when the rules say so of the path size in force toward the tunnel end; then that is
+  -- written, and the next identification is the next node's
+  pub record Sends (packet hop : List ℕ) (k time : ℕ) (out : List ℕ) : Type 0 where
+    pub answer : sendOf n packet hop k time (length out) .answer
+        ≡ sentOf (n .service .settings) (n .service .identification) (pathSizeToward n hop time) packet hop k (length out) .answer
+    pub node : sendOf n packet hop k time (length out) .node
+        ≡ nodeWith n
+        (withIdentification (n .service)
+        (sentOf (n .service .settings) (n .service .identification) (pathSizeToward n hop time) packet hop k (length out) .identification))
+        (n .paths) time
+    pub output : sendOutput n packet hop k time out
+        ≡ sentOutput (n .service .settings) (n .service .identification) (pathSizeToward n hop time) packet hop k out
+    pub exactly : SentExactly (n .service .settings) (n .service .identification) (pathSizeToward n hop time) packet hop k out
+
+  -- a report is accepted exactly when 16 to 19 do not hold, at the size in force toward its neighbour; otherwise the first of them is given.
+  -- Then it is that neighbour's last
+  pub record Reports (m : List ℕ) (time : ℕ) : Type 0 where
+    pub answer : reportOf n m time .answer ≡ answerToward (n .service .settings) m (λ v. pathSizeAt n v (max (n .latest) time))
+    pub node : reportOf n m time .node ≡ nodeWith n (n .service) (pathsAfter (reportOf n m time .answer) (n .paths) (max (n .latest) time)) time
+    pub exactly : ReportedExactly (n .service .settings) m (λ v. pathSizeAt n v (max (n .latest) time))
+
+  -- an asking is answered exactly when a router may be asked at the latest time; then the solicitation is written, and that router alone is
+  -- due after the interval
+  pub record Asks (k time : ℕ) (out : List ℕ) : Type 0 where
+    pub answer : askOf n k time (length out) .answer
+        ≡ askedOf (n .service .settings) (n .service .routers) (max (n .latest) time) k (length out) .answer
+    pub node : askOf n k time (length out) .node
+        ≡ nodeWith n
+        (withRouters (n .service) (askedOf (n .service .settings) (n .service .routers) (max (n .latest) time) k (length out) .routers)) (n .paths) time
+    pub output : askOutput n k time out ≡ askedOutput (n .service .settings) (n .service .routers) (max (n .latest) time) k out
+    pub exactly : AskedExactly (n .service .settings) (n .service .routers) (max (n .latest) time) k out
+
+  -- an advertisement is accepted exactly when it is valid and its source embeds a listed router; then that router alone is due when the
+  -- lifetimes say
+  pub record Hears (packet : List ℕ) (time : ℕ) : Type 0 where
+    pub answer : hearOf n packet time .answer ≡ heardOf (n .service .settings) (n .service .routers) (max (n .latest) time) packet .answer
+    pub node : hearOf n packet time .node
+        ≡ nodeWith n (withRouters (n .service) (heardOf (n .service .settings) (n .service .routers) (max (n .latest) time) packet .routers)) (n .paths) time
+    pub exactly : HeardExactly (n .service .settings) (n .service .routers) (max (n .latest) time) packet
+
+  -- a new router list is taken exactly when it keeps the rules; otherwise 1 is given
+  pub record Relists (addresses : List ℕ) (count time : ℕ) : Type 0 where
+    pub taken : RightList (n .service .settings) addresses count
+        → replaceOf n addresses count time
+        ≡ record {
+          answer = list.Replaced;
+          node = nodeWith n (withRouters (n .service) (replacedOf addresses count (max (n .latest) time) (n .service .routers))) (n .paths) time;
+        }
+    pub refused : (RightList (n .service .settings) addresses count → ⊥)
+        → replaceOf n addresses count time ≡ record { answer = list.Refused refusal.Settings; node = raisedTo n time }
+
+  -- every call on the node
+  pub record Exactly : Type 0 where
+    pub receives : (d : List ℕ) (interface : ℕ) → Receives d interface
+    pub sends : (packet hop : List ℕ) (k time : ℕ) (out : List ℕ) → Sends packet hop k time out
+    pub reports : (m : List ℕ) (time : ℕ) → Reports m time
+    pub relists : (addresses : List ℕ) (count time : ℕ) → Relists addresses count time
+    pub asks : (k time : ℕ) (out : List ℕ) → Asks k time out
+    pub hears : (packet : List ℕ) (time : ℕ) → Hears packet time
+
+-- of every node
 unfoldable pub DemandTwo : Type 0
 DemandTwo = (n : Node) → Exactly n

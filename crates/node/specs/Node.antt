@@ -5,6 +5,7 @@ use mathlib.Core.List.{[]}
 use lib.ListN.{replicate}
 use Rattle.paths.specs.Kept.{inForce}
 use Rattle.paths.specs.Table.{noReports, keptIn}
+use Rattle.paths.specs.declared.PathTable.{PathTable}
 use Rattle.refusals.specs.Given.{Given, answered, refused}
 use Rattle.refusals.specs.declared.Refusal.the-variants as refusal
 use Rattle.routers.specs.Routers.{newOf}
@@ -12,6 +13,7 @@ use Rattle.settings.specs.Locators.{noLocator}
 use Rattle.settings.specs.Settings.{isAccepted}
 use Rattle.settings.specs.declared.Settings.{Settings}
 use Rattle.node.specs.declared.Node.{Node}
+use Rattle.node.specs.declared.Service.{Service}
 use Rattle.node.specs.declared.Setup.{Setup}
 use Rattle.node.specs.declared.SetupAnswer.{SetupAnswer}
 use Rattle.node.specs.declared.SetupAnswer.the-variants.{Made, Refused}
@@ -50,9 +52,14 @@ unfoldable pub setupOf : Settings → Setup
 setupOf s =
     cond (isAccepted s) (record { answer = Made; node = nodeOf s }) (record { answer = Refused refusal.Settings; node = nodeOf noSettings })
 
--- "an earlier one is read as the latest"
+-- the next node of a call with a time: the service and the path sizes that the call leaves, and the latest time raised; "an earlier one
+-- is read as the latest"
+abbrev pub nodeWith : Node → Service → PathTable → ℕ → Node
+nodeWith node service paths time = record { service = service; paths = paths; latest = max (node .latest) time }
+
+-- what a call leaves that changes nothing but the latest time
 unfoldable pub raisedTo : Node → ℕ → Node
-raisedTo node time = record { service = node .service; paths = node .paths; latest = max (node .latest) time }
+raisedTo node time = nodeWith node (node .service) (node .paths) time
 
 -- the size in force toward a neighbour at a time
 unfoldable pub pathSizeAt : Node → ℕ → ℕ → ℕ

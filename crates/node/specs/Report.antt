@@ -3,19 +3,13 @@ use Prim.Native.Nat.{ℕ, max}
 use mathlib.Core.List.{List}
 use Rattle.paths.specs.Table.{tableAfter}
 use Rattle.paths.specs.declared.PathTable.{PathTable}
-use Rattle.reports.specs.Report.{judgedOf, answerAt}
+use Rattle.reports.specs.Report.{judgedOf, neighbourIn, answerAt}
 use Rattle.reports.specs.declared.Judged.{Judged}
-use Rattle.reports.specs.declared.Judged.the-variants as judged
 use Rattle.reports.specs.declared.ReportAnswer.{ReportAnswer}
 use Rattle.reports.specs.declared.ReportAnswer.the-variants.{Accepted, Refused}
-use Rattle.node.specs.Node.{pathSizeAt}
+use Rattle.node.specs.Node.{nodeWith, pathSizeAt}
 use Rattle.node.specs.declared.Node.{Node}
 use Rattle.node.specs.declared.report.Reported.{Reported}
-
--- the neighbour of a report that 16, 17 and 18 pass
-abbrev pub neighbourIn : Judged → ℕ
-neighbourIn (judged.Report v c) = v
-neighbourIn (judged.Refused r) = 0
 
 -- an accepted report is the neighbour's last
 abbrev pub pathsAfter : ReportAnswer → PathTable → ℕ → PathTable
@@ -28,8 +22,9 @@ reportAnswerOf node m now =
     let j : Judged = judgedOf (node .service .settings) m in
     answerAt j (pathSizeAt node (neighbourIn j) now)
 
+-- the answer and the next node, whose path sizes are those that the report leaves
 unfoldable pub reportOf : Node → List ℕ → ℕ → Reported
 reportOf node m time =
     let now : ℕ = max (node .latest) time in
     let a : ReportAnswer = reportAnswerOf node m now in
-    record { answer = a; node = record { service = node .service; paths = pathsAfter a (node .paths) now; latest = now } }
+    record { answer = a; node = nodeWith node (node .service) (pathsAfter a (node .paths) now) time }

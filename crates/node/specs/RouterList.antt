@@ -7,7 +7,7 @@ use Rattle.refusals.specs.declared.Refusal.the-variants as refusal
 use Rattle.routers.specs.Routers.{replacedOf}
 use Rattle.routers.specs.declared.RouterList.{RouterList}
 use Rattle.settings.specs.Settings.{areRoutersRight}
-use Rattle.node.specs.Node.{raisedTo}
+use Rattle.node.specs.Node.{nodeWith, raisedTo}
 use Rattle.node.specs.declared.Node.{Node}
 use Rattle.node.specs.declared.Service.{Service}
 use Rattle.node.specs.declared.router_list.ListAnswer.{ListAnswer}
@@ -23,13 +23,13 @@ listGiven (Refused r) = refused r
 abbrev pub withRouters : Service → RouterList → Service
 withRouters service routers = record { settings = service .settings; routers = routers; identification = service .identification }
 
--- the node with its latest time raised and another router list
-abbrev pub relisted : Node → ℕ → RouterList → Node
-relisted node time routers = record { service = withRouters (node .service) routers; paths = node .paths; latest = max (node .latest) time }
-
 -- 1: the new list breaks the rules; else a router in both lists keeps its due time, a new one is due now
 unfoldable pub replaceOf : Node → List ℕ → ℕ → ℕ → replaced.Replaced
 replaceOf node addresses count time =
     cond (areRoutersRight (node .service .settings) addresses count)
-    (record { answer = Replaced; node = relisted node time (replacedOf addresses count (max (node .latest) time) (node .service .routers)) })
+    (record {
+      answer = Replaced;
+      node =
+          nodeWith node (withRouters (node .service) (replacedOf addresses count (max (node .latest) time) (node .service .routers))) (node .paths) time;
+    })
     (record { answer = Refused refusal.Settings; node = raisedTo node time })

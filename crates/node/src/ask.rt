@@ -12,7 +12,7 @@ pub struct Asked {
 }
 
 impl Node {
-    pub fn ask(mut self, locator: usize, time: u32, out: &mut [u8]) -> Asked
+    pub fn ask(self, locator: usize, time: u32, out: &mut [u8]) -> Asked
         ensures { λ r. ⌜ r ≡ askOf self locator time (length (now (out .entry))) ⌝ }
         ensures { λ _. ⌜ now (out .exit) ≡ askOutput self locator time (now (out .entry)) ⌝ }
     {
@@ -23,9 +23,8 @@ impl Node {
         let asked = asking::ask(settings, old, now, locator, out);
         let routers = asked.routers;
         service.routers = routers;
-        self.service = service;
-        self.latest = now;
         let answer = asked.answer;
-        Asked { answer, node: self }
+        let node = self.put_back(service, time);
+        Asked { answer, node }
     }
 }

@@ -11,7 +11,7 @@ pub struct Heard {
 }
 
 impl Node {
-    pub fn hear(mut self, packet: &[u8], time: u32) -> Heard
+    pub fn hear(self, packet: &[u8], time: u32) -> Heard
         ensures { λ r. ⌜ r ≡ hearOf self (now (packet .entry)) time ⌝ }
     {
         let now = later(self.latest, time);
@@ -21,9 +21,8 @@ impl Node {
         let heard = hearing::hear(settings, old, now, packet);
         let routers = heard.routers;
         service.routers = routers;
-        self.service = service;
-        self.latest = now;
         let answer = heard.answer;
-        Heard { answer, node: self }
+        let node = self.put_back(service, time);
+        Heard { answer, node }
     }
 }

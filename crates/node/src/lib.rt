@@ -13,7 +13,8 @@ use settings::Settings;
 use settings::locators::Locator;
 ghost use mathlib.Core.Path.{_≡_};
 ghost use Prim.Native.Nat.{max};
-ghost use Rattle.node.specs.Node.{noSettings, nodeOf, setupGiven, setupOf, raisedTo, pathSizeAt, pathSize};
+ghost use lib.ListN.{length};
+ghost use Rattle.node.specs.Node.{noSettings, nodeOf, setupGiven, setupOf, nodeWith, pathSizeAt, pathSize};
 
 // What one service of a node owns.
 #[repr(C)]
@@ -122,10 +123,13 @@ impl Node {
         }
     }
 
-    // The node with its latest time raised: what a call leaves that changes nothing else.
-    fn raised(mut self, time: u32) -> Node
-        ensures { λ r. ⌜ r ≡ raisedTo self time ⌝ }
+    // The next node of a call with a time, once its service is done: every call builds it here. That a reporting address has 16
+    // bytes, which demand 1 names, is its type: it is shown here of every node.
+    fn put_back(mut self, service: Service, time: u32) -> Node
+        ensures { λ r. ⌜ r ≡ nodeWith self service (self .paths) time ⌝ }
+        ensures { λ _. ⌜ length (self .service .settings .reporting) ≡ 16 ⌝ }
     {
+        self.service = service;
         self.latest = later(self.latest, time);
         self
     }

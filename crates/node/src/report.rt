@@ -5,7 +5,8 @@ use paths::PathTable;
 use reports::Judged;
 use reports::ReportAnswer;
 ghost use mathlib.Core.Path.{_≡_};
-ghost use Rattle.node.specs.Report.{neighbourIn, pathsAfter, reportOf};
+ghost use Rattle.reports.specs.Report.{neighbourIn};
+ghost use Rattle.node.specs.Report.{pathsAfter, reportOf};
 
 pub struct Reported {
     pub answer: ReportAnswer,
@@ -44,7 +45,7 @@ impl Node {
         let table = self.paths;
         let paths = paths_after(answer, table, now);
         self.paths = paths;
-        self.latest = now;
-        Reported { answer, node: self }
+        let node = self.put_back(service, time);
+        Reported { answer, node }
     }
 }

@@ -29,26 +29,26 @@ impl ListAnswer {
 
 impl Node {
     // The first `count` of the addresses are the router list from now on.
-    pub fn replace_routers(mut self, addresses: [u32; 16], count: usize, time: u32) -> Replaced
+    pub fn replace_routers(self, addresses: [u32; 16], count: usize, time: u32) -> Replaced
         ensures { λ r. ⌜ r ≡ replaceOf self addresses count time ⌝ }
     {
         let now = later(self.latest, time);
         let mut service = self.service;
         let settings = service.settings;
-        self.latest = now;
         if settings.routers_right(addresses, count) {
             let old = service.routers;
             let routers = old.replaced(addresses, count, now);
             service.routers = routers;
-            self.service = service;
+            let node = self.put_back(service, time);
             return Replaced {
                 answer: ListAnswer::Replaced,
-                node: self,
+                node,
             };
         }
+        let node = self.put_back(service, time);
         Replaced {
             answer: ListAnswer::Refused(Refusal::Settings),
-            node: self,
+            node,
         }
     }
 }

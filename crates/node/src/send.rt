@@ -13,7 +13,7 @@ pub struct Sent {
 
 impl Node {
     pub fn send(
-        mut self,
+        self,
         packet: &[u8],
         next_hop: [u8; 16],
         locator: usize,
@@ -37,9 +37,8 @@ impl Node {
             out,
         );
         service.identification = sent.identification;
-        self.service = service;
-        self.latest = now;
         let answer = sent.answer;
-        Sent { answer, node: self }
+        let node = self.put_back(service, time);
+        Sent { answer, node }
     }
 }

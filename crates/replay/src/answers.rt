@@ -1,7 +1,7 @@
 // The line of each answer.
 use crate::line::Line;
-use hearing::HeardAnswer;
 use asking::AskAnswer;
+use hearing::HeardAnswer;
 use node::router_list::ListAnswer;
 use receiving::Received;
 use reports::ReportAnswer;

@@ -6,9 +6,12 @@ use Rattle.node.proofs.Node.ask.Tie as tie
 
 returns : tie.Need-returns
 unfolding askOf askedBy askOutput
-returns c = (rw (c .before .before .before .ask .ensures .0, c .before .before .before .before .before .before .before .before .later .ensures), rw (c .before .before .before .ask .ensures .1, c .before .before .before .before .before .before .before .before .later .ensures))
+returns c =
+    let d = c .before .before .before .before in
+    let at = d .before .before .before .before .before .later .ensures in
+    (rw (c .put-back .ensures .0, d .ask .ensures .0, at), rw (d .ask .ensures .1, at))
 
 pub ask-spec : {M : Type 1} → statement M
 ask-spec =
     tie.close
-    (tie.spec (omega arith) (omega arith) (omega arith) returns)
+    (tie.spec (omega arith) (omega arith) (omega arith) (omega arith) returns)

@@ -6,9 +6,11 @@ use Rattle.node.proofs.Node.hear.Tie as tie
 
 returns : tie.Need-returns
 unfolding hearOf heardBy
-returns c = rw (c .before .hear .ensures, c .before .before .before .before .before .later .ensures)
+returns c =
+    let d = c .before .before in
+    rw (c .put-back .ensures .0, d .hear .ensures, d .before .before .before .before .later .ensures)
 
 pub hear-spec : {M : Type 1} → statement M
 hear-spec =
     tie.close
-    (tie.spec (omega arith) (omega arith) returns)
+    (tie.spec (omega arith) (omega arith) (omega arith) returns)

@@ -7,13 +7,17 @@ use Rattle.node.proofs.Node.replace_routers.Tie as tie
 
 returns : tie.Need-returns
 unfolding replaceOf
-returns c = simp (← c .before .before .before .routers-right .ensures, c .before .before .if1 .taken, c .replaced .ensures, c .before .before .before .before .before .before .later .ensures)
+returns c =
+    let d = c .before .before .before .before in
+    simp (← d .routers-right .ensures, c .before .before .before .if1 .taken, c .put-back .ensures .0, c .before .replaced .ensures, d .before .before .before .later .ensures)
 
 returns-2 : tie.Need-returns-2
 unfolding replaceOf raisedTo
-returns-2 c = simp (← c .before .routers-right .ensures, c .if1 .left, c .before .before .before .before .later .ensures)
+returns-2 c =
+    let d = c .before .before in
+    simp (← d .routers-right .ensures, c .before .if1 .left, c .put-back2 .ensures .0)
 
 pub replace-routers-spec : {M : Type 1} → statement M
 replace-routers-spec =
     tie.close
-    (tie.spec (omega arith) (omega arith) (omega arith) returns returns-2)
+    (tie.spec (omega arith) (omega arith) (omega arith) (omega arith) returns (omega arith) returns-2)

@@ -6,9 +6,11 @@ use Rattle.node.proofs.Node.report.Tie as tie
 
 returns : tie.Need-returns
 unfolding reportOf reportAnswerOf
-returns c = rw (c .paths-after .ensures, c .before .before .answer .ensures, c .before .before .before .size-at .ensures, c .before .before .before .before .neighbour-in .ensures, c .before .before .before .before .before .judge .ensures, c .before .before .before .before .before .before .before .before .later .ensures)
+returns c =
+    let d = c .before in
+    rw (c .put-back .ensures .0, d .paths-after .ensures, d .before .before .answer .ensures, d .before .before .before .size-at .ensures, d .before .before .before .before .neighbour-in .ensures, d .before .before .before .before .before .judge .ensures, d .before .before .before .before .before .before .before .before .later .ensures)
 
 pub report-spec : {M : Type 1} → statement M
 report-spec =
     tie.close
-    (tie.spec (omega arith) (omega arith) (omega arith) (omega arith) (omega arith) (omega arith) returns)
+    (tie.spec (omega arith) (omega arith) (omega arith) (omega arith) (omega arith) (omega arith) (omega arith) returns)

@@ -6,9 +6,14 @@ use Rattle.node.proofs.Node.send.Tie as tie
 
 returns : tie.Need-returns
 unfolding sendOf sentBy sendOutput
-returns c = (rw (c .before .before .send .ensures .0, c .before .before .before .before .before .before .size-at .ensures, c .before .before .before .before .before .before .before .last-quad .ensures, c .before .before .before .before .before .before .before .before .later .ensures), rw (c .before .before .send .ensures .1, c .before .before .before .before .before .before .size-at .ensures, c .before .before .before .before .before .before .before .last-quad .ensures, c .before .before .before .before .before .before .before .before .later .ensures))
+returns c =
+    let d = c .before .before .before in
+    let size = d .before .before .before .before .size-at .ensures in
+    let end = d .before .before .before .before .before .last-quad .ensures in
+    let at = d .before .before .before .before .before .before .later .ensures in
+    (rw (c .put-back .ensures .0, d .send .ensures .0, size, end, at), rw (d .send .ensures .1, size, end, at))
 
 pub send-spec : {M : Type 1} → statement M
 send-spec =
     tie.close
-    (tie.spec (omega arith) (omega arith) (omega arith) (omega arith) (omega arith) returns)
+    (tie.spec (omega arith) (omega arith) (omega arith) (omega arith) (omega arith) (omega arith) returns)
