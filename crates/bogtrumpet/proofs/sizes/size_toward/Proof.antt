@@ -1,28 +1,10 @@
-use borrow.Author.Needs.{needs}
+-- `sizes::size_toward` meets its contract: `paths::size_among` toward the tunnel end, at the later time. Assumes nothing.
+use native.Mathlib.Omega.{arith}
 use Rattle.bogtrumpet.proofs.sizes.size_toward.Statement.{statement}
 use Rattle.bogtrumpet.proofs.sizes.size_toward.Tie as tie
-use Rattle.bogtrumpet.proofs.sizes.size_toward.Reads as reads
-use Rattle.bogtrumpet.proofs.sizes.size_toward.Lts as lts
-use Rattle.address.proofs.last_quad.Reads as last-quad-reads
-use Rattle.node.proofs.later.Reads as later-reads
-use Rattle.paths.proofs.size_among.Reads as size-among-reads
 
--- src/sizes.rt:38:9
-last-quad-requires : tie.Need-last-quad-requires
-last-quad-requires c κs = search needs
-
--- src/sizes.rt:39:9
-later-requires : tie.Need-later-requires
-later-requires c κs = search needs
-
--- src/sizes.rt:40:5
-size-among-requires : tie.Need-size-among-requires
-size-among-requires c κs = search needs
-
--- src/sizes.rt:25:1
 returns : tie.Need-returns
-returns c = ?
+returns c = rw (c .size-among .ensures, c .before .later .ensures, c .before .before .last-quad .ensures)
 
 pub size-toward-spec : {M : Type 1} → statement M
-size-toward-spec =
-    tie.close (tie.spec last-quad-requires later-requires size-among-requires returns)
+size-toward-spec = tie.close (tie.spec (omega arith) (omega arith) (omega arith) returns)
