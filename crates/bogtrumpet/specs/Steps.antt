@@ -27,6 +27,14 @@ sentStep node size packet hop k time room =
     let sent = sentOf (node .service .settings) (node .service .identification) size packet hop k room in
     record { answer = plainSent (sent .answer); identification = sent .identification; latest = max (node .latest) time }
 
+-- the node that a sending leaves: the next identification and the latest time are changed, and nothing else
+abbrev pub nodeAfter : Node → SentStep → Node
+nodeAfter node step = record {
+  service = record { settings = node .service .settings; routers = node .service .routers; identification = step .identification };
+  paths = node .paths;
+  latest = step .latest;
+}
+
 -- of a size report
 unfoldable pub reportedStep : Reported → ReportedStep
 reportedStep s = record { answer = plainReported (s .answer); node = s .node }

@@ -20,7 +20,9 @@ ghost use Rattle.node.specs.Receive.{receiveOf};
 ghost use Rattle.node.specs.Report.{reportOf};
 ghost use Rattle.node.specs.RouterList.{listGiven, replaceOf};
 ghost use Rattle.node.specs.Send.{sendOf, sendOutput, pathSizeToward};
+ghost use Rattle.sending.specs.Sending.{sentOutput};
 ghost use Rattle.bogtrumpet.specs.Answers.{defaultsOf, plainReceived, plainSent, plainReported, plainAsked, plainHeard};
+ghost use Rattle.bogtrumpet.specs.Steps.{sentStep, nodeAfter};
 
 // An IPv6 address.
 #[repr(C)]
@@ -104,7 +106,27 @@ fn size_toward(node: &Node, next_hop: Address, time: u32) -> u16
     )
 }
 
-// Sends a packet: Node::send. Of the node only the next identification and the latest time are written.
+// Sends a packet over a path of that size. Of the node only the next identification and the latest time are written.
+fn send_over(
+    node: &mut Node,
+    path_size: u16,
+    packet: &[u8],
+    next_hop: Address,
+    locator: usize,
+    time: u32,
+    out: &mut [u8],
+) -> Sent
+    ensures { λ r. ⌜ (r ≡ sentStep (now (node .entry)) «path_size» (now (packet .entry)) («next_hop» .bytes) locator time (length (now (out .entry))) .answer)
+        × (now (node .exit) ≡ nodeAfter (now (node .entry)) (sentStep (now (node .entry)) «path_size» (now (packet .entry)) («next_hop» .bytes) locator time (length (now (out .entry)))))
+        × (now (out .exit) ≡ sentOutput (now (node .entry) .service .settings) (now (node .entry) .service .identification) «path_size» (now (packet .entry)) («next_hop» .bytes) locator (now (out .entry))) ⌝ }
+{
+    let step = steps::sent(*node, path_size, packet, next_hop, locator, time, out);
+    node.service.identification = step.identification;
+    node.latest = step.latest;
+    step.answer
+}
+
+// Sends a packet: Node::send. The size is looked up over the lent rows of the path table before the node is handed by value.
 #[no_mangle]
 pub extern "C" fn bogtrumpet_send(
     node: &mut Node,
@@ -119,10 +141,7 @@ pub extern "C" fn bogtrumpet_send(
         × (now (out .exit) ≡ sendOutput (now (node .entry)) (now (packet .entry)) («next_hop» .bytes) locator time (now (out .entry))) ⌝ }
 {
     let size = size_toward(node, next_hop, time);
-    let step = steps::sent(*node, size, packet, next_hop, locator, time, out);
-    node.service.identification = step.identification;
-    node.latest = step.latest;
-    step.answer
+    send_over(node, size, packet, next_hop, locator, time, out)
 }
 
 // Takes a size report: Node::report.
