@@ -1,5 +1,1 @@
-pub mod Parts
-pub mod Rules
-pub mod Tables
-pub mod Worth
-pub mod Calls
+pub mod Loops

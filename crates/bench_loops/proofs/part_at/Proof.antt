@@ -2,7 +2,7 @@
 use Prim.Native.Nat.{ℕ, zero, suc, _+_, _-_, _*_, _%_, _<_, _≤_}
 use mathlib.Core.Path.{_≡_}
 use native.Mathlib.Omega.{arith}
-use Rattle.bench_loops.specs.Parts.{partAt}
+use Rattle.bench_loops.specs.Loops.{partAt}
 use Rattle.bench_loops.proofs.part_at.Statement.{statement}
 use Rattle.bench_loops.proofs.part_at.Tie as tie
 

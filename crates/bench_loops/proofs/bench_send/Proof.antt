@@ -4,9 +4,9 @@ use Prim.Native.Nat.{_≤_, _-_}
 use native.Mathlib.Numerals.{add-one}
 use native.Mathlib.Omega.{arith}
 use lib.ListN.{length}
-use Rattle.bench_loops.specs.Calls.{afterSending, sentMany, sentManyOutput}
-use Rattle.bench_loops.proofs.calls.bogtrumpet_send_many.Statement.{statement}
-use Rattle.bench_loops.proofs.calls.bogtrumpet_send_many.Tie as tie
+use Rattle.bench_loops.specs.Loops.{afterSending, sentMany, sentManyOutput}
+use Rattle.bench_loops.proofs.bench_send.Statement.{statement}
+use Rattle.bench_loops.proofs.bench_send.Tie as tie
 
 abbrev Inv-loop : tie.InvT-loop
 Inv-loop packets size locator time out₀ count hop next₀ sum₀ i₀ out next sum i = (i ≤ count) × (length out ≡ length out₀) × (next ≡ afterSending next₀ packets size hop locator time (length out₀) i) × (sum ≡ sentMany next₀ packets size hop locator time (length out₀) i) × (out ≡ sentManyOutput next₀ packets size hop locator time out₀ i)
@@ -30,7 +30,7 @@ returns c =
     let e : l .i ≡ c .before .before .before .before .before .args .count = omega arith in
     (rw (← e) (l .inv .3), rw (← e) (l .inv .4))
 
-pub bogtrumpet-send-many-spec : {M : Type 1} → statement M
-bogtrumpet-send-many-spec =
+pub bench-send-spec : {M : Type 1} → statement M
+bench-send-spec =
     tie.close
     (tie.spec Inv-loop μ-loop loop-holds (omega arith) (omega arith) (omega arith) (omega arith) (omega arith) (omega arith) loop-again (omega arith) returns)

@@ -4,9 +4,9 @@ use Prim.Native.Nat.{_≤_, _*_, _-_}
 use native.Mathlib.Numerals.{add-one}
 use native.Mathlib.Omega.{arith}
 use Rattle.paths.specs.Table.{keptIn}
-use Rattle.bench_loops.specs.Tables.{sizesToward}
-use Rattle.bench_loops.proofs.tables.bogtrumpet_path_sizes.Statement.{statement}
-use Rattle.bench_loops.proofs.tables.bogtrumpet_path_sizes.Tie as tie
+use Rattle.bench_loops.specs.Loops.{sizesToward}
+use Rattle.bench_loops.proofs.bench_lookup.Statement.{statement}
+use Rattle.bench_loops.proofs.bench_lookup.Tie as tie
 
 abbrev Inv-loop : tie.InvT-loop
 Inv-loop link first count now table sum₀ i₀ sum i = (i ≤ count) × (sum ≤ 65535 * i) × (sum ≡ sizesToward table link first now i)
@@ -28,7 +28,7 @@ returns c =
     let e : l .i ≡ c .before .before .args .count = omega arith in
     rw (← e) (l .inv .2)
 
-pub bogtrumpet-path-sizes-spec : {M : Type 1} → statement M
-bogtrumpet-path-sizes-spec =
+pub bench-lookup-spec : {M : Type 1} → statement M
+bench-lookup-spec =
     tie.close
     (tie.spec Inv-loop μ-loop (omega arith) (omega arith) (omega arith) (omega arith) (omega arith) (omega arith) (omega arith) loop-again returns)

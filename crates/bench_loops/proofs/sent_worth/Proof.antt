@@ -1,8 +1,8 @@
--- `bench_loops::worth::sent_worth` meets its contract: by cases on the answer. Assumes nothing.
+-- `bench_loops::sent_worth` meets its contract: by cases on the answer. Assumes nothing.
 use borrow.Author.Needs.{needs}
 use native.Mathlib.Omega.{arith}
-use Rattle.bench_loops.proofs.worth.sent_worth.Statement.{statement}
-use Rattle.bench_loops.proofs.worth.sent_worth.Tie as tie
+use Rattle.bench_loops.proofs.sent_worth.Statement.{statement}
+use Rattle.bench_loops.proofs.sent_worth.Tie as tie
 
 returns : tie.Need-returns
 returns c = rw (c .before .answer .given .1)

@@ -1,8 +1,8 @@
--- `bench_loops::worth::received_worth` meets its contract: by cases on the answer. Assumes nothing.
+-- `bench_loops::received_worth` meets its contract: by cases on the answer. Assumes nothing.
 use borrow.Author.Needs.{needs}
 use native.Mathlib.Omega.{arith}
-use Rattle.bench_loops.proofs.worth.received_worth.Statement.{statement}
-use Rattle.bench_loops.proofs.worth.received_worth.Tie as tie
+use Rattle.bench_loops.proofs.received_worth.Statement.{statement}
+use Rattle.bench_loops.proofs.received_worth.Tie as tie
 
 returns : tie.Need-returns
 returns c = rw (c .before .answer .given .1)

@@ -3,9 +3,9 @@ use mathlib.Core.Path.{_≡_, refl}
 use Prim.Native.Nat.{_≤_, _-_}
 use native.Mathlib.Numerals.{add-one}
 use native.Mathlib.Omega.{arith}
-use Rattle.bench_loops.specs.Calls.{receivedMany}
-use Rattle.bench_loops.proofs.calls.bogtrumpet_receive_many.Statement.{statement}
-use Rattle.bench_loops.proofs.calls.bogtrumpet_receive_many.Tie as tie
+use Rattle.bench_loops.specs.Loops.{receivedMany}
+use Rattle.bench_loops.proofs.bench_receive.Statement.{statement}
+use Rattle.bench_loops.proofs.bench_receive.Tie as tie
 
 abbrev Inv-loop : tie.InvT-loop
 Inv-loop n datagrams size interface count sum₀ i₀ sum i = (i ≤ count) × (sum ≡ receivedMany n datagrams size interface i)
@@ -27,7 +27,7 @@ returns c =
     let e : l .i ≡ c .before .before .before .args .count = omega arith in
     rw (← e) (l .inv .1)
 
-pub bogtrumpet-receive-many-spec : {M : Type 1} → statement M
-bogtrumpet-receive-many-spec =
+pub bench-receive-spec : {M : Type 1} → statement M
+bench-receive-spec =
     tie.close
     (tie.spec Inv-loop μ-loop loop-holds (omega arith) (omega arith) (omega arith) (omega arith) (omega arith) (omega arith) loop-again returns)

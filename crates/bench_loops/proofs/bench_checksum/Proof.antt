@@ -3,9 +3,9 @@ use mathlib.Core.Path.{_≡_, refl}
 use Prim.Native.Nat.{_≤_, _-_}
 use native.Mathlib.Numerals.{add-one}
 use native.Mathlib.Omega.{arith}
-use Rattle.bench_loops.specs.Rules.{sumsFrom}
-use Rattle.bench_loops.proofs.rules.bogtrumpet_checksum_many.Statement.{statement}
-use Rattle.bench_loops.proofs.rules.bogtrumpet_checksum_many.Tie as tie
+use Rattle.bench_loops.specs.Loops.{sumsFrom}
+use Rattle.bench_loops.proofs.bench_checksum.Statement.{statement}
+use Rattle.bench_loops.proofs.bench_checksum.Tie as tie
 
 abbrev Inv-loop : tie.InvT-loop
 Inv-loop start bytes length count total₀ i₀ total i = (i ≤ count) × (total ≡ sumsFrom start bytes length i)
@@ -29,7 +29,7 @@ returns c =
     let e : l .i ≡ c .before .before .before .args .count = omega arith in
     rw (← e) (l .inv .1)
 
-pub bogtrumpet-checksum-many-spec : {M : Type 1} → statement M
-bogtrumpet-checksum-many-spec =
+pub bench-checksum-spec : {M : Type 1} → statement M
+bench-checksum-spec =
     tie.close
     (tie.spec Inv-loop μ-loop loop-holds (omega arith) (omega arith) (omega arith) (omega arith) (omega arith) (omega arith) loop-again returns)
