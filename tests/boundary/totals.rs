@@ -1,6 +1,6 @@
 //! How often each call was made and each answer met.
 
-/// A kind of call and the answers that it must have given at the end: document 01's numbers (0: not refused) for calls that have
+/// A kind of call and the answers that it must have given at the end: the numbers of the rules (0: not refused) for calls that have
 /// them, else 0 and 1 for no and yes.
 struct Kind {
     name: &'static str,
