@@ -117,13 +117,7 @@ pub extern "C" fn bench_send(
 // uint64_t bench_lookup(struct bogtrumpet_paths table, uint16_t link, uint32_t first, uint32_t count, uint32_t now);
 // The sum of the sizes in force toward count neighbours: first, first + 1, ..
 #[no_mangle]
-pub extern "C" fn bench_lookup(
-    table: PathTable,
-    link: u16,
-    first: u32,
-    count: u32,
-    now: u32,
-) -> u64
+pub extern "C" fn bench_lookup(table: PathTable, link: u16, first: u32, count: u32, now: u32) -> u64
     ensures { λ r. ⌜ r ≡ sizesToward table link first now count ⌝ }
 {
     let mut sum: u64 = 0;

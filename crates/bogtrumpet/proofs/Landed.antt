@@ -35,7 +35,7 @@ use Rattle.bogtrumpet.proofs.Params.{from-at}
 use Rattle.bogtrumpet.proofs.Step.{Step, Storing, node-ref}
 
 module _ {M : Type 1} (𝓤 : URA M) (H : Heap 𝓤) (A : Atoms 𝓤) (W : Given 𝓤 H A) where
-  module _ {m : ℕ} (κs : Lfts m) (qs : Shares m) (h : Node) (ts : List RattleType) (x : Denots ts) (vss : Valss ts) where
+  module _ (m : ℕ) (κs : Lfts m) (qs : Shares m) (h : Node) (ts : List RattleType) (x : Denots ts) (vss : Valss ts) where
     abbrev pub Handed : SProp 𝓤
     Handed = ⋆ 𝓤 H A (‵ (T.the-row .own h (mach h ∷ [])) ∷ ‵ (owns ts x vss) ∷ raw (toks 𝓤 A m κs qs) ∷ [])
 

@@ -3,7 +3,7 @@
 --     shape, signature, ended, clauses     the function's MIR, and its contract, which says Ens
 --     look-.., next-..     the contracts of the two that it calls
 --     walk             the walk.        looked-first     the function meets its contract
-use mathlib.Core.Path.{_≡_, refl, _∙_, sym, ap, subst}
+use mathlib.Core.Path.{_≡_, refl, sym, ap, subst}
 use Prim.Native.Nat.{ℕ, suc}
 use mathlib.Core.List.{List, [], _∷_}
 use lib.ListN.{length}
@@ -29,7 +29,7 @@ use denote.Laws.{Is, Ises, Are, Spells, valss, shows}
 use denote.Memory.{pointee}
 use denote.Plain.{UInt, uint-lawful, uint-makes}
 use denote.Builtin.{RefOf, RefMutOf, SliceRefMutOf, u8}
-use denote.Exit.{yes, left}
+use denote.Exit.{yes}
 use denote.Ref.{RefT, MutRef, now, ptr-vals, mut-tells}
 use denote.Signature.{AllWithin, Slot, Signature, plain, typesAt}
 use denote.Slice.{Room, finally, sliceTy, slice-vals}

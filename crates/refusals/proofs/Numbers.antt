@@ -4,7 +4,7 @@ use Prim.Native.Nat.{ℕ}
 use mathlib.Core.Bool.{Bool, false, cond}
 use mathlib.Core.List.{List, []}
 use lib.Dec.{eqb}
-use Rattle.refusals.specs.Given.{Given, refused, readBack}
+use Rattle.refusals.specs.Given.{refused, readBack}
 use Rattle.refusals.specs.Refusals.{numberOf}
 use Rattle.refusals.specs.declared.Refusal.{Refusal}
 use Rattle.refusals.specs.declared.Refusal.the-variants.{Settings, OuterMalformed, OuterChecksum, OtherProtocol, Piece, NotForUs, OuterSourceForbidden, InnerMalformed, InnerSourceBad, OuterSourceWrong, NoLocator, NextHopNotIsatap, TunnelEndForbidden, OutputShort, ReportMalformed, QuoteNotOurs, SizeUnusable, SizeNotBelow, AdvertisementInvalid, AdvertiserNotListed, NoRouterDue, WrappedTooLong}

@@ -1,5 +1,5 @@
 -- `send_over` meets its contract: by `CallOut.antt`, with `steps::sent` called.
-use mathlib.Core.Path.{_≡_, refl}
+use mathlib.Core.Path.{refl}
 use mathlib.Core.List.{[], _∷_}
 use lib.ListN.{length}
 use mir.Syntax.{w16, w32, w64, tyInt, tcons, tnil}
