@@ -40,6 +40,7 @@ kinds! {
     Wrap "wrap" [0, 15, 23];
     TooBig "too_big" [0, 8, 15];
     Solicitation "solicitation" [0, 15];
+    Null "with (NULL, 0)" [0];
     AnyNode "on any node" [0, 1, 11, 14, 15, 17, 19, 21, 22];
 }
 
