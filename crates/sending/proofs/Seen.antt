@@ -12,7 +12,7 @@ use Rattle.header.specs.declared.wrap.Written.{Written}
 use Rattle.header.specs.declared.wrap.Written.the-variants as written
 use Rattle.messages.specs.Icmp.{tooBigLength, tooBigCheck, tooBigAnswer}
 use Rattle.messages.proofs.WriterLaws.{too-big-room}
-use Rattle.paths.specs.Calls.{Answer, tooBig, other, sendAnswer}
+use Rattle.paths.proofs.Calls.{Answer, tooBig, other, sendAnswer}
 use Rattle.paths.specs.Packets.{largestPacket}
 use Rattle.refusals.specs.Refusals.{stopOr}
 use Rattle.refusals.specs.declared.Refusal.the-variants.{OutputShort}
