@@ -27,7 +27,7 @@ be32 x s = x / 16777216 ∷ (x / 65536 % 256 ∷ (x / 256 % 256 ∷ (x % 256 ∷
 -- offset 0, TTL, protocol
 abbrev pub outerFront : ℕ → OuterFields → List ℕ
 outerFront total h =
-    69 ∷ (0 ∷ be16 total (be16 (h .identification) (cond (h .«dont_fragment») 64 0 ∷ (0 ∷ (h .ttl ∷ (h .protocol ∷ []))))))
+    0x45 ∷ (0 ∷ be16 total (be16 (h .identification) (cond (h .«dont_fragment») 0x40 0 ∷ (0 ∷ (h .ttl ∷ (h .protocol ∷ []))))))
 
 -- the header behind its checksum: source and destination
 abbrev pub outerBack : OuterFields → List ℕ
