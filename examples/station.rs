@@ -1,18 +1,19 @@
 //! Two tunnel ends in one program: the centre wraps a packet, the station unwraps it, and the centre takes a size report and
 //! asks its router. examples/run builds it and compares what it prints with examples/station.txt.
 
-#[path = "../rust/bogtrumpet.rs"]
-mod bogtrumpet;
+use bogtrumpet::rules::{checksum, link_local};
+use bogtrumpet::{Asked, Locator, Node, Refusal, Reported, Sent, Settings};
+use std::net::Ipv4Addr;
 
-use bogtrumpet::{checksum, link_local, Locator, Node, Settings};
+const CENTRE: Ipv4Addr = Ipv4Addr::new(10, 0, 0, 1);
+const STATION: Ipv4Addr = Ipv4Addr::new(10, 0, 0, 2);
 
-const CENTRE: u32 = 0x0a00_0001; // 10.0.0.1
-const STATION: u32 = 0x0a00_0002; // 10.0.0.2
-
-fn end(address: u32, routers: &[u32]) -> Node {
-    let setup = Node::new(Settings::new(&[Locator { address, interface: 0 }], &[], routers));
-    println!("new {}", setup.number);
-    setup.node
+fn say<T>(call: &str, answer: Result<T, Refusal>) -> Option<T> {
+    match &answer {
+        Ok(_) => println!("{call}: not refused"),
+        Err(refusal) => println!("{call}: {refusal}"),
+    }
+    answer.ok()
 }
 
 /// An IPv6 packet of 40 + 1,440 bytes from the centre's link-local address.
@@ -21,7 +22,7 @@ fn packet_from_centre() -> [u8; 1480] {
     packet[0] = 0x60;
     packet[4..6].copy_from_slice(&1440u16.to_be_bytes());
     packet[6] = 17;
-    packet[8..24].copy_from_slice(&link_local(CENTRE).bytes);
+    packet[8..24].copy_from_slice(&link_local(CENTRE).octets());
     packet
 }
 
@@ -36,28 +37,42 @@ fn size_report(datagram: &[u8], size: u16) -> [u8; 28] {
     message
 }
 
+fn send(centre: &mut Node, packet: &[u8], time: u32) -> Vec<u8> {
+    let mut out = [0; 1500];
+    match centre.send(packet, link_local(STATION), 0, time, &mut out) {
+        Ok(Sent::Wrapped(datagram)) => {
+            println!("send: not refused\n  a datagram of {} bytes", datagram.len());
+            datagram.to_vec()
+        }
+        Ok(Sent::TooBig { size, message }) => {
+            let length = message.map_or(0, <[u8]>::len);
+            println!("send: packet too big\n  at most {size} pass, a message of {length} bytes for the sender");
+            Vec::new()
+        }
+        Err(refusal) => panic!("send: {refusal}"),
+    }
+}
+
 fn main() {
-    let (mut centre, station) = (end(CENTRE, &[STATION]), end(STATION, &[]));
-    let next_hop = link_local(STATION);
-    let (packet, mut datagram, mut solicitation) = (packet_from_centre(), [0; 1500], [0; 48]);
-    let sent = centre.send(&packet, next_hop, 0, 1000, &mut datagram);
-    println!("send {} length {}", sent.number, sent.length);
+    let mut centre = say("new", Node::new(&Settings::new(&[Locator::new(CENTRE, 0)]).routers(&[STATION]))).unwrap();
+    let station = say("new", Node::new(&Settings::new(&[Locator::new(STATION, 0)]))).unwrap();
+    let packet = packet_from_centre();
+    let datagram = send(&mut centre, &packet, 1000);
 
-    let received = station.receive(&datagram[..sent.length], 0);
-    let same = station.received_part(&datagram[..sent.length], 0) == packet;
-    let (offset, length) = (received.offset, received.length);
-    println!("receive {} offset {offset} length {length} same {}", received.number, same as u8);
-    let received = station.receive(&datagram[..sent.length], 1);
-    println!("receive {} on another interface", received.number);
+    let received = say("receive", station.receive(&datagram, 0)).unwrap();
+    let same = if received == packet { "as they were sent" } else { "others than were sent" };
+    println!("  {} bytes, {same}", received.len());
+    say("receive on another interface", station.receive(&datagram, 1));
 
-    let reported = centre.report(&size_report(&datagram, 1400), 1001);
-    println!("report {} neighbour {:08x} size {}", reported.number, reported.neighbour, reported.size);
-    let sent = centre.send(&packet, next_hop, 0, 1002, &mut datagram);
-    println!("send {} size {} length {}", sent.number, sent.size, sent.length);
+    let message = size_report(&datagram, 1400);
+    let Reported { neighbour, size } = say("report", centre.report(&message, 1001)).unwrap();
+    println!("  {:08x} has {size}", u32::from(neighbour));
+    send(&mut centre, &packet, 1002);
 
-    let asked = centre.ask(0, 1003, &mut solicitation);
-    println!("ask {} router {:08x}", asked.number, asked.router);
-    println!("ask {}", centre.ask(0, 1004, &mut solicitation).number);
-    let (size, identification) = (centre.path_size(STATION), centre.service.identification);
-    println!("path size {size}, identification {identification}, latest time {}", centre.latest);
+    let mut out = [0; 48];
+    let Asked { router, .. } = say("ask", centre.ask(0, 1003, &mut out)).unwrap();
+    println!("  {:08x} is asked", u32::from(router));
+    say("ask", centre.ask(0, 1004, &mut out));
+    let (size, identification) = (centre.path_size(STATION), centre.identification());
+    println!("path size {size}, next identification {identification}, latest time {}", centre.latest());
 }

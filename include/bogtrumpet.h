@@ -1,51 +1,29 @@
 /*
- * Bogtrumpet: one ISATAP tunnel end (RFC 5214), proved. "Document 01" is the project's paper of its rules.
+ * Bogtrumpet: one ISATAP tunnel end (RFC 5214), proved. R5.7 and the like are rules of docs/RULES.md.
  *
- * Three static libraries, x86-64 only, none of which needs another (`rt staticlib NAME` writes target/staticlib/libNAME.a):
+ *     cc -I include program.c target/staticlib/libbogtrumpet.a -o program
  *
- *   libcapi.a        makes a node (bogtrumpet_defaults, bogtrumpet_new), and has its calls by value
- *   liblent_capi.a   the node's calls over a pointer, bogtrumpet_.._in: the calls to use by default
- *   librules_capi.a  the rules without state
+ * The archive has two objects, the node's calls and the rules without state; a program that calls only a rule links none of the node.
+ * It needs nothing but memcpy, memmove and memset. x86-64 and ELF alone.
  *
- * The calls over a pointer change the node in place. Those by value take a node and hand back the next one, for callers who
- * keep old states; they give the same answers, and cost a copy of the node (1,168 bytes) in and one out.
- *
- * No function allocates, keeps a pointer, blocks or fails in another way than by its number; none has a precondition on values:
- * any struct, number and bytes may be handed over.
- *
- * Lent bytes are (pointer, length). A pointer must be valid for its length and not null, one to a node valid for a node; an output
- * overlaps neither an input nor the node.
+ * Values. No function allocates, keeps a pointer, blocks, or fails in another way than by its number. None has a precondition on values:
+ * any struct, number and bytes may be handed over, a node of arbitrary bytes too; a bool alone must be one, and none is handed over.
  * IPv4 addresses are numbers, 10.0.0.1 is 0x0A000001; IPv6 addresses and packets are bytes in the order of the network.
  *
- * Every answer has a number: 0 where the call was not refused, else
+ * Memory. Lent bytes are (pointer, length). A pointer is valid for its length, or null where the length is 0. One to a node is valid,
+ * aligned to 8 bytes and not null; bytes need no alignment. An output overlaps neither an input nor the node.
  *
- *    1  settings or a new router list break the rules
- *    2  outer header malformed
- *    3  outer checksum wrong
- *    4  protocol is not 41
- *    5  a piece: more-fragments set or offset not 0
- *    6  destination and arrival interface match no locator
- *    7  outer source forbidden
- *    8  inner packet malformed
- *    9  inner source bad
- *   10  outer source wrong for inner source
- *   11  no locator of that number
- *   12  next hop is no ISATAP address
- *   13  tunnel end forbidden, or a locator address of our own
- *   14  Too Big: carries the size M and the length of the message written
- *   15  lent output too short for what would be written
- *   16  no well-formed size report
- *   17  the quote is not of our sending
- *   18  reported size unusable
- *   19  reported size not below the one in force
- *   20  no valid advertisement
- *   21  advertiser not listed
- *   22  no router due
- *   23  wrapped length above 65,535
+ * Threads. There is no shared state: calls on different nodes, and the rules, may be made at once. On one node bogtrumpet_receive and
+ * bogtrumpet_path_size, which only read it, may be made at once; any other call on it is made alone.
  *
- * Where several apply, the first in the order that stands at the call is given. Fields of an answer that do not apply are 0.
- * After a refusal the lent output is untouched and the node as before but for the latest time; 14 alone may write.
- * Bytes of an output behind the written length stay as they were.
+ * Stack. A call needs at most BOGTRUMPET_STACK bytes, whatever it is given (tests/boundary measures it).
+ *
+ * Answers. Every answer has a number of enum bogtrumpet_number, 0 where the call was not refused, but for the calls that say "gives no
+ * number". Where several apply, the first in the order that stands at the call is given. Fields of an answer that do not apply are 0.
+ * After a refusal the lent output is untouched and the node as before but for the latest time; 14 alone may write. Bytes of an output
+ * behind the written length stay as they were.
+ *
+ * Time is a count of seconds that the caller hands over; one earlier than the latest is read as the latest.
  */
 #ifndef BOGTRUMPET_H
 #define BOGTRUMPET_H
@@ -54,9 +32,106 @@
 #include <stddef.h>
 #include <stdint.h>
 
+#if !defined(__x86_64__) || !defined(__LP64__) || !defined(__ELF__)
+#error "libbogtrumpet.a is machine code for x86-64 with 64-bit longs and pointers in ELF objects (System V calls)"
+#endif
+
+#define BOGTRUMPET_VERSION "0.2.0"
+#define BOGTRUMPET_VERSION_MAJOR 0
+#define BOGTRUMPET_VERSION_MINOR 2
+#define BOGTRUMPET_VERSION_PATCH 0
+
+/* A compiler that can warns where an answer is not looked at. */
+#if defined(__GNUC__)
+#define BOGTRUMPET_CHECKED __attribute__((warn_unused_result))
+#else
+#define BOGTRUMPET_CHECKED
+#endif
+
 #ifdef __cplusplus
 extern "C" {
 #endif
+
+/* ---- Limits and lengths ------------------------------------------------------------------------------------------- */
+
+#define BOGTRUMPET_MAX_LOCATORS 8
+#define BOGTRUMPET_MAX_PREFIXES 8
+#define BOGTRUMPET_MAX_ROUTERS 16
+#define BOGTRUMPET_MAX_NEIGHBOURS 64 /* whose path sizes are kept */
+
+#define BOGTRUMPET_MIN_LINK_SIZE 576
+#define BOGTRUMPET_MAX_LINK_SIZE 9216
+#define BOGTRUMPET_MAX_INTERVAL 3600 /* seconds between solicitations of a router */
+#define BOGTRUMPET_REPORT_AGE 600    /* seconds from which on a size report is no longer in force */
+
+#define BOGTRUMPET_PREFIX_LENGTH 8
+#define BOGTRUMPET_OUTER_HEADER_LENGTH 20 /* of the IPv4 header that is written */
+#define BOGTRUMPET_INNER_HEADER_LENGTH 40
+#define BOGTRUMPET_SOLICITATION_LENGTH 48
+#define BOGTRUMPET_MAX_TOO_BIG_LENGTH 1280
+#define BOGTRUMPET_MAX_SENT_LENGTH 9216 /* the most that bogtrumpet_send writes on a node of accepted settings */
+
+#define BOGTRUMPET_STACK 16384 /* bytes of stack that suffice for any call */
+
+/* ---- Numbers ------------------------------------------------------------------------------------------------------ */
+
+enum bogtrumpet_number {
+    BOGTRUMPET_OK = 0,                      /* not refused */
+    BOGTRUMPET_SETTINGS = 1,                /* settings or a new router list break the rules */
+    BOGTRUMPET_OUTER_MALFORMED = 2,         /* outer header malformed */
+    BOGTRUMPET_OUTER_CHECKSUM = 3,          /* outer checksum wrong */
+    BOGTRUMPET_OTHER_PROTOCOL = 4,          /* protocol is not 41 */
+    BOGTRUMPET_PIECE = 5,                   /* more-fragments set or offset not 0 */
+    BOGTRUMPET_NOT_FOR_US = 6,              /* destination and arrival interface match no locator */
+    BOGTRUMPET_OUTER_SOURCE_FORBIDDEN = 7,  /* outer source forbidden */
+    BOGTRUMPET_INNER_MALFORMED = 8,         /* inner packet malformed */
+    BOGTRUMPET_INNER_SOURCE_BAD = 9,        /* inner source bad */
+    BOGTRUMPET_OUTER_SOURCE_WRONG = 10,     /* outer source wrong for inner source */
+    BOGTRUMPET_NO_LOCATOR = 11,             /* no locator of that number */
+    BOGTRUMPET_NEXT_HOP_NOT_ISATAP = 12,    /* next hop is no ISATAP address */
+    BOGTRUMPET_TUNNEL_END_FORBIDDEN = 13,   /* tunnel end forbidden, or a locator's address */
+    BOGTRUMPET_TOO_BIG = 14,                /* packet above the size that passes; carries that size and a message */
+    BOGTRUMPET_OUTPUT_SHORT = 15,           /* lent output too short for what would be written */
+    BOGTRUMPET_REPORT_MALFORMED = 16,       /* no well-formed size report */
+    BOGTRUMPET_QUOTE_NOT_OURS = 17,         /* the quote is not of our sending */
+    BOGTRUMPET_SIZE_UNUSABLE = 18,          /* reported size unusable */
+    BOGTRUMPET_SIZE_NOT_BELOW = 19,         /* reported size not below the one in force */
+    BOGTRUMPET_ADVERTISEMENT_INVALID = 20,  /* no valid advertisement */
+    BOGTRUMPET_ADVERTISER_NOT_LISTED = 21,  /* advertiser is no router of the list */
+    BOGTRUMPET_NO_ROUTER_DUE = 22,          /* no router is due */
+    BOGTRUMPET_WRAPPED_TOO_LONG = 23        /* wrapped length above 65,535 */
+};
+
+/* The number in words; "no number of bogtrumpet" for one above 23. */
+BOGTRUMPET_CHECKED static inline const char *bogtrumpet_number_text(uint8_t number) {
+    switch (number) {
+    case BOGTRUMPET_OK: return "not refused";
+    case BOGTRUMPET_SETTINGS: return "settings or a new router list break the rules";
+    case BOGTRUMPET_OUTER_MALFORMED: return "outer header malformed";
+    case BOGTRUMPET_OUTER_CHECKSUM: return "outer checksum wrong";
+    case BOGTRUMPET_OTHER_PROTOCOL: return "protocol is not 41";
+    case BOGTRUMPET_PIECE: return "a piece of a datagram";
+    case BOGTRUMPET_NOT_FOR_US: return "destination and arrival interface match no locator";
+    case BOGTRUMPET_OUTER_SOURCE_FORBIDDEN: return "outer source forbidden";
+    case BOGTRUMPET_INNER_MALFORMED: return "inner packet malformed";
+    case BOGTRUMPET_INNER_SOURCE_BAD: return "inner source bad";
+    case BOGTRUMPET_OUTER_SOURCE_WRONG: return "outer source wrong for the inner source";
+    case BOGTRUMPET_NO_LOCATOR: return "no locator of that number";
+    case BOGTRUMPET_NEXT_HOP_NOT_ISATAP: return "next hop is no ISATAP address";
+    case BOGTRUMPET_TUNNEL_END_FORBIDDEN: return "tunnel end forbidden, or a locator's address";
+    case BOGTRUMPET_TOO_BIG: return "packet too big";
+    case BOGTRUMPET_OUTPUT_SHORT: return "output too short";
+    case BOGTRUMPET_REPORT_MALFORMED: return "no well-formed size report";
+    case BOGTRUMPET_QUOTE_NOT_OURS: return "the quote is not of our sending";
+    case BOGTRUMPET_SIZE_UNUSABLE: return "reported size unusable";
+    case BOGTRUMPET_SIZE_NOT_BELOW: return "reported size not below the one in force";
+    case BOGTRUMPET_ADVERTISEMENT_INVALID: return "no valid advertisement";
+    case BOGTRUMPET_ADVERTISER_NOT_LISTED: return "advertiser not listed";
+    case BOGTRUMPET_NO_ROUTER_DUE: return "no router due";
+    case BOGTRUMPET_WRAPPED_TOO_LONG: return "wrapped length above 65,535";
+    default: return "no number of bogtrumpet";
+    }
+}
 
 /* ---- Settings and state ------------------------------------------------------------------------------------------- */
 
@@ -71,13 +146,13 @@ struct bogtrumpet_locator {
     uint8_t interface;
 };
 
-/* What an operator sets. Entries behind a count are not read. */
+/* What an operator sets (R2). Entries behind a count are not read. */
 struct bogtrumpet_settings {
-    struct bogtrumpet_locator locators[8]; /* 1 to 8, no pair twice, none forbidden */
+    struct bogtrumpet_locator locators[BOGTRUMPET_MAX_LOCATORS]; /* 1 to 8, no pair twice, none forbidden */
     size_t locator_count;
-    uint8_t prefixes[64]; /* up to 8 on-link prefixes of 8 bytes, beside fe80::/64 */
+    uint8_t prefixes[BOGTRUMPET_MAX_PREFIXES * BOGTRUMPET_PREFIX_LENGTH]; /* on-link ones of 8 bytes, beside fe80::/64 */
     size_t prefix_count;
-    uint32_t routers[16]; /* 0 to 16, distinct, none forbidden or a locator's address */
+    uint32_t routers[BOGTRUMPET_MAX_ROUTERS]; /* 0 to 16, distinct, none forbidden or a locator's address */
     size_t router_count;
     uint16_t link_size;      /* 576 to 9,216 */
     uint8_t ttl;             /* of outer headers, 1 to 255 */
@@ -93,25 +168,26 @@ struct bogtrumpet_router {
 };
 
 struct bogtrumpet_router_list {
-    struct bogtrumpet_router routers[16];
+    struct bogtrumpet_router routers[BOGTRUMPET_MAX_ROUTERS];
     size_t count;
 };
 
 struct bogtrumpet_service {
-    struct bogtrumpet_settings settings;
-    struct bogtrumpet_router_list routers;
-    uint16_t identification; /* of the next wrapped packet */
+    struct bogtrumpet_settings settings;   /* as they were set: its routers are the first list, also after it was replaced */
+    struct bogtrumpet_router_list routers; /* the list now in force */
+    uint16_t identification;               /* of the next wrapped packet */
 };
 
 /* The accepted size reports, newest first: row by row whose report, its size and its time. */
 struct bogtrumpet_paths {
-    uint32_t neighbours[64];
-    uint16_t sizes[64];
-    uint32_t times[64];
+    uint32_t neighbours[BOGTRUMPET_MAX_NEIGHBOURS];
+    uint16_t sizes[BOGTRUMPET_MAX_NEIGHBOURS];
+    uint32_t times[BOGTRUMPET_MAX_NEIGHBOURS];
     size_t count;
 };
 
-/* A node's state: a plain value, which may be copied and kept. A call changes it in place, or takes it and hands back the next. */
+/* A node's state: a plain value, which may be copied and kept. A call changes it in place. Nodes are not to be compared bytewise: what
+   stands between fields, and behind a count, is not determined. */
 struct bogtrumpet_node {
     struct bogtrumpet_service service;
     struct bogtrumpet_paths paths;
@@ -120,16 +196,11 @@ struct bogtrumpet_node {
 
 /* A new router list. */
 struct bogtrumpet_addresses {
-    uint32_t routers[16];
+    uint32_t routers[BOGTRUMPET_MAX_ROUTERS];
     size_t count;
 };
 
 /* ---- Answers ------------------------------------------------------------------------------------------------------ */
-
-struct bogtrumpet_setup {
-    uint8_t number;
-    struct bogtrumpet_node node; /* after 1: all zero; it delivers nothing (6) and sends and asks nothing (11) */
-};
 
 struct bogtrumpet_received {
     uint8_t number;
@@ -137,126 +208,80 @@ struct bogtrumpet_received {
     size_t length; /* the inner packet's length */
 };
 
-struct bogtrumpet_sent_in {
-    uint8_t number;
-    uint16_t size; /* with 14: the largest packet that passes */
-    size_t length; /* with 0: the length of the datagram written; with 14: of the message written, or 0 for none */
-};
-
-struct bogtrumpet_reported_in {
-    uint8_t number;
-    uint32_t neighbour;
-    uint16_t size; /* the size now in force toward it */
-};
-
-/* Of asking and of hearing. */
-struct bogtrumpet_router_in {
-    uint8_t number;
-    uint32_t router; /* the router asked, or the one that advertised */
-};
-
-/* The same of the calls by value, each with the next node. */
-
 struct bogtrumpet_sent {
     uint8_t number;
-    uint16_t size;
-    size_t length;
-    struct bogtrumpet_node node;
+    uint16_t size;         /* with 14: the largest packet that passes */
+    size_t length;         /* with 0: the length of the datagram written */
+    size_t message_length; /* with 14: the length of the Too Big message written, an IPv6 packet for its sender, or 0 for none */
 };
 
 struct bogtrumpet_reported {
     uint8_t number;
     uint32_t neighbour;
-    uint16_t size;
-    struct bogtrumpet_node node;
-};
-
-struct bogtrumpet_replaced {
-    uint8_t number;
-    struct bogtrumpet_node node;
+    uint16_t size; /* the size now in force toward it */
 };
 
 struct bogtrumpet_asked {
     uint8_t number;
-    uint32_t router;
-    struct bogtrumpet_node node;
+    uint32_t router; /* the router asked */
 };
 
 struct bogtrumpet_heard {
     uint8_t number;
-    uint32_t router;
-    struct bogtrumpet_node node;
+    uint32_t router; /* the router that advertised */
 };
 
-/* ---- A new node (libcapi.a) --------------------------------------------------------------------------------------- */
+/* ---- The node's calls --------------------------------------------------------------------------------------------- */
 
 /* The same locators, prefixes, routers and counts; link size 1,500, TTL 64, interval 120, identification 1, reporting address
-   the link-local address of locator 0. Gives no number. */
-struct bogtrumpet_settings bogtrumpet_defaults(struct bogtrumpet_settings settings);
+   the link-local address of locator 0 (R2.10). Gives no number. */
+BOGTRUMPET_CHECKED struct bogtrumpet_settings bogtrumpet_defaults(struct bogtrumpet_settings settings);
 
-/* A node with all routers due at time 0. Numbers: 1. */
-struct bogtrumpet_setup bogtrumpet_new(struct bogtrumpet_settings settings);
+/* Fills the node, whatever stood there: a node with all routers due at time 0. The number: 0, or 1, and then the node is the one of
+   empty settings, all values 0; it delivers nothing (6) and sends and asks nothing (11). */
+BOGTRUMPET_CHECKED uint8_t bogtrumpet_new(struct bogtrumpet_node *node, struct bogtrumpet_settings settings);
 
-/* ---- The node's calls (liblent_capi.a) ---------------------------------------------------------------------------- */
-
-/* Where the inner packet stands in a datagram that arrived on the interface. The node stays as it is.
+/* Where the inner packet stands in a datagram that arrived on the interface (R5). The node stays as it is.
    Numbers, in this order: 2, 3, 4, 5, 6, 7, 8, 9, 10. */
-struct bogtrumpet_received bogtrumpet_receive_in(const struct bogtrumpet_node *node, const uint8_t *datagram,
-                                                 size_t length, uint8_t interface);
+BOGTRUMPET_CHECKED struct bogtrumpet_received bogtrumpet_receive(const struct bogtrumpet_node *node,
+                                                                 const uint8_t *datagram, size_t length,
+                                                                 uint8_t interface);
 
-/* Wraps an IPv6 packet for the next hop, from the numbered locator (from 0). A packet above the size that passes gets 14, and an
-   ICMPv6 Packet Too Big of 1,280 bytes in the output, unless none may be sent to its source.
+/* Wraps an IPv6 packet for the next hop, from the numbered locator (from 0) (R7). A packet above the size that passes gets 14, and an
+   ICMPv6 Packet Too Big of 1,280 bytes in the output, unless none may be sent to its source (R8).
    Numbers, in this order: 8 (also where the length is not 40 + payload length), 11, 12, 13, 14, 23, 15; 15 in the place of 14
    where the message does not fit. 23 does not come on a node made from accepted settings. */
-struct bogtrumpet_sent_in bogtrumpet_send_in(struct bogtrumpet_node *node, const uint8_t *packet, size_t length,
-                                             struct bogtrumpet_address next_hop, size_t locator, uint32_t time,
-                                             uint8_t *out, size_t room);
+BOGTRUMPET_CHECKED struct bogtrumpet_sent bogtrumpet_send(struct bogtrumpet_node *node, const uint8_t *packet,
+                                                          size_t length, struct bogtrumpet_address next_hop,
+                                                          size_t locator, uint32_t time, uint8_t *out, size_t room);
 
-/* Takes an ICMPv4 message in: a size report (type 3, code 4), quoting a datagram of ours.
+/* Takes an ICMPv4 message in: a size report (type 3, code 4), quoting a datagram of ours (R9).
    Numbers, in this order: 16, 17, 18, 19. */
-struct bogtrumpet_reported_in bogtrumpet_report_in(struct bogtrumpet_node *node, const uint8_t *message, size_t length,
-                                                   uint32_t time);
+BOGTRUMPET_CHECKED struct bogtrumpet_reported bogtrumpet_report(struct bogtrumpet_node *node, const uint8_t *message,
+                                                                size_t length, uint32_t time);
 
-/* Replaces the router list: a router in both lists keeps its due time, a new one is due now. The number: 0, or 1. */
-uint8_t bogtrumpet_replace_routers_in(struct bogtrumpet_node *node, struct bogtrumpet_addresses list, uint32_t time);
-
-/* Writes a router solicitation of 48 bytes, not yet wrapped, to the router that is due first, from the numbered locator.
-   Numbers, in this order: 11, 22, 15. */
-struct bogtrumpet_router_in bogtrumpet_ask_in(struct bogtrumpet_node *node, size_t locator, uint32_t time, uint8_t *out,
-                                              size_t room);
-
-/* Takes a router advertisement in, a received inner packet; the router is asked again by its lifetimes.
-   Numbers, in this order: 8 (as in receiving), 20, 21. */
-struct bogtrumpet_router_in bogtrumpet_hear_in(struct bogtrumpet_node *node, const uint8_t *packet, size_t length,
-                                               uint32_t time);
-
-/* The path size in force toward the neighbour at the latest time. Gives no number. */
-uint16_t bogtrumpet_path_size_in(const struct bogtrumpet_node *node, uint32_t neighbour);
-
-/* ---- The same by value (libcapi.a) -------------------------------------------------------------------------------- */
-
-/* Each is the call above, with its numbers in its order, but for the node: it stays as it is, and the answer has the next one. */
-
-struct bogtrumpet_received bogtrumpet_receive(struct bogtrumpet_node node, const uint8_t *datagram, size_t length,
-                                              uint8_t interface);
-struct bogtrumpet_sent bogtrumpet_send(struct bogtrumpet_node node, const uint8_t *packet, size_t length,
-                                       struct bogtrumpet_address next_hop, size_t locator, uint32_t time, uint8_t *out,
-                                       size_t room);
-struct bogtrumpet_reported bogtrumpet_report(struct bogtrumpet_node node, const uint8_t *message, size_t length,
-                                             uint32_t time);
-struct bogtrumpet_replaced bogtrumpet_replace_routers(struct bogtrumpet_node node, struct bogtrumpet_addresses list,
+/* Replaces the router list: a router in both lists keeps its due time, a new one is due now (R2.13). The number: 0, or 1. */
+BOGTRUMPET_CHECKED uint8_t bogtrumpet_replace_routers(struct bogtrumpet_node *node, struct bogtrumpet_addresses list,
                                                       uint32_t time);
-struct bogtrumpet_asked bogtrumpet_ask(struct bogtrumpet_node node, size_t locator, uint32_t time, uint8_t *out,
-                                       size_t room);
-struct bogtrumpet_heard bogtrumpet_hear(struct bogtrumpet_node node, const uint8_t *packet, size_t length,
-                                        uint32_t time);
-uint16_t bogtrumpet_path_size(struct bogtrumpet_node node, uint32_t neighbour);
 
-/* ---- Rules without state (librules_capi.a) ------------------------------------------------------------------------ */
+/* Writes a router solicitation of 48 bytes, not yet wrapped, to the router that is due first, from the numbered locator (R13).
+   Numbers, in this order: 11, 22, 15. */
+BOGTRUMPET_CHECKED struct bogtrumpet_asked bogtrumpet_ask(struct bogtrumpet_node *node, size_t locator, uint32_t time,
+                                                          uint8_t *out, size_t room);
+
+/* Takes a router advertisement in, a received inner packet; the router is asked again by its lifetimes (R15, R16).
+   Numbers, in this order: 8 (as in receiving), 20, 21. */
+BOGTRUMPET_CHECKED struct bogtrumpet_heard bogtrumpet_hear(struct bogtrumpet_node *node, const uint8_t *packet,
+                                                           size_t length, uint32_t time);
+
+/* The path size in force toward the neighbour at the latest time (R10). Gives no number. */
+BOGTRUMPET_CHECKED uint16_t bogtrumpet_path_size(const struct bogtrumpet_node *node, uint32_t neighbour);
+
+/* ---- Rules without state ------------------------------------------------------------------------------------------ */
 
 /* On-link prefixes of 8 bytes, beside fe80::/64; a count above 8 is read as 8. */
 struct bogtrumpet_prefixes {
-    uint8_t bytes[64];
+    uint8_t bytes[BOGTRUMPET_MAX_PREFIXES * BOGTRUMPET_PREFIX_LENGTH];
     size_t count;
 };
 
@@ -278,50 +303,139 @@ struct bogtrumpet_outer_read {
 /* The fields of an outer header that is written. */
 struct bogtrumpet_outer {
     uint16_t identification;
-    bool dont_fragment;
+    uint8_t dont_fragment; /* any value but 0 sets the flag */
     uint8_t ttl;
     uint8_t protocol;
     uint32_t source;
     uint32_t destination;
 };
 
-/* The RFC 1071 sum of the bytes, continued from the two words of start: the sum itself, not its complement. */
-uint16_t bogtrumpet_checksum(uint32_t start, const uint8_t *bytes, size_t length);
+struct bogtrumpet_written {
+    uint8_t number;
+    size_t length; /* with 0: the length written */
+};
+
+/* The RFC 1071 sum of the bytes, continued from the two words of start: the sum itself, not its complement (R1.5). Gives no number. */
+BOGTRUMPET_CHECKED uint16_t bogtrumpet_checksum(uint32_t start, const uint8_t *bytes, size_t length);
 
 /* Whether the sum that includes the checksum field is FFFF. */
-bool bogtrumpet_checksum_right(const uint8_t *bytes, size_t length);
+BOGTRUMPET_CHECKED bool bogtrumpet_checksum_right(const uint8_t *bytes, size_t length);
 
-/* 0.0.0.0, 127.0.0.0/8, 224.0.0.0/4 and 255.255.255.255. */
-bool bogtrumpet_forbidden(uint32_t address);
+/* 0.0.0.0, 127.0.0.0/8, 224.0.0.0/4 and 255.255.255.255 (R3). */
+BOGTRUMPET_CHECKED bool bogtrumpet_forbidden(uint32_t address);
 
-/* The IPv4 address that an ISATAP address embeds: an on-link prefix, 00 or 02, 00, 5E, FE, the address. */
-struct bogtrumpet_embedded bogtrumpet_isatap(struct bogtrumpet_prefixes prefixes, struct bogtrumpet_address address);
+/* The IPv4 address that an ISATAP address embeds: an on-link prefix, 00 or 02, 00, 5E, FE, the address (R6). */
+BOGTRUMPET_CHECKED struct bogtrumpet_embedded bogtrumpet_isatap(struct bogtrumpet_prefixes prefixes,
+                                                                struct bogtrumpet_address address);
 
-/* fe80::5efe:A.B.C.D, first identifier byte 00. */
-struct bogtrumpet_address bogtrumpet_link_local(uint32_t address);
+/* fe80::5efe:A.B.C.D, first identifier byte 00 (R6.3). */
+BOGTRUMPET_CHECKED struct bogtrumpet_address bogtrumpet_link_local(uint32_t address);
 
-/* Whether an inner source is bad (number 9): ff00::/8, ::, ::1, or 96 zero bits and a forbidden IPv4 address. */
-bool bogtrumpet_bad_source(struct bogtrumpet_address address);
+/* Whether an inner source is bad (number 9): ff00::/8, ::, ::1, or 96 zero bits and a forbidden IPv4 address (R5.11). */
+BOGTRUMPET_CHECKED bool bogtrumpet_bad_source(struct bogtrumpet_address address);
 
 /* Numbers, in this order: 2, 3, 4, 5. */
-struct bogtrumpet_outer_read bogtrumpet_read_outer(const uint8_t *datagram, size_t length);
+BOGTRUMPET_CHECKED struct bogtrumpet_outer_read bogtrumpet_read_outer(const uint8_t *datagram, size_t length);
 
 /* Where the inner packet stands, whatever the addresses are. Numbers, in this order: 2, 3, 4, 5, 8. */
-struct bogtrumpet_received bogtrumpet_unwrap(const uint8_t *datagram, size_t length);
+BOGTRUMPET_CHECKED struct bogtrumpet_received bogtrumpet_unwrap(const uint8_t *datagram, size_t length);
 
-/* Writes the packet behind its outer header. The length written, or 0 for a refusal (23, 15). */
-size_t bogtrumpet_wrap(struct bogtrumpet_outer outer, const uint8_t *packet, size_t length, uint8_t *out, size_t room);
+/* Writes the packet, any bytes, behind its outer header (R7.10). Numbers, in this order: 23, 15. */
+BOGTRUMPET_CHECKED struct bogtrumpet_written bogtrumpet_wrap(struct bogtrumpet_outer outer, const uint8_t *packet,
+                                                             size_t length, uint8_t *out, size_t room);
 
-/* Writes an ICMPv6 Packet Too Big about the packet, to its source, whoever that is. The length written, or 0 for a refusal
-   (8: the packet is under 40 bytes; 15). */
-size_t bogtrumpet_too_big(struct bogtrumpet_address reporting, uint16_t size, const uint8_t *packet, size_t length,
-                          uint8_t *out, size_t room);
+/* Writes an ICMPv6 Packet Too Big about the packet, to its source, whoever that is (R8.1): 48 bytes and the first 1,232 of the packet.
+   Numbers, in this order: 8 (the packet is under 40 bytes), 15. */
+BOGTRUMPET_CHECKED struct bogtrumpet_written bogtrumpet_too_big(struct bogtrumpet_address reporting, uint16_t size,
+                                                                const uint8_t *packet, size_t length, uint8_t *out,
+                                                                size_t room);
 
-/* Writes a router solicitation from the locator's link-local address to the router's. 48, or 0 for a refusal (15). */
-size_t bogtrumpet_solicitation(uint32_t locator, uint32_t router, uint8_t *out, size_t room);
+/* Writes a router solicitation of 48 bytes from the locator's link-local address to the router's (R14). Numbers: 15. */
+BOGTRUMPET_CHECKED struct bogtrumpet_written bogtrumpet_solicitation(uint32_t locator, uint32_t router, uint8_t *out,
+                                                                     size_t room);
 
 #ifdef __cplusplus
 }
+#endif
+
+/* ---- Sizes and offsets, as the archive has them -------------------------------------------------------------------- */
+
+#if defined(__cplusplus) && __cplusplus >= 201103L
+#define BOGTRUMPET_ASSERT(fact) static_assert(fact, #fact)
+#elif defined(__STDC_VERSION__) && __STDC_VERSION__ >= 201112L
+#define BOGTRUMPET_ASSERT(fact) _Static_assert(fact, #fact)
+#endif
+
+#ifdef BOGTRUMPET_ASSERT
+#define BOGTRUMPET_SIZE(name, size) BOGTRUMPET_ASSERT(sizeof(struct bogtrumpet_##name) == (size))
+#define BOGTRUMPET_AT(name, field, place) BOGTRUMPET_ASSERT(offsetof(struct bogtrumpet_##name, field) == (place))
+
+BOGTRUMPET_SIZE(address, 16);
+BOGTRUMPET_SIZE(locator, 8);
+BOGTRUMPET_AT(locator, interface, 4);
+BOGTRUMPET_SIZE(settings, 240);
+BOGTRUMPET_AT(settings, locator_count, 64);
+BOGTRUMPET_AT(settings, prefixes, 72);
+BOGTRUMPET_AT(settings, prefix_count, 136);
+BOGTRUMPET_AT(settings, routers, 144);
+BOGTRUMPET_AT(settings, router_count, 208);
+BOGTRUMPET_AT(settings, link_size, 216);
+BOGTRUMPET_AT(settings, ttl, 218);
+BOGTRUMPET_AT(settings, interval, 220);
+BOGTRUMPET_AT(settings, identification, 222);
+BOGTRUMPET_AT(settings, reporting, 224);
+BOGTRUMPET_SIZE(router, 16);
+BOGTRUMPET_AT(router, due, 8);
+BOGTRUMPET_SIZE(router_list, 264);
+BOGTRUMPET_AT(router_list, count, 256);
+BOGTRUMPET_SIZE(service, 512);
+BOGTRUMPET_AT(service, routers, 240);
+BOGTRUMPET_AT(service, identification, 504);
+BOGTRUMPET_SIZE(paths, 648);
+BOGTRUMPET_AT(paths, sizes, 256);
+BOGTRUMPET_AT(paths, times, 384);
+BOGTRUMPET_AT(paths, count, 640);
+BOGTRUMPET_SIZE(node, 1168);
+BOGTRUMPET_AT(node, paths, 512);
+BOGTRUMPET_AT(node, latest, 1160);
+BOGTRUMPET_SIZE(addresses, 72);
+BOGTRUMPET_AT(addresses, count, 64);
+BOGTRUMPET_SIZE(received, 24);
+BOGTRUMPET_AT(received, offset, 8);
+BOGTRUMPET_AT(received, length, 16);
+BOGTRUMPET_SIZE(sent, 24);
+BOGTRUMPET_AT(sent, size, 2);
+BOGTRUMPET_AT(sent, length, 8);
+BOGTRUMPET_AT(sent, message_length, 16);
+BOGTRUMPET_SIZE(reported, 12);
+BOGTRUMPET_AT(reported, neighbour, 4);
+BOGTRUMPET_AT(reported, size, 8);
+BOGTRUMPET_SIZE(asked, 8);
+BOGTRUMPET_AT(asked, router, 4);
+BOGTRUMPET_SIZE(heard, 8);
+BOGTRUMPET_AT(heard, router, 4);
+BOGTRUMPET_SIZE(prefixes, 72);
+BOGTRUMPET_AT(prefixes, count, 64);
+BOGTRUMPET_SIZE(embedded, 8);
+BOGTRUMPET_AT(embedded, address, 4);
+BOGTRUMPET_SIZE(outer_read, 16);
+BOGTRUMPET_AT(outer_read, protocol, 1);
+BOGTRUMPET_AT(outer_read, header, 2);
+BOGTRUMPET_AT(outer_read, total, 4);
+BOGTRUMPET_AT(outer_read, source, 8);
+BOGTRUMPET_AT(outer_read, destination, 12);
+BOGTRUMPET_SIZE(outer, 16);
+BOGTRUMPET_AT(outer, dont_fragment, 2);
+BOGTRUMPET_AT(outer, ttl, 3);
+BOGTRUMPET_AT(outer, protocol, 4);
+BOGTRUMPET_AT(outer, source, 8);
+BOGTRUMPET_AT(outer, destination, 12);
+BOGTRUMPET_SIZE(written, 16);
+BOGTRUMPET_AT(written, length, 8);
+
+#undef BOGTRUMPET_AT
+#undef BOGTRUMPET_SIZE
+#undef BOGTRUMPET_ASSERT
 #endif
 
 #endif

@@ -1,11 +1,13 @@
 //! Nodes of any bytes, as a caller in C can hand them over: no call goes wrong on one. What holds of every node is checked: an answer
 //! is one of the call's numbers, a refusal leaves the output alone and changes the latest time only, a part lies in the datagram; and
-//! the call over a pointer gives what the call by value gives.
+//! answer, node and output are the same when the call is made once more elsewhere in memory.
 
-use crate::bogtrumpet::{by_value, Address, Addresses, Node, ReportedIn, RouterIn, SentIn};
 use crate::check::{hex, same, Check};
 use crate::packets;
 use crate::totals::Call;
+use bogtrumpet::raw::{Address, Addresses, Node};
+use std::fmt::Debug;
+use std::hint::black_box;
 
 /// Every call on one such node, with bytes that suit its first locator and router.
 pub fn any_node(check: &mut Check) {
@@ -18,80 +20,112 @@ pub fn any_node(check: &mut Check) {
     let packet = packets::packet(&mut check.random, length, 58, &source);
 
     let datagram = packets::datagram(&mut check.random, (router, locator.address), 0, &packet, 3);
-    let (loan, in_place) = check.lend_node(&node, &datagram, 0);
-    let received = by_value::receive(node, loan.input, locator.interface);
-    let lent = in_place.node.receive(loan.input, locator.interface);
-    let call = || format!("receive {} on {node:?}", hex(&datagram));
-    in_place.same((&received, &lent), &node, &[], &call);
-    let end = received.offset + received.length;
-    same("part in the datagram", &true, &(end <= datagram.len()), &call);
-    count(check, received.number, &[0, 2, 3, 4, 5, 6, 7, 8, 9, 10], &call);
-
-    writing(check, &node, &packet, Address { bytes: source }, number, time);
+    let tried = Tried { node: &node, bytes: &datagram, room: 0, time: 0, name: "receive" };
+    let received = tried.twice(check, |node, bytes, _| node.receive(bytes, locator.interface));
+    let end = received.answer.offset + received.answer.length;
+    same("part in the datagram", &true, &(end <= datagram.len()), &|| tried.words());
+    same("node", &node, &received.node, &|| tried.words());
+    tried.count(check, received.answer.number, &[0, 2, 3, 4, 5, 6, 7, 8, 9, 10]);
 
     let size = check.random.next() as u16;
     let message = packets::size_report(&mut check.random, size, 1500, (locator.address, router), 0, 8);
-    let (loan, in_place) = check.lend_node(&node, &message, 0);
-    let reported = by_value::report(node, loan.input, time);
-    let lent = in_place.node.report(loan.input, time);
-    let call = || format!("report {} time {time} on {node:?}", hex(&message));
-    let answer = ReportedIn { number: reported.number, neighbour: reported.neighbour, size: reported.size };
-    in_place.same((&answer, &lent), &reported.node, &[], &call);
-    refused(reported.number, &node, &reported.node, time, &call);
-    count(check, reported.number, &[0, 16, 17, 18, 19], &call);
+    let tried = Tried { node: &node, bytes: &message, room: 0, time, name: "report" };
+    let reported = tried.twice(check, |node, bytes, _| node.report(bytes, time));
+    tried.refused(reported.answer.number, &reported);
+    tried.count(check, reported.answer.number, &[0, 16, 17, 18, 19]);
 
     let advertisement = packets::advertisement(&mut check.random, &source, 1800, &[]);
-    let (loan, in_place) = check.lend_node(&node, &advertisement, 0);
-    let heard = by_value::hear(node, loan.input, time);
-    let lent = in_place.node.hear(loan.input, time);
-    let call = || format!("hear {} time {time} on {node:?}", hex(&advertisement));
-    let answer = RouterIn { number: heard.number, router: heard.router };
-    in_place.same((&answer, &lent), &heard.node, &[], &call);
-    refused(heard.number, &node, &heard.node, time, &call);
-    count(check, heard.number, &[0, 8, 20, 21], &call);
+    let tried = Tried { node: &node, bytes: &advertisement, room: 0, time, name: "hear" };
+    let heard = tried.twice(check, |node, bytes, _| node.hear(bytes, time));
+    tried.refused(heard.answer.number, &heard);
+    tried.count(check, heard.answer.number, &[0, 8, 20, 21]);
 
     let list = Addresses { routers: node.service.settings.routers, count: number };
-    let (_, in_place) = check.lend_node(&node, &[], 0);
-    let replaced = by_value::replace_routers(node, list, time);
-    let lent = in_place.node.replace_routers(list, time);
-    let call = || format!("replace_routers {list:?} time {time} on {node:?}");
-    in_place.same((&replaced.number, &lent), &replaced.node, &[], &call);
-    refused(replaced.number, &node, &replaced.node, time, &call);
-    count(check, replaced.number, &[0, 1], &call);
-    let (_, in_place) = check.lend_node(&node, &[], 0);
-    let lent = in_place.node.path_size(router);
-    let call = || format!("path_size {router:#x} on {node:?}");
-    in_place.same((&by_value::path_size(node, router), &lent), &node, &[], &call);
+    let tried = Tried { node: &node, bytes: &[], room: 0, time, name: "replace_routers" };
+    let replaced = tried.twice(check, |node, _, _| node.replace_routers(list, time));
+    tried.refused(replaced.answer, &replaced);
+    tried.count(check, replaced.answer, &[0, 1]);
+
+    let tried = Tried { node: &node, bytes: &[], room: 0, time: 0, name: "path_size" };
+    let size = tried.twice(check, |node, _, _| node.path_size(router));
+    same("node", &node, &size.node, &|| tried.words());
     check.totals.count(Call::AnyNode, 0);
+    writing(check, &node, &packet, Address { bytes: source }, number, time);
 }
 
 /// Sending and asking.
 fn writing(check: &mut Check, node: &Node, packet: &[u8], next_hop: Address, locator: usize, time: u32) {
     let room = check.random.one_of(&[0, 47, 48, 79, 80, 1279, 1280, 1600]);
-    let (loan, in_place) = check.lend_node(node, packet, room);
-    let sent = by_value::send(*node, loan.input, next_hop, locator, time, loan.library);
-    let lent = in_place.node.send(loan.input, next_hop, locator, time, in_place.output);
-    let call = || format!("send {} locator {locator} time {time} room {room} on {node:?}", hex(packet));
-    let answer = SentIn { number: sent.number, size: sent.size, length: sent.length };
-    in_place.same((&answer, &lent), &sent.node, loan.library, &call);
-    if !matches!(sent.number, 0 | 14) {
-        loan.same_output(&call);
-    }
-    same("length in the room", &true, &(sent.length <= room), &call);
-    refused(sent.number, node, &sent.node, time, &call);
-    count(check, sent.number, &[0, 8, 11, 12, 13, 14, 15, 23], &call);
+    let tried = Tried { node, bytes: packet, room, time, name: "send" };
+    let sent = tried.twice(check, |node, bytes, out| node.send(bytes, next_hop, locator, time, out));
+    tried.refused(sent.answer.number, &sent);
+    let longest = sent.answer.length.max(sent.answer.message_length);
+    same("length in the room", &true, &(longest <= room), &|| tried.words());
+    tried.count(check, sent.answer.number, &[0, 8, 11, 12, 13, 14, 15, 23]);
 
-    let (loan, in_place) = check.lend_node(node, &[], room);
-    let asked = by_value::ask(*node, locator, time, loan.library);
-    let lent = in_place.node.ask(locator, time, in_place.output);
-    let call = || format!("ask locator {locator} time {time} room {room} on {node:?}");
-    let answer = RouterIn { number: asked.number, router: asked.router };
-    in_place.same((&answer, &lent), &asked.node, loan.library, &call);
-    if asked.number != 0 {
-        loan.same_output(&call);
+    let tried = Tried { node, bytes: &[], room, time, name: "ask" };
+    let asked = tried.twice(check, |node, _, out| node.ask(locator, time, out));
+    tried.refused(asked.answer.number, &asked);
+    tried.count(check, asked.answer.number, &[0, 11, 22, 15]);
+}
+
+/// A call and what it is lent.
+struct Tried<'a> {
+    node: &'a Node,
+    bytes: &'a [u8],
+    room: usize,
+    time: u32,
+    name: &'static str,
+}
+
+/// What a call gave, and whether it left its output alone.
+struct Gave<A> {
+    answer: A,
+    node: Node,
+    silent: bool,
+}
+
+impl Tried<'_> {
+    /// Makes the call on two copies of all that it is lent: both must give the same.
+    fn twice<A: PartialEq + Debug>(
+        &self,
+        check: &mut Check,
+        call: impl Fn(&mut Node, &[u8], &mut [u8]) -> A,
+    ) -> Gave<A> {
+        let mut once = || {
+            let (loan, node) = check.lend_node(self.node, self.bytes, self.room);
+            let answer = call(node, loan.input, loan.library);
+            let node = *black_box(node);
+            // The output, as far as it differs from what stood there.
+            let changed: Vec<Option<u8>> =
+                loan.plain.iter().zip(&*loan.library).map(|(was, is)| (was != is).then_some(*is)).collect();
+            (answer, node, changed)
+        };
+        let (first, second) = (once(), once());
+        same("answer and node, made again", &(&first.0, &first.1), &(&second.0, &second.1), &|| self.words());
+        // A byte that one pattern had already is no difference there.
+        let other = first.2.iter().zip(&second.2).any(|bytes| matches!(bytes, (Some(a), Some(b)) if a != b));
+        same("other outputs", &false, &other, &|| self.words());
+        Gave { answer: first.0, node: first.1, silent: first.2.iter().all(Option::is_none) }
     }
-    refused(asked.number, node, &asked.node, time, &call);
-    count(check, asked.number, &[0, 11, 22, 15], &call);
+
+    /// A refusal changes the latest time only; 14 alone may write.
+    fn refused<A>(&self, number: u8, gave: &Gave<A>) {
+        if number != 0 {
+            let raised = Node { latest: self.node.latest.max(self.time), ..*self.node };
+            same("node after a refusal", &raised, &gave.node, &|| self.words());
+            same("output after a refusal", &true, &(gave.silent || number == 14), &|| self.words());
+        }
+    }
+
+    fn count(&self, check: &mut Check, number: u8, numbers: &[u8]) {
+        same("a number of the call", &true, &numbers.contains(&number), &|| self.words());
+        check.totals.count(Call::AnyNode, number.into());
+    }
+
+    fn words(&self) -> String {
+        format!("{} {} room {} time {} on {:?}", self.name, hex(self.bytes), self.room, self.time, self.node)
+    }
 }
 
 /// A node with random bytes and counts in every field.
@@ -110,16 +144,4 @@ fn node(check: &mut Check) -> Node {
     node.paths.count = check.random.one_of(&counts);
     node.paths.neighbours[check.random.below(64)] = node.service.routers.routers[0].address;
     node
-}
-
-fn refused(number: u8, before: &Node, after: &Node, time: u32, call: &dyn Fn() -> String) {
-    if number != 0 {
-        let raised = Node { latest: before.latest.max(time), ..*before };
-        same("node after a refusal", &raised, after, call);
-    }
-}
-
-fn count(check: &mut Check, number: u8, numbers: &[u8], call: &dyn Fn() -> String) {
-    same("a number of the call", &true, &numbers.contains(&number), call);
-    check.totals.count(Call::AnyNode, number.into());
 }

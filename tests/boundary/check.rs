@@ -1,9 +1,9 @@
 //! What every comparison needs: memory to lend, totals, random numbers, and the report of a difference.
 
-use crate::bogtrumpet::Node;
 use crate::lent::Lent;
 use crate::random::Random;
 use crate::totals::Totals;
+use bogtrumpet::raw::Node;
 use std::fmt::Debug;
 use std::hint::black_box;
 
@@ -16,7 +16,6 @@ pub struct Check {
     pub random: Random,
     bytes: Bytes,
     node: Lent,
-    output_in_place: Lent,
     pattern: Vec<u8>,
 }
 
@@ -33,12 +32,6 @@ pub struct Loan<'a> {
     pub plain: &'a mut [u8],
 }
 
-/// A node lent to the library over a pointer, and output for that call.
-pub struct InPlace<'a> {
-    pub node: &'a mut Node,
-    pub output: &'a mut [u8],
-}
-
 impl Check {
     pub fn new(seed: u64) -> Check {
         let mut random = Random::new(seed);
@@ -49,7 +42,6 @@ impl Check {
             random,
             bytes: Bytes { input: Lent::new(LONGEST), output: Lent::new(LONGEST), expected: vec![0; LONGEST] },
             node: Lent::new(size_of::<Node>()),
-            output_in_place: Lent::new(LONGEST),
             pattern,
         }
     }
@@ -60,13 +52,11 @@ impl Check {
         self.bytes.lend(bytes, pattern(&self.pattern, choice, room), choice)
     }
 
-    /// The same, and a copy of the node with output of its own, for a call that is made by value and over a pointer.
-    pub fn lend_node(&mut self, node: &Node, bytes: &[u8], room: usize) -> (Loan<'_>, InPlace<'_>) {
+    /// Lends a copy of the node, a copy of the bytes, and `room` bytes of output that hold a new pattern.
+    pub fn lend_node(&mut self, node: &Node, bytes: &[u8], room: usize) -> (Loan<'_>, &mut Node) {
         let choice = self.random.next();
-        let pattern = pattern(&self.pattern, choice, room);
-        let output = self.output_in_place.copy(pattern, choice & 1 << 34 != 0);
-        let in_place = InPlace { node: self.node.node(node, choice & 1 << 35 != 0), output };
-        (self.bytes.lend(bytes, pattern, choice), in_place)
+        let lent = self.node.node(node, choice & 1 << 35 != 0);
+        (self.bytes.lend(bytes, pattern(&self.pattern, choice, room), choice), lent)
     }
 
     /// Lends a copy of the bytes.
@@ -91,20 +81,21 @@ impl Bytes {
 }
 
 impl Loan<'_> {
-    /// Both outputs are the same, the bytes behind the written length too.
-    pub fn same_output(&self, call: &dyn Fn() -> String) {
+    /// Both outputs are the same, the bytes behind the written length too, and the input is what was lent.
+    pub fn same_output(&self, input: &[u8], call: &dyn Fn() -> String) {
         same_bytes("output", self.plain, self.library, call);
+        same_input(input, self.input, call);
     }
 }
 
-impl InPlace<'_> {
-    /// The answer, the node and the output of a call over a pointer are these.
-    pub fn same<T: PartialEq + Debug>(&self, answers: (&T, &T), node: &Node, output: &[u8], call: &dyn Fn() -> String) {
-        same("answer over a pointer", answers.0, answers.1, call);
-        // A compiler may hold that a call which is lent the node to read leaves it alone.
-        same("node over a pointer", node, black_box(&*self.node), call);
-        same_bytes("output over a pointer", output, self.output, call);
-    }
+/// The input is what was lent. A compiler may hold that a call which is lent bytes to read leaves them alone.
+pub fn same_input(expected: &[u8], lent: &[u8], call: &dyn Fn() -> String) {
+    same_bytes("input", expected, black_box(lent), call);
+}
+
+/// The node that was lent to read is as it was.
+pub fn same_node(expected: &Node, lent: &Node, call: &dyn Fn() -> String) {
+    same("node", expected, black_box(lent), call);
 }
 
 fn same_bytes(what: &str, expected: &[u8], library: &[u8], call: &dyn Fn() -> String) {

@@ -33,7 +33,7 @@ pub fn edges(check: &mut Check) {
 }
 
 /// One locator, one prefix, two routers, and the defaults.
-fn settings() -> Settings {
+pub fn settings() -> Settings {
     let mut settings = Settings { locator_count: 1, prefix_count: 1, router_count: 2, ..Settings::default() };
     settings.locators[0] = Locator { address: LOCATOR, interface: 7 };
     settings.prefixes[0] = PREFIX;

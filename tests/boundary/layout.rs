@@ -1,7 +1,7 @@
-//! The Rust module's structs have their fields where the C header has them.
+//! The structs of the Rust package have their fields where the C header has them.
 
-use crate::bogtrumpet::*;
 use crate::check::same;
+use bogtrumpet::raw::*;
 use std::mem::offset_of;
 
 extern "C" {
@@ -31,20 +31,16 @@ pub fn compare() {
         Paths: neighbours sizes times count;
         Node: service paths latest;
         Addresses: routers count;
-        Setup: number node;
         Received: number offset length;
-        SentIn: number size length;
-        ReportedIn: number neighbour size;
-        RouterIn: number router;
-        Sent: number size length node;
-        Reported: number neighbour size node;
-        Replaced: number node;
-        Asked: number router node;
-        Heard: number router node;
+        Sent: number size length message_length;
+        Reported: number neighbour size;
+        Asked: number router;
+        Heard: number router;
         Prefixes: bytes count;
         Embedded: found address;
         OuterRead: number protocol header total source destination;
         Outer: identification dont_fragment ttl protocol source destination;
+        Written: number length;
     };
     let call = || "the places of fields in the module and in the header".into();
     same("count of places", &module.len(), &header.len(), &call);

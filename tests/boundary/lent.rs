@@ -1,7 +1,7 @@
 //! Memory to lend to the library: a slice that lies against a page that may not be touched, so that a byte read or written past
 //! its end (or before its start) ends the program.
 
-use crate::bogtrumpet::Node;
+use bogtrumpet::raw::Node;
 use std::ffi::c_void;
 
 const PAGE: usize = 4096;

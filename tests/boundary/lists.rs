@@ -228,7 +228,7 @@ fn other_source(random: &mut Random) -> Address {
     source
 }
 
-/// The length of a packet: short, at a size that document 01 names, or long.
+/// The length of a packet: short, at a size that the rules name, or long.
 fn length(random: &mut Random) -> usize {
     match random.below(64) {
         0 => random.between(1279, 1301),

@@ -1,4 +1,4 @@
-//! One tunnel end in plain Rust, written from document 01 alone: the second implementation that the proved library is compared
+//! One tunnel end in plain Rust, written from the rules (docs/RULES.md) alone: the second implementation that the proved library is compared
 //! with, and the baseline of the benchmarks. No heap; each call changes the node in place.
 
 #[path = "plain_rules.rs"]

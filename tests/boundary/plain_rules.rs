@@ -1,4 +1,4 @@
-//! Document 01's rules without state in plain Rust: checksums, addresses, headers and messages.
+//! The rules without state (docs/RULES.md) in plain Rust: checksums, addresses, headers and messages.
 
 use std::ops::Range;
 

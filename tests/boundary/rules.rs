@@ -26,8 +26,8 @@ pub fn edges(check: &mut Check) {
     for length in (0..70).chain(1279..=1301).chain(lengths).chain(long).chain([65515, 65516]) {
         let written = length + 20;
         for room in [0, 19, 20, written - 1, written, written + 1, written + 64] {
-            let outer = outer(check);
-            stateless::wrap(check, &outer, &bytes[..length], room.min(LONGEST));
+            let (outer, dont_fragment) = (outer(check), dont_fragment(check));
+            stateless::wrap(check, &outer, dont_fragment, &bytes[..length], room.min(LONGEST));
         }
         let written = length.min(1232) + 48;
         for room in [0, 40, 47, 48, written - 1, written, written + 1, 1279, 1280, 1300] {
@@ -38,6 +38,10 @@ pub fn edges(check: &mut Check) {
     }
     for room in (0..60).chain([1280]) {
         stateless::solicitation(check, 0x0a00_0001, 0x0a02_0001, room);
+    }
+    for dont_fragment in 0..=255 {
+        let outer = outer(check);
+        stateless::wrap(check, &outer, dont_fragment, &bytes[..60], 80);
     }
 }
 
@@ -72,9 +76,9 @@ pub fn random(check: &mut Check) {
         packets::repair_report(&mut bytes);
     }
     stateless::checksum_right(check, &bytes);
-    let outer = outer(check);
+    let (outer, dont_fragment) = (outer(check), dont_fragment(check));
     let room = length + check.random.between(15, 24);
-    stateless::wrap(check, &outer, &bytes, room);
+    stateless::wrap(check, &outer, dont_fragment, &bytes, room);
     let reporting = check.random.bytes();
     stateless::too_big(check, reporting, start as u16, &bytes, room + 28);
     let router = self::address(check);
@@ -92,10 +96,16 @@ fn address(check: &mut Check) -> u32 {
 fn outer(check: &mut Check) -> Outer {
     Outer {
         identification: check.random.one_of(&[0, 1, 0xfffe, 0xffff, 0x1234]),
-        dont_fragment: check.random.once_in(2),
+        dont_fragment: false,
         ttl: check.random.next() as u8,
         protocol: check.random.one_of(&[41, 41, 4, 0, 255]),
         source: address(check),
         destination: address(check),
     }
+}
+
+/// The byte that says it in C: often 0 or 1, or any other.
+fn dont_fragment(check: &mut Check) -> u8 {
+    let any = check.random.next() as u8;
+    check.random.one_of(&[0, 0, 1, any])
 }

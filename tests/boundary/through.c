@@ -1,6 +1,6 @@
 /*
  * Every call once more through C: linked with --wrap, the test's calls come here and go on to the library as the header has them.
- * bogtrumpet_layout is the header's place of each field, for layout.rs to compare with the Rust module's.
+ * bogtrumpet_layout is the header's place of each field, for layout.rs to compare with the Rust package's.
  */
 #include "bogtrumpet.h"
 
@@ -15,29 +15,17 @@ typedef struct bogtrumpet_address address_t;
 typedef const uint8_t *bytes_t;
 
 FORWARD(struct bogtrumpet_settings, defaults, (struct bogtrumpet_settings s), (s))
-FORWARD(struct bogtrumpet_setup, new, (struct bogtrumpet_settings s), (s))
-FORWARD(struct bogtrumpet_received, receive_in, (const node_t *n, bytes_t d, size_t length, uint8_t i), (n, d, length, i))
-FORWARD(struct bogtrumpet_sent_in, send_in,
+FORWARD(uint8_t, new, (node_t *n, struct bogtrumpet_settings s), (n, s))
+FORWARD(struct bogtrumpet_received, receive, (const node_t *n, bytes_t d, size_t length, uint8_t i), (n, d, length, i))
+FORWARD(struct bogtrumpet_sent, send,
         (node_t *n, bytes_t p, size_t length, address_t hop, size_t locator, uint32_t time, uint8_t *out, size_t room),
         (n, p, length, hop, locator, time, out, room))
-FORWARD(struct bogtrumpet_reported_in, report_in, (node_t *n, bytes_t m, size_t length, uint32_t time),
-        (n, m, length, time))
-FORWARD(uint8_t, replace_routers_in, (node_t *n, struct bogtrumpet_addresses list, uint32_t time), (n, list, time))
-FORWARD(struct bogtrumpet_router_in, ask_in, (node_t *n, size_t locator, uint32_t time, uint8_t *out, size_t room),
+FORWARD(struct bogtrumpet_reported, report, (node_t *n, bytes_t m, size_t length, uint32_t time), (n, m, length, time))
+FORWARD(uint8_t, replace_routers, (node_t *n, struct bogtrumpet_addresses list, uint32_t time), (n, list, time))
+FORWARD(struct bogtrumpet_asked, ask, (node_t *n, size_t locator, uint32_t time, uint8_t *out, size_t room),
         (n, locator, time, out, room))
-FORWARD(struct bogtrumpet_router_in, hear_in, (node_t *n, bytes_t p, size_t length, uint32_t time), (n, p, length, time))
-FORWARD(uint16_t, path_size_in, (const node_t *n, uint32_t neighbour), (n, neighbour))
-FORWARD(struct bogtrumpet_received, receive, (node_t n, bytes_t d, size_t length, uint8_t i), (n, d, length, i))
-FORWARD(struct bogtrumpet_sent, send,
-        (node_t n, bytes_t p, size_t length, address_t hop, size_t locator, uint32_t time, uint8_t *out, size_t room),
-        (n, p, length, hop, locator, time, out, room))
-FORWARD(struct bogtrumpet_reported, report, (node_t n, bytes_t m, size_t length, uint32_t time), (n, m, length, time))
-FORWARD(struct bogtrumpet_replaced, replace_routers, (node_t n, struct bogtrumpet_addresses list, uint32_t time),
-        (n, list, time))
-FORWARD(struct bogtrumpet_asked, ask, (node_t n, size_t locator, uint32_t time, uint8_t *out, size_t room),
-        (n, locator, time, out, room))
-FORWARD(struct bogtrumpet_heard, hear, (node_t n, bytes_t p, size_t length, uint32_t time), (n, p, length, time))
-FORWARD(uint16_t, path_size, (node_t n, uint32_t neighbour), (n, neighbour))
+FORWARD(struct bogtrumpet_heard, hear, (node_t *n, bytes_t p, size_t length, uint32_t time), (n, p, length, time))
+FORWARD(uint16_t, path_size, (const node_t *n, uint32_t neighbour), (n, neighbour))
 FORWARD(uint16_t, checksum, (uint32_t start, bytes_t b, size_t length), (start, b, length))
 FORWARD(bool, checksum_right, (bytes_t b, size_t length), (b, length))
 FORWARD(bool, forbidden, (uint32_t address), (address))
@@ -46,11 +34,11 @@ FORWARD(address_t, link_local, (uint32_t address), (address))
 FORWARD(bool, bad_source, (address_t a), (a))
 FORWARD(struct bogtrumpet_outer_read, read_outer, (bytes_t d, size_t length), (d, length))
 FORWARD(struct bogtrumpet_received, unwrap, (bytes_t d, size_t length), (d, length))
-FORWARD(size_t, wrap, (struct bogtrumpet_outer h, bytes_t p, size_t length, uint8_t *out, size_t room),
+FORWARD(struct bogtrumpet_written, wrap, (struct bogtrumpet_outer h, bytes_t p, size_t length, uint8_t *out, size_t room),
         (h, p, length, out, room))
-FORWARD(size_t, too_big, (address_t a, uint16_t size, bytes_t p, size_t length, uint8_t *out, size_t room),
+FORWARD(struct bogtrumpet_written, too_big, (address_t a, uint16_t size, bytes_t p, size_t length, uint8_t *out, size_t room),
         (a, size, p, length, out, room))
-FORWARD(size_t, solicitation, (uint32_t locator, uint32_t router, uint8_t *out, size_t room),
+FORWARD(struct bogtrumpet_written, solicitation, (uint32_t locator, uint32_t router, uint8_t *out, size_t room),
         (locator, router, out, room))
 
 /* The place of each field and the size of each struct, in the header's order; layout.rs has the same list. */
@@ -69,21 +57,17 @@ const size_t bogtrumpet_layout[] = {
     AT(paths, neighbours), AT(paths, sizes), AT(paths, times), AT(paths, count), SIZE(paths),
     AT(node, service), AT(node, paths), AT(node, latest), SIZE(node),
     AT(addresses, routers), AT(addresses, count), SIZE(addresses),
-    AT(setup, number), AT(setup, node), SIZE(setup),
     AT(received, number), AT(received, offset), AT(received, length), SIZE(received),
-    AT(sent_in, number), AT(sent_in, size), AT(sent_in, length), SIZE(sent_in),
-    AT(reported_in, number), AT(reported_in, neighbour), AT(reported_in, size), SIZE(reported_in),
-    AT(router_in, number), AT(router_in, router), SIZE(router_in),
-    AT(sent, number), AT(sent, size), AT(sent, length), AT(sent, node), SIZE(sent),
-    AT(reported, number), AT(reported, neighbour), AT(reported, size), AT(reported, node), SIZE(reported),
-    AT(replaced, number), AT(replaced, node), SIZE(replaced),
-    AT(asked, number), AT(asked, router), AT(asked, node), SIZE(asked),
-    AT(heard, number), AT(heard, router), AT(heard, node), SIZE(heard),
+    AT(sent, number), AT(sent, size), AT(sent, length), AT(sent, message_length), SIZE(sent),
+    AT(reported, number), AT(reported, neighbour), AT(reported, size), SIZE(reported),
+    AT(asked, number), AT(asked, router), SIZE(asked),
+    AT(heard, number), AT(heard, router), SIZE(heard),
     AT(prefixes, bytes), AT(prefixes, count), SIZE(prefixes),
     AT(embedded, found), AT(embedded, address), SIZE(embedded),
     AT(outer_read, number), AT(outer_read, protocol), AT(outer_read, header), AT(outer_read, total),
     AT(outer_read, source), AT(outer_read, destination), SIZE(outer_read),
     AT(outer, identification), AT(outer, dont_fragment), AT(outer, ttl), AT(outer, protocol),
     AT(outer, source), AT(outer, destination), SIZE(outer),
+    AT(written, number), AT(written, length), SIZE(written),
 };
 const size_t bogtrumpet_layout_length = sizeof bogtrumpet_layout / sizeof bogtrumpet_layout[0];

@@ -1,6 +1,6 @@
 //! How often each call was made and each answer met.
 
-/// A kind of call and the answers that it must have given at the end: document 01's numbers (0: not refused) for calls that have
+/// A kind of call and the answers that it must have given at the end: the numbers of the rules (0: not refused) for calls that have
 /// them, else 0 and 1 for no and yes.
 struct Kind {
     name: &'static str,
@@ -40,6 +40,7 @@ kinds! {
     Wrap "wrap" [0, 15, 23];
     TooBig "too_big" [0, 8, 15];
     Solicitation "solicitation" [0, 15];
+    Null "with (NULL, 0)" [0];
     AnyNode "on any node" [0, 1, 11, 14, 15, 17, 19, 21, 22];
 }
 

@@ -44,7 +44,7 @@ WRONG_SOURCES = NOT_ISATAP + [
 TOTALS = [lambda header, whole: header - 1, lambda header, whole: 0,
           lambda header, whole: whole + 1, lambda header, whole: 65535]
 RECEIVE_FAULTS = (
-    faults(2, *one_of("cut", (0, 1, 19)), *one_of("version", (5, 6)), *one_of("words", (0, 4)), *one_of("total_rule", TOTALS),
+    faults(2, *one_of("cut", (0, 1, 19)), *one_of("version", (0, 3, 5, 6, 12)), *one_of("words", (0, 4)), *one_of("total_rule", TOTALS),
            {"words": 15, "cut": 59}, {"words": 6, "cut": 20})
     + faults(3, *one_of("spoil", (1, 0x100, 0x8000, None)))
     + faults(4, *one_of("protocol", (0, 4, 40, 42, 255)))
@@ -60,7 +60,7 @@ BY_ROUTER = [GLOBAL, bytes(12) + b"\x0a\1\1\1", isatap_address(LINK_LOCAL, "0100
              b"\xfe" + bytes(15), link_local(FORBIDDEN[2]), bytes(10) + b"\xff\xff\x0a\1\1\1", bytes(10) + b"\xff\xff" + FORBIDDEN[2]]
 RECEIVE_VARIATIONS = (
     one_of("words", (5, 6, 9, 15)) + one_of("padding", (b"\1", bytes(26))) + one_of("flags", (0x4000, 0x8000, 0xc000))
-    + one_of("zero_check", (0, 0xffff)) + [{"payload": b""}, {"tail": b"\7"}, {"tail": bytes(9), "words": 7, "padding": b"\1"}]
+    + one_of("zero_check", (0, 0xffff)) + one_of("payload", (b"", bytes(216), bytes(300), bytes(1460))) + [{"tail": b"\7"}, {"tail": bytes(9), "words": 7, "padding": b"\1"}]
     + [{"source6": lambda calls, f, text=text: isatap_address(calls.prefix(), text, f["source"])} for text in ("00005efe", "02005efe")]
     + [{"source": address, "source6": link_local(address)} for address in NEARLY_FORBIDDEN]
     + [{"source": lambda calls, f: calls.listed_router(), "source6": source} for source in BY_ROUTER]
@@ -89,8 +89,8 @@ SEND_FAULTS = (
 # Size reports
 
 REPORT_FAULTS = (
-    faults(16, *one_of("cut", (0, 1, 8, 27)), *one_of("spoil", (1, 0x200, None)), *one_of("words", (0, 4)), {"version": 6},
-           {"words": 6, "cut": 31}, {"words": 15, "cut": 28},
+    faults(16, *one_of("cut", (0, 1, 8, 27)), *one_of("spoil", (1, 0x200, None)), *one_of("words", (0, 4)), *one_of("version", (0, 3, 5, 6)),
+           {"words": 6, "cut": 31}, {"words": 7, "cut": 35}, {"words": 9, "cut": 43}, {"words": 15, "cut": 28}, {"words": 15, "cut": 67},
            *[{"type": kind, "code": code} for kind, code in ((3, 3), (3, 5), (11, 4), (0, 0), (4, 3))])
     + faults(17, *one_of("protocol", (4, 40, 42)), {"source": lambda calls, f: calls.fresh()}, *one_of("neighbour", FORBIDDEN),
              {"neighbour": lambda calls, f: calls.random.choice(calls.settings.locators)[0]})
@@ -111,7 +111,7 @@ BROKEN_OPTIONS = [[b"\1\0" + bytes(6)], [b"\1\1" + bytes(6), b"\5\0"], [b"\1"], 
                   [b"\1\1" + bytes(5)], [b"\3\4" + bytes(29)], [b"\1\2" + bytes(6)], [b"\1\1" + bytes(7)], [b"\xff\xff" + bytes(64)]]
 ADVERTISEMENT_FAULTS = (
     faults(8, *one_of("cut", (0, 39)), {"version6": 4}, {"payload_error": 1, "tail": b""})
-    + faults(20, {"next_header": 59}, *one_of("hop_limit", (0, 254)), *one_of("spoil", (1, None)), *one_of("type", (133, 135)), {"code": 1},
+    + faults(20, *one_of("next_header", (0, 17, 57, 59)), *one_of("hop_limit", (0, 254)), *one_of("spoil", (1, None)), *one_of("type", (133, 135)), {"code": 1},
              *one_of("message_cut", (0, 1, 4, 8, 15)), *one_of("options", BROKEN_OPTIONS),
              *one_of("source6", (off_link, GLOBAL)), {"source6": lambda calls, f: isatap_address(calls.prefix(False), "00005efe", f["address"])})
     + faults(21, UNLISTED, *NOT_ISATAP))

@@ -143,15 +143,15 @@ NAMED_SETTINGS = {"double_faults": (double_faults.SETTINGS, double_faults.make),
 
 def named_inputs():
     """Name and bytes of each."""
-    for place, (name, scenario) in enumerate(NAMED.items()):
-        yield name, scenario_bytes(place, {}, scenario)
+    for name, scenario in NAMED.items():
+        yield name, scenario_bytes(name, {}, scenario)
     for name, (changes, scenario) in NAMED_SETTINGS.items():
-        yield name, scenario_bytes(7, changes, scenario)
+        yield name, scenario_bytes(name, changes, scenario)
     for name, changes in REFUSED_SETTINGS.items():
         yield "settings_refused_" + name, encode_settings(plain_settings(**changes)) + encode_call("size", [bytes(4)])
     for name, changes in ALLOWED_SETTINGS.items():
-        yield "settings_" + name, scenario_bytes(3, changes, sends)
-    good = scenario_bytes(5, {}, no_calls_but_some)
+        yield "settings_" + name, scenario_bytes(name, changes, sends)
+    good = scenario_bytes("good", {}, no_calls_but_some)
     yield from {"bad_input_empty": b"", "bad_input_cut_settings": good[:11], "bad_input_cut": good[:-1],
                 "bad_input_kind_0": good + b"\0", "bad_input_kind_8": good + b"\x08", "bad_input_flag": encode_settings(plain_settings())[:-1] + b"\2",
                 "bad_input_flag_before_address": encode_settings(plain_settings())[:-1] + b"\2" + GLOBAL,
@@ -164,8 +164,9 @@ def no_calls_but_some(calls):
     calls.report()
 
 
-def scenario_bytes(seed, changes, scenario):
-    calls = Calls(random.Random(seed), plain_settings(**changes))
+def scenario_bytes(name, changes, scenario):
+    """The name is the seed, so that one more input changes no other."""
+    calls = Calls(random.Random(name), plain_settings(**changes))
     scenario(calls)
     return bytes(calls.data)
 
@@ -216,7 +217,8 @@ def expected(batches=True):
 # ---- Stored data
 
 STORED_LAST = ("long_ages", "times_near_the_end")             # they leave no time for others
-NOT_STORED = ("longest_packets", "longest_lifetime", "neighbours_65", "neighbours_64_reported_again")  # long, or shown by others
+NOT_STORED = ("longest_packets", "longest_lifetime", "neighbours_64", "neighbours_65", "neighbours_64_reported_again",
+              "identifications")                              # long, or shown by others
 
 
 def stored():
@@ -224,7 +226,7 @@ def stored():
     names = [name for name in NAMED if name not in STORED_LAST + NOT_STORED] + list(STORED_LAST)
     changes = {"locators": EIGHT, "prefixes": PREFIXES, "routers": numbered(1, 16), "interval": 77, "ttl": 65, "identification": 65530,
                "reporting": GLOBAL}
-    return scenario_bytes(11, changes, lambda calls: [scenario(calls) for scenario in (
+    return scenario_bytes("stored", changes, lambda calls: [scenario(calls) for scenario in (
         each_router, each_locator, each_prefix, *[NAMED[name] for name in names])])
 
 

@@ -1,19 +1,19 @@
 -- When an asking is answered, and what an answered and a refused one leave. Assumes nothing.
-use Prim.Native.Nat.{ℕ, _+_, _≤_}
+use Prim.Native.Nat.{ℕ, _+_, _≤_, _<_}
 use mathlib.Core.Path.{_≡_, refl, sym, ap, _∙_}
 use mathlib.Core.Bool.{Bool, true, false, cond}
 use mathlib.Core.List.{List}
 use native.Mathlib.Omega.{arith}
-use borrow.Author.Tests.{ltb-false, le-ltb}
+use borrow.Author.Tests.{ltb-false, le-ltb, lt-ltb}
 use lib.ListN.{length}
 use lib.Dec.{ltb}
 use Rattle.refusals.specs.declared.Refusal.{Refusal}
-use Rattle.refusals.specs.declared.Refusal.the-variants.{OutputShort, NoRouterDue}
+use Rattle.refusals.specs.declared.Refusal.the-variants.{NoLocator, OutputShort, NoRouterDue}
 use Rattle.address.specs.Address.{linkLocalOf}
 use Rattle.lent.specs.Written.{written}
 use Rattle.messages.specs.Icmp.{icmpSum, icmpMessage, icmpPacket, solicitationOf, solicitationLength}
 use Rattle.routers.specs.Routers.{live, nextOf, rescheduledOf}
-use Rattle.routers.specs.Facts.{NoneIsDue, OnlyDue}
+use Rattle.routers.specs.Facts.{EarliestDue, NoneIsDue, OnlyDue}
 use Rattle.routers.proofs.Due.{earliest-due, due-earliest, none-due, due-none, only-due}
 use Rattle.routers.specs.declared.RouterList.{RouterList}
 use Rattle.routers.specs.declared.Next.{Next}
@@ -144,12 +144,28 @@ module _ (s : Settings) (routers : RouterList) (now number : ℕ) (out : List �
   unfolding askedOf askPlan planFor
   when-none-due from l n = rw (locator-found s number from l, due-none now (live routers) n)
 
+  no-locator : ((from : ℕ) → LocatorAt s number from → ⊥) → askedOf s routers now number (length out) .answer ≡ Refused NoLocator
+  unfolding askedOf askPlan planFor
+  no-locator n = go (locatorFound (s .locators) (s .«locator_count») number) refl
+    where
+      go : (f : Found) → locatorFound (s .locators) (s .«locator_count») number ≡ f
+          → carriedOut (planFor f (nextOf now (live routers)) (length out)) (now + s .interval) routers .answer ≡ Refused NoLocator
+      go Nothing e = refl
+      go (Address from) e = absurd (n from (found-locator s number from e))
+
+  short : (from router : ℕ) → LocatorAt s number from → EarliestDue now (live routers) router → length out < 48
+      → askedOf s routers now number (length out) .answer ≡ Refused OutputShort
+  unfolding askedOf askPlan planFor
+  short from router l d few = rw (locator-found s number from l, due-earliest now router (live routers) d, lt-ltb (length out) solicitationLength few)
+
   pub asked-exactly : AskedExactly s routers now number out
   asked-exactly = record {
     onlyIf = only-if;
     whenever = whenever;
     output = output;
     due = due;
+    noLocator = no-locator;
+    short = short;
     noneDue = none-due-found;
     whenNoneDue = when-none-due;
   }

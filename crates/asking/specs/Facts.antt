@@ -1,12 +1,12 @@
 -- When an asking is answered, and what it then does, in plain facts.
-use Prim.Native.Nat.{ℕ, _+_, _/_, _%_, _≤_}
+use Prim.Native.Nat.{ℕ, _+_, _/_, _%_, _≤_, _<_}
 use mathlib.Core.Path.{_≡_}
 use mathlib.Core.List.{List, [], _∷_, _++_}
 use lib.ListN.{length}
 use Rattle.checksum.specs.Sum.{onesSum, onesComplement}
 use Rattle.address.specs.Address.{linkLocalOf}
 use Rattle.lent.specs.Written.{written}
-use Rattle.refusals.specs.declared.Refusal.the-variants.{NoRouterDue}
+use Rattle.refusals.specs.declared.Refusal.the-variants.{NoLocator, OutputShort, NoRouterDue}
 use Rattle.routers.specs.Routers.{live}
 use Rattle.routers.specs.Facts.{EarliestDue, NoneIsDue, OnlyDue}
 use Rattle.routers.specs.declared.RouterList.{RouterList}
@@ -51,6 +51,11 @@ pub record AskedExactly (s : Settings) (routers : RouterList) (now number : ℕ)
       → askedOutput s routers now number out ≡ written (solicitationBytes from router) out
   pub due : (from router : ℕ) → MayAsk s routers now number (length out) from router
       → OnlyDue routers router (now + s .interval) (askedOf s routers now number (length out) .routers)
+  -- 11: no locator of that number
+  pub noLocator : ((from : ℕ) → LocatorAt s number from → ⊥) → askedOf s routers now number (length out) .answer ≡ Refused NoLocator
+  -- 15: no room for a solicitation
+  pub short : (from router : ℕ) → LocatorAt s number from → EarliestDue now (live routers) router → length out < 48
+      → askedOf s routers now number (length out) .answer ≡ Refused OutputShort
   -- 22 is given exactly when the locator is there and no router is due
   pub noneDue : askedOf s routers now number (length out) .answer ≡ Refused NoRouterDue → ((from : ℕ) × LocatorAt s number from) × NoneIsDue now (live routers)
   pub whenNoneDue : (from : ℕ) → LocatorAt s number from → NoneIsDue now (live routers)

@@ -7,6 +7,7 @@ use native.Mathlib.Omega.{arith}
 use borrow.Author.Tests.{not-false}
 use lib.ListN.{length, take, drop}
 use Rattle.lists.proofs.Tests.{and-left, and-right}
+use Rattle.lists.proofs.Decides.{refutes}
 use Rattle.address.specs.Address.{isLinkLocal}
 use Rattle.address.specs.declared.Embedded.{Embedded}
 use Rattle.address.specs.declared.Embedded.the-variants.{Ipv4, Nothing}
@@ -14,11 +15,13 @@ use Rattle.address.proofs.Facts.{decides-link-local}
 use Rattle.refusals.specs.Refusals.{firstOf, stopOr}
 use Rattle.refusals.proofs.Laws.{all-false, stop-passed}
 use Rattle.refusals.specs.declared.Refusal.{Refusal}
-use Rattle.refusals.specs.declared.Refusal.the-variants.{AdvertiserNotListed}
+use Rattle.refusals.specs.declared.Refusal.the-variants.{InnerMalformed, AdvertisementInvalid, AdvertiserNotListed}
 use Rattle.refusals.specs.declared.Check.{Check}
 use Rattle.refusals.specs.declared.Check.the-variants.{Pass, Stop}
 use Rattle.header.specs.Fields.{wordAt}
-use Rattle.header.specs.Inner.{innerOf}
+use Rattle.header.specs.Inner.{innerOf, isInnerMalformed}
+use Rattle.header.specs.Whole.{WholeInner}
+use Rattle.header.specs.declared.inner.Inner.{Inner}
 use Rattle.header.proofs.InnerLaws.{inner-whole, whole-inner}
 use Rattle.lifetimes.specs.Options.{optionsOf}
 use Rattle.lifetimes.specs.Lifetimes.{withoutLifetime, delayOf, dueAfter}
@@ -26,16 +29,17 @@ use Rattle.lifetimes.specs.Facts.{DueBy}
 use Rattle.lifetimes.proofs.PutOff.{interval-delay}
 use Rattle.lifetimes.proofs.Facts.{options-are-read, due-by}
 use Rattle.routers.specs.Routers.{live, listed, rescheduledOf}
-use Rattle.routers.specs.Facts.{OnlyDue}
+use Rattle.routers.specs.Facts.{Listed, OnlyDue}
 use Rattle.routers.specs.declared.RouterList.{RouterList}
 use Rattle.routers.proofs.Facts.{decides-listed}
 use Rattle.routers.proofs.Due.{only-due}
 use Rattle.settings.specs.Settings.{embeddedTo}
 use Rattle.settings.specs.declared.Settings.{Settings}
+use Rattle.settings.specs.Facts.{IsatapTo}
 use Rattle.settings.proofs.Facts.{embedded-to, isatap-to}
 use Rattle.hearing.specs.Message.{messageOf, isValidMessage}
-use Rattle.hearing.specs.Heard.{advertisement, optionsStart, optionsIn, refusedBy, heardOfRouter, heardFrom, heardRows, heardOf}
-use Rattle.hearing.specs.Facts.{ValidAdvertisement, routerLifetime, HeardExactly}
+use Rattle.hearing.specs.Heard.{advertisementType, optionsStart, optionsIn, isValidAdvertisement, refusedBy, heardOfRouter, heardFrom, heardRows, heardOf}
+use Rattle.hearing.specs.Facts.{IsAdvertisement, ValidAdvertisement, routerLifetime, HeardExactly}
 use Rattle.hearing.proofs.MessageLaws.{message-rules, rules-message}
 use Rattle.hearing.specs.declared.HeardAnswer.the-variants.{Router, Refused}
 use Rattle.hearing.specs.declared.Heard.{Heard}
@@ -81,6 +85,39 @@ stopped : (c : Check) (routers : RouterList) (x : Heard) (r : Refusal) → (x .a
 stopped Pass routers x r f h = f h
 stopped (Stop q) routers x r f h = refl
 
+-- a valid advertisement is one of the facts
+
+module _ (i : Inner) (q : List ℕ) where
+  valid-facts : isValidAdvertisement i q ≡ true → IsAdvertisement i q (optionsOf (drop optionsStart (messageOf q)))
+  valid-facts v =
+      let message = isValidMessage advertisementType optionsStart i q in
+      record {
+        message = message-rules advertisementType optionsStart i q (and-right (isLinkLocal (i .source)) message v);
+        linkLocal = decides-link-local (i .source) .holds (and-left (isLinkLocal (i .source)) message v);
+      }
+
+  facts-valid : (os : List (List ℕ)) → IsAdvertisement i q os → isValidAdvertisement i q ≡ true
+  facts-valid os a = rw (decides-link-local (i .source) .passes (a .linkLocal), rules-message advertisementType optionsStart i q os (a .message))
+
+  none-valid : ((os : List (List ℕ)) → IsAdvertisement i q os → ⊥) → isValidAdvertisement i q ≡ false
+  none-valid n = go (isValidAdvertisement i q) refl
+    where
+      go : (t : Bool) → isValidAdvertisement i q ≡ t → t ≡ false
+      go true e = absurd (n _ (valid-facts e))
+      go false e = refl
+
+none-whole : (n : ℕ) (i : Inner) → (WholeInner n i → ⊥) → isInnerMalformed n i ≡ true
+none-whole n i w = go (isInnerMalformed n i) refl
+  where
+    go : (t : Bool) → isInnerMalformed n i ≡ t → t ≡ true
+    go true e = refl
+    go false e = absurd (w (inner-whole n i e))
+
+router-unlisted : (routers : RouterList) (due : ℕ) (e : Embedded) → ((a : ℕ) → e ≡ Ipv4 a → Listed a (live routers) → ⊥)
+    → heardOfRouter e routers due .answer ≡ Refused AdvertiserNotListed
+router-unlisted routers due (Ipv4 a) n = rw (refutes _ (decides-listed a (live routers)) (n a refl))
+router-unlisted routers due Nothing n = refl
+
 -- an accepted advertisement puts its router, and no other, off, by the interval at least
 pub record PutOff (s : Settings) (routers : RouterList) (now : ℕ) (p : List ℕ) (router : ℕ) : Type 0 where
   pub delay : ℕ
@@ -120,12 +157,10 @@ module _ (s : Settings) (routers : RouterList) (now : ℕ) (p : List ℕ) where
       let q = take (i .length) p in
       let g = accepted-parts router h in
       let f = all-false (heardRows p) (g .0) in
-      let v = not-false _ (f .1 .0) in
       record {
         whole = inner-whole (length p) i (f .0);
         options = optionsOf (drop optionsStart (messageOf q));
-        valid = message-rules advertisement optionsStart i q (and-right (isLinkLocal (i .source)) (isValidMessage advertisement optionsStart i q) v);
-        linkLocal = decides-link-local (i .source) .holds (and-left (isLinkLocal (i .source)) (isValidMessage advertisement optionsStart i q) v);
+        valid = valid-facts i q (not-false _ (f .1 .0));
         embeds = embedded-to s (i .source) router (g .1);
         inList = decides-listed router (live routers) .holds (g .2);
       }
@@ -138,8 +173,7 @@ module _ (s : Settings) (routers : RouterList) (now : ℕ) (p : List ℕ) where
       let q = take (i .length) p in
       simp (
         whole-inner (length p) i (a .whole),
-        rules-message advertisement optionsStart i q (a .options) (a .valid),
-        decides-link-local (i .source) .passes (a .linkLocal),
+        facts-valid i q (a .options) (a .valid),
         isatap-to s (i .source) router (a .embeds),
         decides-listed router (live routers) .passes (a .inList),
       )
@@ -155,13 +189,40 @@ module _ (s : Settings) (routers : RouterList) (now : ℕ) (p : List ℕ) where
       let bs = drop optionsStart (messageOf q) in
       let due = dueAfter now (s .interval) (optionsIn q .smallest) in
       let parts = accepted-parts router (accepted-if router a) in
-      let read = options-are-read bs (a .options) (a .valid .options) in
+      let read = options-are-read bs (a .options) (a .valid .message .options) in
       let by : DueBy now (s .interval) (routerLifetime q) (a .options) due =
       subst (λ (os : List (List ℕ)). DueBy now (s .interval) (routerLifetime q) os due) (sym read) (due-by (routerLifetime q) (optionsOf bs) now (s .interval)) in
       (due, by, subst (OnlyDue routers router due) (sym (parts .3)) (only-due routers router due))
 
+  malformed : (WholeInner (length p) (innerOf p) → ⊥) → heardOf s routers now p .answer ≡ Refused InnerMalformed
+  unfolding heardOf
+  malformed n = rw (none-whole (length p) (innerOf p) n)
+
+  invalid : WholeInner (length p) (innerOf p) → ((os : List (List ℕ)) → IsAdvertisement (innerOf p) (take (innerOf p .length) p) os → ⊥)
+      → heardOf s routers now p .answer ≡ Refused AdvertisementInvalid
+  unfolding heardOf
+  invalid w n = rw (whole-inner (length p) (innerOf p) w, none-valid (innerOf p) (take (innerOf p .length) p) n)
+
+  unlisted : WholeInner (length p) (innerOf p) → (os : List (List ℕ)) → IsAdvertisement (innerOf p) (take (innerOf p .length) p) os
+      → ((router : ℕ) → IsatapTo s (innerOf p .source) router → Listed router (live routers) → ⊥)
+      → heardOf s routers now p .answer ≡ Refused AdvertiserNotListed
+  unfolding heardOf heardFrom
+  unlisted w os a n =
+      let i = innerOf p in
+      let q = take (i .length) p in
+      let due = dueAfter now (s .interval) (optionsIn q .smallest) in
+      rw (whole-inner (length p) i w, facts-valid i q os a)
+      (router-unlisted routers due (embeddedTo s (i .source)) (λ router e. n router (embedded-to s (i .source) router e)))
+
   pub heard-exactly : HeardExactly s routers now p
-  heard-exactly = record { onlyIf = accepted-only-if; whenever = accepted-if; due = accepted-due }
+  heard-exactly = record {
+    onlyIf = accepted-only-if;
+    whenever = accepted-if;
+    due = accepted-due;
+    malformed = malformed;
+    invalid = invalid;
+    unlisted = unlisted;
+  }
 
   pub accepted-puts-off : (router : ℕ) → heardOf s routers now p .answer ≡ Router router → PutOff s routers now p router
   accepted-puts-off router h =

@@ -18,7 +18,7 @@ use Rattle.lifetimes.specs.declared.Options.{Options}
 use Rattle.routers.specs.declared.RouterList.{RouterList}
 use Rattle.settings.specs.declared.Settings.{Settings}
 use Rattle.hearing.specs.Message.{messageOf, isSumRight, hasFields, isValidMessage}
-use Rattle.hearing.specs.Heard.{advertisement, optionsStart, isAdvertisement, optionsIn, isValidAdvertisement, refusedBy, heardFrom, heardMessage, heardOf}
+use Rattle.hearing.specs.Heard.{advertisementType, optionsStart, isAdvertisement, optionsIn, isValidAdvertisement, refusedBy, heardFrom, heardMessage, heardOf}
 use Rattle.hearing.specs.declared.Heard.{Heard}
 
 -- a packet of bytes has at least 40 bytes by its header, and at most 40 + 65,535
@@ -29,7 +29,7 @@ length-bounds p b e = rw e (omega arith, omega (arith, bytes-at p 4 b, bytes-at 
 -- a valid advertisement is one whose options are whole
 whole-last : (i : Inner) (p : List ℕ) → isValidAdvertisement i p ≡ (isAdvertisement i p && optionsIn p .whole)
 unfolding isValidMessage isAdvertisement
-whole-last i p = go (isLinkLocal (i .source)) (hasFields advertisement optionsStart i p) (isSumRight p) (areOptionsWhole (drop optionsStart (messageOf p)))
+whole-last i p = go (isLinkLocal (i .source)) (hasFields advertisementType optionsStart i p) (isSumRight p) (areOptionsWhole (drop optionsStart (messageOf p)))
   where
     go : (l f s o : Bool) → (l && (f && s && o)) ≡ (l && f && s && o)
     go true f s o = refl

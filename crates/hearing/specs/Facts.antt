@@ -9,6 +9,7 @@ use Rattle.header.specs.Inner.{innerOf}
 use Rattle.header.specs.Whole.{WholeInner}
 use Rattle.header.specs.declared.inner.Inner.{Inner}
 use Rattle.messages.specs.Icmp.{pseudoTail}
+use Rattle.refusals.specs.declared.Refusal.the-variants.{InnerMalformed, AdvertisementInvalid, AdvertiserNotListed}
 use Rattle.lifetimes.specs.Facts.{WholeOptions, DueBy}
 use Rattle.routers.specs.Routers.{live}
 use Rattle.routers.specs.Facts.{Listed, OnlyDue}
@@ -17,7 +18,7 @@ use Rattle.settings.specs.Facts.{IsatapTo}
 use Rattle.settings.specs.declared.Settings.{Settings}
 use Rattle.hearing.specs.Message.{addressesOf, messageOf}
 use Rattle.hearing.specs.Heard.{heardOf}
-use Rattle.hearing.specs.declared.HeardAnswer.the-variants.{Router}
+use Rattle.hearing.specs.declared.HeardAnswer.the-variants.{Router, Refused}
 
 -- a valid neighbour discovery message of the type `kind` in the packet p, whose header has the fields i: os are its options
 pub record ValidMessage (kind least : ℕ) (i : Inner) (p : List ℕ) (os : List (List ℕ)) : Type 0 where
@@ -36,15 +37,19 @@ pub record ValidMessage (kind least : ℕ) (i : Inner) (p : List ℕ) (os : List
   -- RFC 4861, 6.1: "All included options have a length that is greater than zero"; they are walked to the exact end
   pub options : WholeOptions (drop least (messageOf p)) os
 
--- a valid router advertisement of a listed router in the inner packet p, whose header has the fields i, of which q is what i's length leaves
+-- a valid router advertisement in the packet p, whose header has the fields i: os are its options
+pub record IsAdvertisement (i : Inner) (p : List ℕ) (os : List (List ℕ)) : Type 0 where
+  -- RFC 4861, 6.1.2: type 134, ICMPv6 length at least 16
+  pub message : ValidMessage 134 16 i p os
+  -- RFC 4861, 6.1.2: "IP Source Address is a link-local address"
+  pub linkLocal : LinkLocal (i .source)
+
+-- an advertisement of a listed router in the inner packet p, whose header has the fields i, of which q is what i's length leaves
 pub record Advertises (s : Settings) (routers : RouterList) (p : List ℕ) (i : Inner) (q : List ℕ) (router : ℕ) : Type 0 where
   -- RFC 2460, 3: a whole IPv6 packet
   pub whole : WholeInner (length p) i
-  -- RFC 4861, 6.1.2: type 134, ICMPv6 length at least 16
   pub options : List (List ℕ)
-  pub valid : ValidMessage 134 16 i q options
-  -- RFC 4861, 6.1.2: "IP Source Address is a link-local address"
-  pub linkLocal : LinkLocal (i .source)
+  pub valid : IsAdvertisement i q options
   -- RFC 5214, 8.3.3: the source embeds a router of the list
   pub embeds : IsatapTo s (i .source) router
   pub inList : Listed router (live routers)
@@ -66,3 +71,12 @@ pub record HeardExactly (s : Settings) (routers : RouterList) (now : ℕ) (p : L
       → (due : ℕ)
       × DueBy now (s .interval) (routerLifetime (take (innerOf p .length) p)) (a .options) due
       × OnlyDue routers router due (heardOf s routers now p .routers)
+  -- 8: no whole IPv6 packet
+  pub malformed : (WholeInner (length p) (innerOf p) → ⊥) → heardOf s routers now p .answer ≡ Refused InnerMalformed
+  -- 20: no valid advertisement in it
+  pub invalid : WholeInner (length p) (innerOf p) → ((os : List (List ℕ)) → IsAdvertisement (innerOf p) (take (innerOf p .length) p) os → ⊥)
+      → heardOf s routers now p .answer ≡ Refused AdvertisementInvalid
+  -- 21: the advertiser is not listed
+  pub unlisted : WholeInner (length p) (innerOf p) → (os : List (List ℕ)) → IsAdvertisement (innerOf p) (take (innerOf p .length) p) os
+      → ((router : ℕ) → IsatapTo s (innerOf p .source) router → Listed router (live routers) → ⊥)
+      → heardOf s routers now p .answer ≡ Refused AdvertiserNotListed

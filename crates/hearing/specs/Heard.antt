@@ -26,8 +26,8 @@ use Rattle.hearing.specs.declared.HeardAnswer.the-variants.{Router, Refu
 use Rattle.hearing.specs.declared.Heard.{Heard}
 
 -- type 134 (RFC 4861, 4.2)
-abbrev pub advertisement : ℕ
-advertisement = 134
+abbrev pub advertisementType : ℕ
+advertisementType = 134
 
 -- ICMPv6 length at least 16: the options start there (RFC 4861, 4.2)
 abbrev pub optionsStart : ℕ
@@ -35,7 +35,7 @@ optionsStart = 16
 
 -- an advertisement, its options aside: a link-local source, the fields of a message of type 134, checksum right
 unfoldable pub isAdvertisement : Inner → List ℕ → Bool
-isAdvertisement i p = isLinkLocal (i .source) && hasFields advertisement optionsStart i p && isSumRight p
+isAdvertisement i p = isLinkLocal (i .source) && hasFields advertisementType optionsStart i p && isSumRight p
 
 -- what the options say, with the router's lifetime, which stands in the message's bytes 6 and 7 (RFC 4861, 4.2)
 abbrev pub optionsIn : List ℕ → Options
@@ -43,7 +43,7 @@ optionsIn p = optionsReadOf (wordAt (messageOf p) 6) (drop optionsStart (message
 
 -- valid: a link-local source, and the rules of a message of type 134
 abbrev pub isValidAdvertisement : Inner → List ℕ → Bool
-isValidAdvertisement i p = isLinkLocal (i .source) && isValidMessage advertisement optionsStart i p
+isValidAdvertisement i p = isLinkLocal (i .source) && isValidMessage advertisementType optionsStart i p
 
 -- after a refusal the router list is as before
 abbrev pub refusedBy : Refusal → RouterList → Heard

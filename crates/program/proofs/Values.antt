@@ -6,11 +6,11 @@ use lib.ListN.{take, replicate}
 use Rattle.checksum.specs.Sum.{onesSumFrom, isRightFrom}
 use Rattle.address.specs.Address.{isForbidden, lastQuad, isUnder, isOnLink, isIdentifier, embeddedIn, linkLocalOf, isMulticastOrUnspecified, isBadSourceWith}
 use Rattle.header.specs.Fields.{wordAt, quadAt, addressAt}
-use Rattle.header.specs.Outer.{outerOf, isOuterMalformed, isSumWrong, outerCheck, payloadOf}
+use Rattle.header.specs.Outer.{outerOf, isOuterMalformed, isSumWrong, payloadOf}
 use Rattle.header.specs.Inner.{innerOf, isInnerMalformed}
 use Rattle.routers.specs.Routers.{areDistinct}
 use Rattle.settings.specs.Settings.{defaultsFor, forbiddenTo, isOurLocator, isBadEnd, embeddedTo, areLocatorsRight, areRoutersRight, areNumbersRight, isAccepted}
-use Rattle.receiving.specs.Receive.{arrivalCheck, embeds, innerCheck, opened, arrived, receivedOf}
+use Rattle.receiving.specs.Receive.{embeds, receivedOf}
 use Rattle.node.specs.Node.{nodeOf, setupOf}
 use Rattle.node.specs.Receive.{receiveOf, partIn}
 use Rattle.input.specs.Section.{recordsOf, locatorOf, filled, locatorsIn, prefixesIn, routersIn}
@@ -45,7 +45,7 @@ pub program-worked : (textFor example ≡ textOf (Deliver 40 ∷ Refuse 10 ∷ [
     × (textFor (example ++ (0 ∷ [])) ≡ badInput)
     × (textFor (take 138 example) ≡ badInput)
     × (textFor (replicate 8 0) ≡ badInput)
-unfolding textFor takenText linesOf lineOn onesSumFrom isRightFrom isForbidden lastQuad isUnder isOnLink isIdentifier embeddedIn linkLocalOf isMulticastOrUnspecified isBadSourceWith wordAt quadAt addressAt outerOf isOuterMalformed isSumWrong outerCheck payloadOf innerOf isInnerMalformed areDistinct defaultsFor forbiddenTo isOurLocator isBadEnd embeddedTo areLocatorsRight areRoutersRight areNumbersRight isAccepted arrivalCheck embeds innerCheck opened arrived receivedOf nodeOf setupOf receiveOf partIn recordsOf locatorOf filled locatorsIn prefixesIn routersIn datagramsOf isRecording prefixSection routerSection behindSettings areSectionsWhole settingsOf isWellFormed
+unfolding textFor takenText linesOf lineOn onesSumFrom isRightFrom isForbidden lastQuad isUnder isOnLink isIdentifier embeddedIn linkLocalOf isMulticastOrUnspecified isBadSourceWith wordAt quadAt addressAt outerOf isOuterMalformed isSumWrong payloadOf innerOf isInnerMalformed areDistinct defaultsFor forbiddenTo isOurLocator isBadEnd embeddedTo areLocatorsRight areRoutersRight areNumbersRight isAccepted embeds receivedOf nodeOf setupOf receiveOf partIn recordsOf locatorOf filled locatorsIn prefixesIn routersIn datagramsOf isRecording prefixSection routerSection behindSettings areSectionsWhole settingsOf isWellFormed
 program-worked = (refl, refl, refl, refl, refl, refl)
 
 -- "datagrams 2", "1 deliver 40", "2 refuse 10"; "datagrams 0"

@@ -11,8 +11,6 @@ use refusals::Refusal;
 use routers::RouterList;
 use settings::Settings;
 ghost use mathlib.Core.Path.{_≡_};
-ghost use lib.ListN.{length};
-ghost use Rattle.header.specs.Inner.{innerOf};
 ghost use Rattle.routers.specs.Routers.{live, listed};
 ghost use Rattle.receiving.specs.Receive.{embeds, isSourceRight, receivedOf, partOf, receivedGiven};
 ghost use Rattle.receiving.specs.Stages.{arrivalCheck, innerCheck, opened, arrived};
@@ -63,24 +61,22 @@ fn check_arrival(settings: Settings, interface: u8, o: Outer) -> Check
     Check::Pass
 }
 
-// Whether the source of the inner packet at the start of p is right for the outer one. The router list is read only where
-// the address does not embed it.
-fn source_right(settings: Settings, routers: RouterList, source: u32, p: &[u8]) -> bool
-    ensures { λ r. ⌜ r ≡ isSourceRight settings (listed source (live routers)) source (innerOf (now (p .entry)) .source) ⌝ }
+// Whether the inner source is right for the outer one. The router list is read only where the address does not embed it.
+fn source_right(settings: Settings, routers: RouterList, source: u32, a: [u8; 16]) -> bool
+    ensures { λ r. ⌜ r ≡ isSourceRight settings (listed source (live routers)) source a ⌝ }
 {
-    if embeds_it(settings, fields::address(p, 8), source) {
+    if embeds_it(settings, a, source) {
         return true;
     }
     routers.lists(source)
 }
 
-// Numbers 8, 9 and 10, where p remains for the inner packet. Most senders have a link-local ISATAP address: that is right, and
+// Numbers 8, 9 and 10, where n bytes remain for the inner packet. Most senders have a link-local ISATAP address: that is right, and
 // no bad source, whatever prefixes and routers there are.
-fn check_inner(settings: Settings, routers: RouterList, source: u32, p: &[u8], i: Inner) -> Check
-    requires { ⌜ i ≡ innerOf (now p) ⌝ }
-    ensures { λ r. ⌜ r ≡ innerCheck settings (listed source (live routers)) source (length (now (p .entry))) i ⌝ }
+fn check_inner(settings: Settings, routers: RouterList, source: u32, n: usize, i: Inner) -> Check
+    ensures { λ r. ⌜ r ≡ innerCheck settings (listed source (live routers)) source n i ⌝ }
 {
-    if inner::inner_malformed(p.len(), i) {
+    if inner::inner_malformed(n, i) {
         return Check::Stop(Refusal::InnerMalformed);
     }
     let a = i.source;
@@ -91,7 +87,7 @@ fn check_inner(settings: Settings, routers: RouterList, source: u32, p: &[u8], i
     if address::bad_source_with(forbidden, a) {
         return Check::Stop(Refusal::InnerSourceBad);
     }
-    if !source_right(settings, routers, source, p) {
+    if !source_right(settings, routers, source, a) {
         return Check::Stop(Refusal::OuterSourceWrong);
     }
     Check::Pass
@@ -107,7 +103,7 @@ fn open(settings: Settings, routers: RouterList, d: &[u8], o: Outer) -> Received
         return Received::Refused(Refusal::InnerMalformed);
     }
     let i = inner::inner_header(payload);
-    let check = check_inner(settings, routers, o.source, payload, i);
+    let check = check_inner(settings, routers, o.source, payload.len(), i);
     match check {
         Check::Pass => Received::Delivered {
             offset: o.header,

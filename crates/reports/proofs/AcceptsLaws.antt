@@ -19,8 +19,8 @@ use Rattle.refusals.specs.declared.Check.the-variants.{Pass}
 use Rattle.settings.specs.Settings.{isOurs, isBadEnd}
 use Rattle.settings.proofs.Facts.{decides-ours, decides-bad-end}
 use Rattle.settings.specs.declared.Settings.{Settings}
-use Rattle.reports.specs.Report.{leastMessage, isReportMalformed, isQuoteForeign, reportRows, reportCheck, neighbourOf, candidateFor, judgedOf}
-use Rattle.reports.specs.Accepts.{WellFormed, OfOurs, Asks, Accepts, answerToward, ReportedExactly}
+use Rattle.reports.specs.Report.{leastMessage, isReportMalformed, isQuoteForeign, reportRows, reportCheck, neighbourOf, candidateFor, judgedOf, answerToward}
+use Rattle.reports.specs.Accepts.{WellFormed, OfOurs, Asks, Accepts, ReportedExactly}
 use Rattle.reports.proofs.Laws.{judged-report, passed-judged, accepted-below, below-accepted, not-below-refused}
 use Rattle.reports.specs.declared.Judged.the-variants as judged
 use Rattle.reports.specs.declared.ReportAnswer.the-variants.{Accepted}
@@ -119,7 +119,7 @@ module _ (s : Settings) (m : List ℕ) where
     unfolding candidateFor
     toward v c f o k = passed-judged s m v c (passes-check v f o) (destination v o) (is-candidate _ _ c k)
 
-    pub reported-exactly : ReportedExactly s m size
+    pub reported-exactly : ReportedExactly s m size (answerToward s m size)
     unfolding judgedOf reportCheck candidateFor
     reported-exactly = record {
       accepted = λ v c. (accepted-accepts v c, λ w. rw (toward v c (w .formed) (w .ours) (w .candidate)) (below-accepted (size v) v c (w .below)));

@@ -13,7 +13,7 @@ use Rattle.paths.specs.Largest.{CandidateIs}
 use Rattle.refusals.specs.declared.Refusal.the-variants.{ReportMalformed, QuoteNotOurs, SizeUnusable, SizeNotBelow}
 use Rattle.settings.specs.Facts.{ForbiddenTo, Ours}
 use Rattle.settings.specs.declared.Settings.{Settings}
-use Rattle.reports.specs.Report.{leastMessage, judgedOf, neighbourIn, answerAt}
+use Rattle.reports.specs.Report.{leastMessage}
 use Rattle.reports.specs.declared.ReportAnswer.{ReportAnswer}
 use Rattle.reports.specs.declared.ReportAnswer.the-variants.{Accepted, Refused}
 
@@ -50,14 +50,10 @@ pub record Accepts (s : Settings) (m : List ℕ) (P v c : ℕ) : Type 0 where
   -- 19 does not hold
   pub below : c < P
 
--- the answer, where `size` is the size in force toward each neighbour
-abbrev pub answerToward : Settings → List ℕ → (ℕ → ℕ) → ReportAnswer
-answerToward s m size = answerAt (judgedOf s m) (size (neighbourIn (judgedOf s m)))
-
--- the claim, of a message at those sizes
-pub record ReportedExactly (s : Settings) (m : List ℕ) (size : ℕ → ℕ) : Type 0 where
-  pub accepted : (v c : ℕ) → (answerToward s m size ≡ Accepted v c) ↔ Accepts s m (size v) v c
-  pub malformed : (WellFormed m → ⊥) → answerToward s m size ≡ Refused ReportMalformed
-  pub notOurs : WellFormed m → ((v : ℕ) → OfOurs s m v → ⊥) → answerToward s m size ≡ Refused QuoteNotOurs
-  pub unusable : (v : ℕ) → WellFormed m → OfOurs s m v → ((c : ℕ) → Asks m c → ⊥) → answerToward s m size ≡ Refused SizeUnusable
-  pub notBelow : (v c : ℕ) → WellFormed m → OfOurs s m v → Asks m c → size v ≤ c → answerToward s m size ≡ Refused SizeNotBelow
+-- the claim, of the answer to a message, where `size` is the size in force toward each neighbour
+pub record ReportedExactly (s : Settings) (m : List ℕ) (size : ℕ → ℕ) (answer : ReportAnswer) : Type 0 where
+  pub accepted : (v c : ℕ) → (answer ≡ Accepted v c) ↔ Accepts s m (size v) v c
+  pub malformed : (WellFormed m → ⊥) → answer ≡ Refused ReportMalformed
+  pub notOurs : WellFormed m → ((v : ℕ) → OfOurs s m v → ⊥) → answer ≡ Refused QuoteNotOurs
+  pub unusable : (v : ℕ) → WellFormed m → OfOurs s m v → ((c : ℕ) → Asks m c → ⊥) → answer ≡ Refused SizeUnusable
+  pub notBelow : (v c : ℕ) → WellFormed m → OfOurs s m v → Asks m c → size v ≤ c → answer ≡ Refused SizeNotBelow

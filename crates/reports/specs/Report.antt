@@ -81,6 +81,10 @@ abbrev pub answerAt : Judged → ℕ → ReportAnswer
 answerAt (judged.Report v c) P = acceptedBelow v c P
 answerAt (judged.Refused refusal) P = answer.Refused refusal
 
+-- the answer, where `size` is the size in force toward each neighbour
+abbrev pub answerToward : Settings → List ℕ → (ℕ → ℕ) → ReportAnswer
+answerToward s m size = answerAt (judgedOf s m) (size (neighbourIn (judgedOf s m)))
+
 -- an accepted report answers the neighbour and its size
 abbrev pub reportGiven : ReportAnswer → Given
 reportGiven (answer.Accepted v c) = answered (v ∷ c ∷ [])

@@ -30,6 +30,7 @@ use Rattle.sending.specs.Exactly.{Exceeds, Names, TooBigExactly, Refuses
 use Rattle.sending.proofs.Cases.{writer-passed, big-plan, plan-tell, plan-silent}
 use Rattle.sending.proofs.Judged.{passes-check, check-passes, malformed-stops, no-locator-stops, not-isatap-stops, bad-end-stops}
 use Rattle.sending.proofs.WrapsLaws.{passes-plan, wrapped-exactly}
+use Rattle.sending.specs.declared.Sent.{Sent}
 use Rattle.sending.specs.declared.judging.Plan.the-variants.{Wrap, Tell, Silent}
 use Rattle.sending.specs.declared.SendAnswer.the-variants.{TooBig}
 
@@ -75,29 +76,36 @@ module _ (s : Settings) (P : ℕ) (packet hop : List ℕ) (k : ℕ) where
         (exceeding (p .0) (p .1) M (p .3), inr (fails (mayDrawError packet) (decides-draws packet) (p .2), t .1)))
         (big-plan (length packet) (length out) (planOf s P packet hop k) M len e)
 
-    pub too-big-exactly : TooBigExactly s i P packet hop k out
+    abbrev sent : Sent
+    sent = sentOf s i P packet hop k (length out)
+
+    abbrev output : List ℕ
+    output = sentOutput s i P packet hop k out
+
+    pub too-big-exactly : TooBigExactly s i P packet hop k out (sent .answer) (sent .identification) output
     unfolding sentOf sentOutput tooBigAnswer tooBigOutput
     too-big-exactly = record {
       onlyIf = too-big-only;
-      told = λ M f d l. rw (exceeds-tell M f d) (rw (too-big-pass (length packet) (length out) (headed M f) l));
-      message = λ M f d l. rw (exceeds-tell M f d) (rw (too-big-pass (length packet) (length out) (headed M f) l));
-      silent = λ M f n. rw (exceeds-silent M f n);
-      nothing = λ M f n. rw (exceeds-silent M f n);
+      told = λ M f d l. let p = exceeds-tell M f d in let c = too-big-pass (length packet) (length out) (headed M f) l in ((rw p (rw c), rw p (rw c)), rw p (rw c));
+      silent = λ M f n. let p = exceeds-silent M f n in ((rw p, rw p), rw p);
     }
 
-    stopped : (r : Refusal) → sendCheck s packet hop k ≡ Stop r → Refuses s i P packet hop k out r
+    abbrev Stops : Refusal → Type 0
+    Stops r = Refuses s i P packet hop k out (sent .answer) (sent .identification) output r
+
+    stopped : (r : Refusal) → sendCheck s packet hop k ≡ Stop r → Stops r
     unfolding sentOf sentOutput planOf
-    stopped r e = (rw e, rw e)
+    stopped r e = ((rw e, rw e), rw e)
 
-    unwrapped : (a : ℕ) (r : Refusal) → planOf s P packet hop k ≡ Wrap a → wrapCheck (length packet) (length out) ≡ Stop r → Refuses s i P packet hop k out r
+    unwrapped : (a : ℕ) (r : Refusal) → planOf s P packet hop k ≡ Wrap a → wrapCheck (length packet) (length out) ≡ Stop r → Stops r
     unfolding sentOf sentOutput wrapAnswer wrapOutput
-    unwrapped a r p e = (rw p (rw e), rw p (rw e))
+    unwrapped a r p e = ((rw p (rw e), rw p (rw e)), rw p (rw e))
 
-    untold : (M : ℕ) (r : Refusal) → planOf s P packet hop k ≡ Tell M → tooBigCheck (length packet) (length out) ≡ Stop r → Refuses s i P packet hop k out r
+    untold : (M : ℕ) (r : Refusal) → planOf s P packet hop k ≡ Tell M → tooBigCheck (length packet) (length out) ≡ Stop r → Stops r
     unfolding sentOf sentOutput tooBigAnswer tooBigOutput
-    untold M r p e = (rw p (rw e), rw p (rw e))
+    untold M r p e = ((rw p (rw e), rw p (rw e)), rw p (rw e))
 
-    pub refused-exactly : RefusedExactly s i P packet hop k out
+    pub refused-exactly : RefusedExactly s i P packet hop k out (sent .answer) (sent .identification) output
     refused-exactly = record {
       malformed = λ n. stopped _ (malformed-stops s packet hop k n);
       noLocator = λ w n. stopped _ (no-locator-stops s packet hop k w n);
@@ -109,7 +117,9 @@ module _ (s : Settings) (P : ℕ) (packet hop : List ℕ) (k : ℕ) where
     }
 
 -- every sending does exactly what the rules say
-pub sent-exactly : (s : Settings) (i P : ℕ) (packet hop : List ℕ) (k : ℕ) (out : List ℕ) → SentExactly s i P packet hop k out
+pub sent-exactly : (s : Settings) (i P : ℕ) (packet hop : List ℕ) (k : ℕ) (out : List ℕ)
+    → let sent = sentOf s i P packet hop k (length out) in
+    SentExactly s i P packet hop k out (sent .answer) (sent .identification) (sentOutput s i P packet hop k out)
 sent-exactly s i P packet hop k out = record {
   wrapped = wrapped-exactly s i P packet hop k out;
   tooBig = too-big-exactly s P packet hop k i out;

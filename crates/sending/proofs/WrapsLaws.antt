@@ -63,9 +63,10 @@ module _ (s : Settings) (P : ℕ) (packet hop : List ℕ) (k : ℕ) where
       wraps-check : wrapCheck (length packet) (length out) ≡ Pass
       wraps-check = wrap-pass (length packet) (length out) (w .total) (w .output)
 
-      wraps-wrapped : sentOf s i P packet hop k (length out) ≡ record { answer = Wrapped (outerHeader + length packet); identification = (i + 1) % 65536 }
+      wraps-wrapped : (sentOf s i P packet hop k (length out) .answer ≡ Wrapped (outerHeader + length packet))
+          × (sentOf s i P packet hop k (length out) .identification ≡ (i + 1) % 65536)
       unfolding sentOf wrapAnswer
-      wraps-wrapped = rw (passes-plan a (w .passes) (w .path)) (rw wraps-check)
+      wraps-wrapped = (rw (passes-plan a (w .passes) (w .path)) (rw wraps-check), rw (passes-plan a (w .passes) (w .path)) (rw wraps-check))
 
       wraps-bytes : (flag : Bool) → (flag ≡ true) ↔ (outerHeader + leastMtu < P)
           → sentOutput s i P packet hop k out
@@ -74,7 +75,9 @@ module _ (s : Settings) (P : ℕ) (packet hop : List ℕ) (k : ℕ) where
       unfolding sentOutput wrapOutput fieldsFor
       wraps-bytes flag f = rw (passes-plan a (w .passes) (w .path)) (rw (wraps-check, ← same-test flag (dontFragment P) f (decides-flag P)))
 
-pub wrapped-exactly : (s : Settings) (i P : ℕ) (packet hop : List ℕ) (k : ℕ) (out : List ℕ) → WrappedExactly s i P packet hop k out
+pub wrapped-exactly : (s : Settings) (i P : ℕ) (packet hop : List ℕ) (k : ℕ) (out : List ℕ)
+    → let sent = sentOf s i P packet hop k (length out) in
+    WrappedExactly s i P packet hop k out (sent .answer) (sent .identification) (sentOutput s i P packet hop k out)
 wrapped-exactly s i P packet hop k out = record {
   onlyIf = wrapped-wraps s P packet hop k i out;
   if = wraps-wrapped s P packet hop k i out;

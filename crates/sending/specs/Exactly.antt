@@ -15,8 +15,8 @@ use Rattle.refusals.specs.declared.Refusal.{Refusal}
 use Rattle.refusals.specs.declared.Refusal.the-variants.{InnerMalformed, NoLocator, NextHopNotIsatap, TunnelEndForbidden, OutputShort, WrappedTooLong}
 use Rattle.settings.specs.Facts.{BadEnd, IsatapTo, LocatorAt}
 use Rattle.settings.specs.declared.Settings.{Settings}
-use Rattle.sending.specs.Sending.{sentOf, sentOutput}
 use Rattle.sending.specs.Wraps.{Whole, Passes, PathTakes, WrappedExactly}
+use Rattle.sending.specs.declared.SendAnswer.{SendAnswer}
 use Rattle.sending.specs.declared.SendAnswer.the-variants.{TooBig, Refused}
 
 -- the rules of 14, which names M: 8, 11, 12 and 13 do not hold, and the packet is longer than M
@@ -30,25 +30,25 @@ abbrev pub Names : List ℕ → ℕ → ℕ → Type 0
 Names packet room len =
     (DrawsMessage packet × (len ≡ tooBigLength (length packet)) × (len ≤ room)) ⊎ ((DrawsMessage packet → ⊥) × (len ≡ 0))
 
-module _ (s : Settings) (i P : ℕ) (packet hop : List ℕ) (k : ℕ) (out : List ℕ) where
+-- of a sending with identification i into the output `out`: its answer, the next identification, and the output afterwards
+module _ (s : Settings) (i P : ℕ) (packet hop : List ℕ) (k : ℕ) (out : List ℕ) (answer : SendAnswer) (next : ℕ) (output : List ℕ) where
+  -- that answer is given, and no identification is used
+  abbrev pub Gives : SendAnswer → Type 0
+  Gives a = (answer ≡ a) × (next ≡ i)
+
   -- when 14 is given, and what it writes
   pub record TooBigExactly : Type 0 where
     -- 14 is given only when its rules hold
-    pub onlyIf : (M len : ℕ) → sentOf s i P packet hop k (length out) .answer ≡ TooBig M len
-        → Exceeds s P packet hop k M × Names packet (length out) len
-    -- and whenever they hold: with a message, which is written and what stood behind it stays
+    pub onlyIf : (M len : ℕ) → answer ≡ TooBig M len → Exceeds s P packet hop k M × Names packet (length out) len
+    -- and whenever they hold: with a message, which is written, and what stood behind it stays
     pub told : (M : ℕ) → Exceeds s P packet hop k M → DrawsMessage packet → tooBigLength (length packet) ≤ length out
-        → sentOf s i P packet hop k (length out) ≡ record { answer = TooBig M (tooBigLength (length packet)); identification = i }
-    pub message : (M : ℕ) → Exceeds s P packet hop k M → DrawsMessage packet → tooBigLength (length packet) ≤ length out
-        → sentOutput s i P packet hop k out ≡ written (tooBigOf (s .reporting) M packet) out
+        → Gives (TooBig M (tooBigLength (length packet))) × (output ≡ written (tooBigOf (s .reporting) M packet) out)
     -- or without one, and nothing is written
-    pub silent : (M : ℕ) → Exceeds s P packet hop k M → (DrawsMessage packet → ⊥)
-        → sentOf s i P packet hop k (length out) ≡ record { answer = TooBig M 0; identification = i }
-    pub nothing : (M : ℕ) → Exceeds s P packet hop k M → (DrawsMessage packet → ⊥) → sentOutput s i P packet hop k out ≡ out
+    pub silent : (M : ℕ) → Exceeds s P packet hop k M → (DrawsMessage packet → ⊥) → Gives (TooBig M 0) × (output ≡ out)
 
-  -- that refusal is given, and nothing changes
+  -- that refusal is given, and nothing is written
   abbrev pub Refuses : Refusal → Type 0
-  Refuses r = (sentOf s i P packet hop k (length out) ≡ record { answer = Refused r; identification = i }) × (sentOutput s i P packet hop k out ≡ out)
+  Refuses r = Gives (Refused r) × (output ≡ out)
 
   -- when each refusal is given, the first in the call's order: these cases, 14 and the wrapped packet are all that can be
   pub record RefusedExactly : Type 0 where
@@ -62,8 +62,8 @@ module _ (s : Settings) (i P : ℕ) (packet hop : List ℕ) (k : ℕ) (out : Lis
     pub short : (a : ℕ) → Passes s packet hop k a → PathTakes P (length packet) → outerHeader + length packet ≤ longestTotal
         → length out < outerHeader + length packet → Refuses OutputShort
 
--- all of it, of a sending over a path of size P
-pub record SentExactly (s : Settings) (i P : ℕ) (packet hop : List ℕ) (k : ℕ) (out : List ℕ) : Type 0 where
-  pub wrapped : WrappedExactly s i P packet hop k out
-  pub tooBig : TooBigExactly s i P packet hop k out
-  pub refused : RefusedExactly s i P packet hop k out
+  -- all of it
+  pub record SentExactly : Type 0 where
+    pub wrapped : WrappedExactly s i P packet hop k out answer next output
+    pub tooBig : TooBigExactly
+    pub refused : RefusedExactly

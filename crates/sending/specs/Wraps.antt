@@ -13,7 +13,7 @@ use Rattle.lent.specs.Written.{written}
 use Rattle.paths.specs.Packets.{leastMtu}
 use Rattle.settings.specs.Facts.{ForbiddenTo, Ours, IsatapTo, LocatorAt}
 use Rattle.settings.specs.declared.Settings.{Settings}
-use Rattle.sending.specs.Sending.{sentOf, sentOutput}
+use Rattle.sending.specs.declared.SendAnswer.{SendAnswer}
 use Rattle.sending.specs.declared.SendAnswer.the-variants.{Wrapped}
 
 -- an IPv6 packet, whose length is 40 + payload length
@@ -43,16 +43,14 @@ pub record Wraps (s : Settings) (P : ℕ) (packet hop : List ℕ) (k room a : �
   pub total : outerHeader + length packet ≤ longestTotal
   pub output : outerHeader + length packet ≤ room
 
--- the claim, of a sending with identification i into an output
-pub record WrappedExactly (s : Settings) (i P : ℕ) (packet hop : List ℕ) (k : ℕ) (out : List ℕ) : Type 0 where
+-- the claim, of a sending with identification i into the output `out`: its answer, the next identification, and the output afterwards
+pub record WrappedExactly (s : Settings) (i P : ℕ) (packet hop : List ℕ) (k : ℕ) (out : List ℕ) (answer : SendAnswer) (next : ℕ) (output : List ℕ) : Type 0 where
   -- a packet is answered as wrapped only when the rules hold, and with its length and the header's
-  pub onlyIf : (len : ℕ) → sentOf s i P packet hop k (length out) .answer ≡ Wrapped len
-      → (len ≡ outerHeader + length packet) × ((a : ℕ) × Wraps s P packet hop k (length out) a)
+  pub onlyIf : (len : ℕ) → answer ≡ Wrapped len → (len ≡ outerHeader + length packet) × ((a : ℕ) × Wraps s P packet hop k (length out) a)
   -- and whenever they hold; the identification goes on by one, from 65,535 to 0
-  pub if : (a : ℕ) → Wraps s P packet hop k (length out) a
-      → sentOf s i P packet hop k (length out) ≡ record { answer = Wrapped (outerHeader + length packet); identification = (i + 1) % 65536 }
+  pub if : (a : ℕ) → Wraps s P packet hop k (length out) a → (answer ≡ Wrapped (outerHeader + length packet)) × (next ≡ (i + 1) % 65536)
   -- then the output gets the header and the packet behind it, and what stood behind that stays; the flag is set exactly when P − 20 > 1,280
   pub bytes : (a : ℕ) (flag : Bool) → Wraps s P packet hop k (length out) a → (flag ≡ true) ↔ (outerHeader + leastMtu < P)
-      → sentOutput s i P packet hop k out
+      → output
       ≡ written
       (wrapped (record { identification = i; «dont_fragment» = flag; ttl = s .ttl; protocol = ipv6; source = a; destination = lastQuad hop }) packet) out

@@ -3,6 +3,8 @@ from .edits import wrong
 
 for name, old, new in (
         ("outer version not asked", "need(datagram[0] >> 4 == 4, 2)", "pass"),
+        ("outer version below 4 taken", "need(datagram[0] >> 4 == 4, 2)", "need(datagram[0] >> 4 <= 4, 2)"),
+        ("total length read from its second byte", "number(datagram[2:4])", "number(datagram[3:4])"),
         ("header words under 5 taken", "need(20 <= header, 2)", "header = max(20, header)"),
         ("header longer than the bytes taken",
          "    need(header <= len(datagram), 2)\n    need(header <= total, 2)\n    need(total <= len(datagram), 2)\n",

@@ -63,6 +63,7 @@ for name, old, new in (
         ("bytes behind the payload refused with 8", "packet = packet[:inner_length(packet)]",
          "need(inner_length(packet) == len(packet), 8)"),
         ("next header not asked", "        need(packet[6] == 58, 20)\n", ""),
+        ("next header below 58 taken", "need(packet[6] == 58, 20)", "need(packet[6] <= 58, 20)"),
         ("hop limit not asked", "        need(packet[7] == 255, 20)\n", ""),
         ("hop limit 254 taken", "need(packet[7] == 255, 20)", "need(packet[7] >= 254, 20)"),
         ("source not asked to be link-local", "        need(source[:8] == LINK_LOCAL, 20)\n", ""),

@@ -5,8 +5,6 @@ use native.Mathlib.Omega.{arith}
 use Rattle.address.specs.Address.{lastQuad, isLinkLocalIsatap}
 use Rattle.address.proofs.Laws.{link-local-isatap-good}
 use Rattle.settings.specs.Settings.{forbiddenTo}
-use Rattle.routers.specs.Routers.{live, listed}
-use Rattle.receiving.specs.Receive.{isSourceRight}
 use Rattle.receiving.specs.Stages.{innerCheck}
 use Rattle.receiving.proofs.LinkLocal.{link-local-embeds-it}
 use Rattle.receiving.proofs.check_inner.Statement.{statement}
@@ -19,7 +17,7 @@ returns c = simp (← c .before .inner-malformed .ensures, c .if1 .taken)
 returns-2 : tie.Need-returns-2
 unfolding innerCheck
 returns-2 c =
-    let args = c .before .before .before .before .before .before .args in
+    let args = c .before .before .before .before .before .args in
     let h : isLinkLocalIsatap (args .i .source) (args .source) ≡ true = rw (← c .before .link-local-isatap .ensures) (c .if2 .taken) in
     let good = link-local-isatap-good (args .i .source) (args .source) h (forbiddenTo (args .settings) (lastQuad (args .i .source))) in
     simp (← c .before .before .before .before .inner-malformed .ensures, c .before .before .before .if1 .left, good, link-local-embeds-it (args .settings) _ _ h)
@@ -28,18 +26,13 @@ returns-3 : tie.Need-returns-3
 unfolding innerCheck
 returns-3 c = simp (← c .before .before .before .before .before .before .before .before .inner-malformed .ensures, c .before .before .before .before .before .before .before .if1 .left, ← c .before .before .before .last-quad .ensures, ← c .before .before .forbidden-to .ensures, ← c .before .bad-source-with .ensures, c .if3 .taken)
 
--- whether the source is right, by the fields that were read
-right : (c : tie.After-source-right) → let args = c .before .before .before .before .before .before .before .before .before .before .before .args in
-    c .source-right .result ≡ isSourceRight (args .settings) (listed (args .source) (live (args .routers))) (args .source) (args .i .source)
-right c = rw (c .before .before .before .before .before .before .before .before .before .before .before .pre) (c .source-right .ensures)
-
 returns-4 : tie.Need-returns-4
 unfolding innerCheck
-returns-4 c = let s = c .before .before in simp (← c .before .before .before .before .before .before .before .before .before .before .inner-malformed .ensures, c .before .before .before .before .before .before .before .before .before .if1 .left, ← c .before .before .before .before .before .last-quad .ensures, ← c .before .before .before .before .forbidden-to .ensures, ← c .before .before .before .bad-source-with .ensures, s .if3 .left, ← right (c .before), c .if4 .taken)
+returns-4 c = let s = c .before .before in simp (← c .before .before .before .before .before .before .before .before .before .before .inner-malformed .ensures, c .before .before .before .before .before .before .before .before .before .if1 .left, ← c .before .before .before .before .before .last-quad .ensures, ← c .before .before .before .before .forbidden-to .ensures, ← c .before .before .before .bad-source-with .ensures, s .if3 .left, ← c .before .source-right .ensures, c .if4 .taken)
 
 returns-5 : tie.Need-returns-5
 unfolding innerCheck
-returns-5 c = let s = c .before .before in simp (← c .before .before .before .before .before .before .before .before .before .before .inner-malformed .ensures, c .before .before .before .before .before .before .before .before .before .if1 .left, ← c .before .before .before .before .before .last-quad .ensures, ← c .before .before .before .before .forbidden-to .ensures, ← c .before .before .before .bad-source-with .ensures, s .if3 .left, ← right (c .before), c .if4 .left)
+returns-5 c = let s = c .before .before in simp (← c .before .before .before .before .before .before .before .before .before .before .inner-malformed .ensures, c .before .before .before .before .before .before .before .before .before .if1 .left, ← c .before .before .before .before .before .last-quad .ensures, ← c .before .before .before .before .forbidden-to .ensures, ← c .before .before .before .bad-source-with .ensures, s .if3 .left, ← c .before .source-right .ensures, c .if4 .left)
 
 pub check-inner-spec : {M : Type 1} → statement M
 check-inner-spec =

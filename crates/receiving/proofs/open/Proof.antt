@@ -11,9 +11,6 @@ returns : tie.Need-returns
 unfolding opened innerCheck isInnerMalformed
 returns c = simp (← c .before .payload .ensures, lt-ltb _ _ (c .if1 .taken))
 
-check-inner-requires : tie.Need-check-inner-requires
-check-inner-requires c κs = c .inner-header .ensures
-
 returns-2 : tie.Need-returns-2
 unfolding opened
 returns-2 c = let h = c .before .before .before in rw (← h .before .before .payload .ensures, ← h .inner-header .ensures, ← c .before .before .check-inner .ensures, c .enum-told .given .1)
@@ -25,4 +22,4 @@ returns-3 c = let h = c .before .before .before .before in rw (← h .before .be
 pub open-spec : {M : Type 1} → statement M
 open-spec =
     tie.close
-    (tie.spec (omega arith) returns (omega arith) check-inner-requires (search needs) (search needs) returns-2 returns-3)
+    (tie.spec (omega arith) returns (omega arith) (omega arith) (search needs) (search needs) returns-2 returns-3)

@@ -1,16 +1,13 @@
 -- `receiving::source_right` meets its contract. Assumes nothing.
 use native.Mathlib.Omega.{arith}
-use Rattle.header.specs.Inner.{innerOf}
 use Rattle.receiving.proofs.source_right.Statement.{statement}
 use Rattle.receiving.proofs.source_right.Tie as tie
 
 returns : tie.Need-returns
-unfolding innerOf
-returns c = simp (← c .before .before .address .ensures, ← c .before .embeds-it .ensures, c .if1 .taken)
+returns c = simp (← c .before .embeds-it .ensures, c .if1 .taken)
 
 returns-2 : tie.Need-returns-2
-unfolding innerOf
-returns-2 c = simp (← c .before .before .before .address .ensures, ← c .before .before .embeds-it .ensures, c .before .if1 .left, c .lists .ensures)
+returns-2 c = simp (← c .before .before .embeds-it .ensures, c .before .if1 .left, c .lists .ensures)
 
 pub source-right-spec : {M : Type 1} → statement M
-source-right-spec = tie.close (tie.spec (omega arith) (omega arith) returns (omega arith) returns-2)
+source-right-spec = tie.close (tie.spec (omega arith) returns (omega arith) returns-2)

@@ -1,5 +1,8 @@
 -- `sending::judging::sized_plan` meets its contract: the tests decide. Assumes nothing.
+use Prim.Native.Nat.{_≤_, _<_}
 use borrow.Author.Tests.{lt-ltb, le-ltb}
+use lib.ListN.{length}
+use Rattle.paths.specs.Packets.{largestPacket}
 use Rattle.sending.specs.Plan.{sizedPlan}
 use native.Mathlib.Omega.{arith}
 use Rattle.sending.proofs.judging.sized_plan.Statement.{statement}
@@ -7,15 +10,26 @@ use Rattle.sending.proofs.judging.sized_plan.Tie as tie
 
 returns : tie.Need-returns
 unfolding sizedPlan
-returns c = let m = c .before .largest-packet .ensures in simp (rw m at (le-ltb _ _ (c .if1 .taken)))
+returns c =
+    let a = c .before .before .before .args in
+    let fits : length (a .packet .now) ≤ largestPacket (a .path-size) = omega (arith, c .before .largest-packet .ensures) in
+    simp (le-ltb _ _ fits)
 
 returns-2 : tie.Need-returns-2
 unfolding sizedPlan
-returns-2 c = let b = c .before .before in let m = b .before .largest-packet .ensures in rw m (simp (rw m at (lt-ltb _ _ (b .if1 .left)), ← c .before .may-draw-error .ensures, c .if2 .taken))
+returns-2 c =
+    let m = c .before .before .before .largest-packet .ensures in
+    let a = c .before .before .before .before .before .args in
+    let big : largestPacket (a .path-size) < length (a .packet .now) = omega (arith, m) in
+    rw m (simp (lt-ltb _ _ big, ← c .before .may-draw-error .ensures, c .if2 .taken))
 
 returns-3 : tie.Need-returns-3
 unfolding sizedPlan
-returns-3 c = let b = c .before .before in let m = b .before .largest-packet .ensures in rw m (simp (rw m at (lt-ltb _ _ (b .if1 .left)), ← c .before .may-draw-error .ensures, c .if2 .left))
+returns-3 c =
+    let m = c .before .before .before .largest-packet .ensures in
+    let a = c .before .before .before .before .before .args in
+    let big : largestPacket (a .path-size) < length (a .packet .now) = omega (arith, m) in
+    rw m (simp (lt-ltb _ _ big, ← c .before .may-draw-error .ensures, c .if2 .left))
 
 pub sized-plan-spec : {M : Type 1} → statement M
 sized-plan-spec =

@@ -1,0 +1,45 @@
+# libbogtrumpet.a: the node's calls and the rules without state as two objects of one archive, so that a program that calls only a rule
+# links none of the node. `rt staticlib` proves a crate once more before it compiles it: the archive is made anew only where a source is newer.
+PREFIX = /usr/local
+DESTDIR =
+AR = ar
+
+LIBRARY = target/staticlib/libbogtrumpet.a
+OBJECTS = target/staticlib/objects
+HEADER = include/bogtrumpet.h
+VERSION = $(shell sed -n 's/^.define BOGTRUMPET_VERSION "\(.*\)"$$/\1/p' $(HEADER))
+
+# the crates that the two are made of: what crates.txt names for them, and so on down
+CRATES = $(shell sed -n 's/^\([a-z_]*\):\(.*\)/\1 \2/p' crates.txt | awk \
+    '{ for (i = 2; i <= NF; i++) needs[$$1] = needs[$$1] " " $$i } \
+     function take(c,   n, parts, i) { if (c in taken) return; taken[c] = 1; n = split(needs[c], parts, " "); for (i = 1; i <= n; i++) take(parts[i]) } \
+     END { take("bogtrumpet"); take("bogtrumpet_rules"); for (c in taken) print c }')
+SOURCES = crates.txt $(shell find $(wildcard $(CRATES:%=crates/%)) -name '*.rt' -o -name '*.antt')
+
+all: $(LIBRARY)
+
+$(LIBRARY): $(SOURCES)
+	rm -rf $(OBJECTS) && mkdir -p $(OBJECTS)/node $(OBJECTS)/rules
+	rt staticlib bogtrumpet
+	cd $(OBJECTS)/node && $(AR) x ../../libbogtrumpet.a
+	rt staticlib bogtrumpet_rules
+	cd $(OBJECTS)/rules && $(AR) x ../../libbogtrumpet_rules.a
+	rm -f $@ target/staticlib/libbogtrumpet_rules.a
+	$(AR) rcsD $@ $(OBJECTS)/node/*.o $(OBJECTS)/rules/*.o
+
+bogtrumpet.pc: Makefile $(HEADER)
+	mkdir -p target
+	printf '%s\n' 'prefix=$(PREFIX)' 'includedir=$${prefix}/include' 'libdir=$${prefix}/lib' '' 'Name: bogtrumpet' \
+	    'Description: One ISATAP tunnel end (RFC 5214), proved' 'Version: $(VERSION)' 'Cflags: -I$${includedir}' \
+	    'Libs: -L$${libdir} -lbogtrumpet' > target/$@
+
+install: $(LIBRARY) bogtrumpet.pc
+	install -d $(DESTDIR)$(PREFIX)/include $(DESTDIR)$(PREFIX)/lib/pkgconfig
+	install -m 644 $(HEADER) $(DESTDIR)$(PREFIX)/include/
+	install -m 644 $(LIBRARY) $(DESTDIR)$(PREFIX)/lib/
+	install -m 644 target/bogtrumpet.pc $(DESTDIR)$(PREFIX)/lib/pkgconfig/
+
+clean:
+	rm -rf target/staticlib target/bogtrumpet.pc
+
+.PHONY: all install clean bogtrumpet.pc

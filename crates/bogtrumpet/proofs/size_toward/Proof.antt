@@ -1,0 +1,32 @@
+-- `size_toward` meets its contract: by `LookRows.antt`, with `sizes::size_toward` called.
+use mathlib.Core.Path.{_≡_, refl, _∙_}
+use Prim.Native.Nat.{max}
+use mathlib.Core.List.{[], _∷_}
+use mir.Syntax.{w32}
+use contract.Running.{givenOf}
+use denote.Ref.{now}
+use denote.Triple.Spec.{tripleOf}
+use denote.Triple.Table.{cited}
+use Rattle.address.specs.Address.{lastQuad}
+use Rattle.node.specs.Send.{pathSizeToward}
+use Rattle.bogtrumpet.proofs.Address as P
+use Rattle.bogtrumpet.proofs.Address.Laws as P′
+use Rattle.bogtrumpet.proofs.LookRows.{looked}
+use Rattle.bogtrumpet.proofs.Param.{param}
+use Rattle.bogtrumpet.proofs.Passed.{a-number, a-struct}
+use Rattle.bogtrumpet.proofs.Same.{size-toward}
+use Rattle.bogtrumpet.proofs.sizes.size_toward as g
+use Rattle.bogtrumpet.proofs.sizes.size_toward.Symbol as g-def
+use Rattle.bogtrumpet.proofs.sizes.size_toward.Symbol.{name as #g}
+use Rattle.bogtrumpet.proofs.sizes.size_toward.Met as g-thm
+use Rattle.bogtrumpet.proofs.size_toward.Key.{name as #f}
+use Rattle.bogtrumpet.proofs.size_toward.Statement as stated
+use Rattle.bogtrumpet.proofs.size_toward.Code as code
+
+pub size-toward-spec : {M : Type 1} → stated.statement M
+unfolding code.routine
+size-toward-spec 𝓤 H 𝓜 𝓖 𝓡 =
+    looked #g (param (a-struct 𝓤 H (𝓖 .A) (givenOf 𝓤 H 𝓜 𝓖) P.the-type P′.the-laws refl (λ x. tt) (λ x f. refl)) ∷ param (a-number w32) ∷ []) (λ κs x. lastQuad (x .0 .bytes)) (λ κs latest x. max latest (x .1 .0))
+    (λ κs a r e. r ≡ pathSizeToward (now (a .0)) (a .1 .0 .bytes) (a .1 .1 .0)) 𝓤 H 𝓜 𝓖 𝓡 code.env #f (code.unfolded 𝓤 H 𝓜 𝓡)
+    (cited 𝓤 H (tripleOf 𝓤 H (𝓖 .A) g.signature (g.spec 𝓤 H (𝓖 .A) (𝓜 .mem) (𝓡 .run))) 𝓜 𝓡 code.env #g g-def.routine code.calls-bogtrumpet·sizes·size-toward (g-thm.met 𝓤 H 𝓜 𝓖 𝓡))
+    (λ κs a r e said. said ∙ size-toward (now (a .0)) (a .1 .0 .bytes) (a .1 .1 .0))

@@ -1,0 +1,50 @@
+-- Answers as plain structs (document 01, "Numbers given back"): the number, 0 where the call is not refused, and the values that go
+-- with it; a value that an answer does not have is 0.
+use Rattle.hearing.specs.declared.HeardAnswer.{HeardAnswer}
+use Rattle.hearing.specs.declared.HeardAnswer.the-variants as heard
+use Rattle.asking.specs.declared.AskAnswer.{AskAnswer}
+use Rattle.asking.specs.declared.AskAnswer.the-variants as asked
+use Rattle.receiving.specs.declared.Received as receiving
+use Rattle.receiving.specs.declared.Received.the-variants as received
+use Rattle.refusals.specs.Refusals.{numberOf}
+use Rattle.reports.specs.declared.ReportAnswer.{ReportAnswer}
+use Rattle.reports.specs.declared.ReportAnswer.the-variants as reported
+use Rattle.sending.specs.declared.SendAnswer.{SendAnswer}
+use Rattle.sending.specs.declared.SendAnswer.the-variants as sent
+use Rattle.settings.specs.Settings.{defaultsFor}
+use Rattle.settings.specs.declared.Settings.{Settings}
+use Rattle.bogtrumpet.specs.declared.answers.Received.{Received}
+use Rattle.bogtrumpet.specs.declared.answers.Sent.{Sent}
+use Rattle.bogtrumpet.specs.declared.answers.Reported.{Reported}
+use Rattle.bogtrumpet.specs.declared.answers.Asked.{Asked}
+use Rattle.bogtrumpet.specs.declared.answers.Heard.{Heard}
+
+-- "Defaults belong to the settings": the settings with the same locators, prefixes and routers, and defaults for the rest
+unfoldable pub defaultsOf : Settings → Settings
+defaultsOf s = defaultsFor (s .locators) (s .«locator_count») (s .prefixes) (s .«prefix_count») (s .routers) (s .«router_count»)
+
+-- "the part of the lent datagram that holds the 40 + payload length inner bytes", by its place
+abbrev pub plainReceived : receiving.Received → Received
+plainReceived (received.Delivered offset length) = record { number = 0; offset = offset; length = length }
+plainReceived (received.Refused r) = record { number = numberOf r; offset = 0; length = 0 }
+
+-- "the length written"; 14 "carries the size M and the length of the message written"
+abbrev pub plainSent : SendAnswer → Sent
+plainSent (sent.Wrapped length) = record { number = 0; size = 0; length = length; «message_length» = 0 }
+plainSent (sent.TooBig size length) = record { number = 14; size = size; length = 0; «message_length» = length }
+plainSent (sent.Refused r) = record { number = numberOf r; size = 0; length = 0; «message_length» = 0 }
+
+-- "a size report, the neighbour and its size"
+abbrev pub plainReported : ReportAnswer → Reported
+plainReported (reported.Accepted neighbour size) = record { number = 0; neighbour = neighbour; size = size }
+plainReported (reported.Refused r) = record { number = numberOf r; neighbour = 0; size = 0 }
+
+-- "asking .., the router's IPv4 address"
+abbrev pub plainAsked : AskAnswer → Asked
+plainAsked (asked.Router router) = record { number = 0; router = router }
+plainAsked (asked.Refused r) = record { number = numberOf r; router = 0 }
+
+-- ".. and an advertisement, the router's IPv4 address"
+abbrev pub plainHeard : HeardAnswer → Heard
+plainHeard (heard.Router router) = record { number = 0; router = router }
+plainHeard (heard.Refused r) = record { number = numberOf r; router = 0 }

@@ -1,0 +1,143 @@
+// A call's answer, and beside it the next node or what the call changes of it: what the functions over a pointer give and store.
+use super::Address;
+use super::Addresses;
+use super::answers;
+use super::answers::Asked;
+use super::answers::Heard;
+use super::answers::Received;
+use super::answers::Reported;
+use super::answers::Sent;
+use node::Node;
+use settings::Settings;
+ghost use mathlib.Core.Path.{_≡_};
+ghost use lib.ListN.{length};
+ghost use Rattle.node.specs.Ask.{askOf, askOutput};
+ghost use Rattle.node.specs.Hear.{hearOf};
+ghost use Rattle.node.specs.Node.{setupOf};
+ghost use Rattle.node.specs.Receive.{receiveOf};
+ghost use Rattle.node.specs.Report.{reportOf};
+ghost use Rattle.node.specs.RouterList.{replaceOf};
+ghost use Rattle.sending.specs.Sending.{sentOutput};
+ghost use Rattle.bogtrumpet.specs.Answers.{plainReceived};
+ghost use Rattle.bogtrumpet.specs.Steps.{madeStep, sentStep, reportedStep, replacedStep, askedStep, heardStep};
+
+// A number, and the next node.
+pub struct NumberStep {
+    pub answer: u8,
+    pub node: Node,
+}
+
+// Of the node a sending changes the next identification and the latest time alone.
+pub struct SentStep {
+    pub answer: Sent,
+    pub identification: u16,
+    pub latest: u32,
+}
+
+pub struct ReportedStep {
+    pub answer: Reported,
+    pub node: Node,
+}
+
+pub struct AskedStep {
+    pub answer: Asked,
+    pub node: Node,
+}
+
+pub struct HeardStep {
+    pub answer: Heard,
+    pub node: Node,
+}
+
+// What stood where the new node is to stand is not asked.
+pub fn made(_: Node, settings: Settings) -> NumberStep
+    ensures { λ r. ⌜ r ≡ madeStep (setupOf settings) ⌝ }
+{
+    let setup = Node::new(settings);
+    let given = setup.answer;
+    let node = setup.node;
+    let answer = given.number();
+    NumberStep { answer, node }
+}
+
+pub fn received(n: Node, datagram: &[u8], interface: u8) -> Received
+    ensures { λ r. ⌜ r ≡ plainReceived (receiveOf n (now (datagram .entry)) interface) ⌝ }
+{
+    answers::plain_received(n.receive(datagram, interface))
+}
+
+// A sending over a path of that size: sending::send.
+pub fn sent(
+    n: Node,
+    path_size: u16,
+    packet: &[u8],
+    next_hop: Address,
+    locator: usize,
+    time: u32,
+    out: &mut [u8],
+) -> SentStep
+    ensures { λ r. ⌜ (r ≡ sentStep n «path_size» (now (packet .entry)) («next_hop» .bytes) locator time (length (now (out .entry))))
+        × (now (out .exit) ≡ sentOutput (n .service .settings) (n .service .identification) «path_size» (now (packet .entry)) («next_hop» .bytes) locator (now (out .entry))) ⌝ }
+{
+    let service = n.service;
+    let settings = service.settings;
+    let bytes = next_hop.bytes;
+    let sent = sending::send(
+        settings,
+        service.identification,
+        path_size,
+        packet,
+        bytes,
+        locator,
+        out,
+    );
+    let given = sent.answer;
+    let answer = answers::plain_sent(given);
+    SentStep {
+        answer,
+        identification: sent.identification,
+        latest: node::later(n.latest, time),
+    }
+}
+
+pub fn reported(n: Node, message: &[u8], time: u32) -> ReportedStep
+    ensures { λ r. ⌜ r ≡ reportedStep (reportOf n (now (message .entry)) time) ⌝ }
+{
+    let reported = n.report(message, time);
+    let given = reported.answer;
+    let node = reported.node;
+    let answer = answers::plain_reported(given);
+    ReportedStep { answer, node }
+}
+
+pub fn replaced(n: Node, list: Addresses, time: u32) -> NumberStep
+    ensures { λ r. ⌜ r ≡ replacedStep (replaceOf n (list .routers) (list .count) time) ⌝ }
+{
+    let routers = list.routers;
+    let replaced = n.replace_routers(routers, list.count, time);
+    let given = replaced.answer;
+    let node = replaced.node;
+    let answer = given.number();
+    NumberStep { answer, node }
+}
+
+pub fn asked(n: Node, locator: usize, time: u32, out: &mut [u8]) -> AskedStep
+    ensures { λ r. ⌜ (r ≡ askedStep (askOf n locator time (length (now (out .entry)))))
+        × (now (out .exit) ≡ askOutput n locator time (now (out .entry))) ⌝ }
+{
+    let asked = n.ask(locator, time, out);
+    let given = asked.answer;
+    let node = asked.node;
+    let answer = answers::plain_asked(given);
+    AskedStep { answer, node }
+}
+
+pub fn heard(n: Node, packet: &[u8], time: u32) -> HeardStep
+    ensures { λ r. ⌜ r ≡ heardStep (hearOf n (now (packet .entry)) time) ⌝ }
+{
+    let heard = n.hear(packet, time);
+    let given = heard.answer;
+    let node = heard.node;
+    let answer = answers::plain_heard(given);
+    HeardStep { answer, node }
+}

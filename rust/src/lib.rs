@@ -1,0 +1,63 @@
+//! Bogtrumpet: one ISATAP tunnel end (RFC 5214), proved. An IPv6 packet gets one IPv4 header at one end and loses it at the other.
+//!
+//! This is the library of `include/bogtrumpet.h` as Rust has it: an answer is a [`Result`] with a [`Refusal`], what is written comes back
+//! as the part of the output that holds it. The library, `libbogtrumpet.a`, is machine code for x86-64 and ELF (`make` of the repository);
+//! the build script looks for it in `../target/staticlib`, or in the folder that `BOGTRUMPET_LIB_DIR` names.
+//!
+//! No call allocates, blocks, panics or keeps what it is lent. One needs at most 16 KiB of stack. After a refusal the output is as it
+//! was and the node too, but for its latest time. Bytes of an output behind what was written stay as they were. Time is a count of
+//! seconds that the caller hands over; one earlier than the latest is read as the latest.
+//!
+//! ```
+//! use bogtrumpet::rules::link_local;
+//! use bogtrumpet::{Locator, Node, Refusal, Sent, Settings};
+//! use std::net::Ipv4Addr;
+//!
+//! # fn main() -> Result<(), Refusal> {
+//! let (centre, station) = (Ipv4Addr::new(10, 0, 0, 1), Ipv4Addr::new(10, 0, 0, 2));
+//! let mut sender = Node::new(&Settings::new(&[Locator::new(centre, 0)]))?;
+//! let receiver = Node::new(&Settings::new(&[Locator::new(station, 0)]))?;
+//!
+//! // An IPv6 packet without payload, from the centre.
+//! let mut packet = [0; 40];
+//! packet[0] = 0x60;
+//! packet[6] = 59;
+//! packet[8..24].copy_from_slice(&link_local(centre).octets());
+//!
+//! let mut out = [0; 1500];
+//! let Sent::Wrapped(datagram) = sender.send(&packet, link_local(station), 0, 1000, &mut out)? else {
+//!     panic!("40 bytes pass everywhere");
+//! };
+//! assert_eq!(datagram.len(), 60);
+//! assert_eq!(receiver.receive(datagram, 0), Ok(&packet[..]));
+//! assert_eq!(receiver.receive(datagram, 1), Err(Refusal::NotForUs));
+//! # Ok(())
+//! # }
+//! ```
+
+mod node;
+pub mod raw;
+mod refusal;
+pub mod rules;
+mod settings;
+
+pub use node::{Asked, Node, Reported, Router, Sent};
+pub use refusal::Refusal;
+pub use settings::{Locator, Prefix, Settings};
+
+/// The most locators of a node.
+pub const MAX_LOCATORS: usize = 8;
+/// The most on-link prefixes, beside fe80::/64.
+pub const MAX_PREFIXES: usize = 8;
+/// The most routers of a list.
+pub const MAX_ROUTERS: usize = 16;
+/// The most neighbours whose path sizes are kept.
+pub const MAX_NEIGHBOURS: usize = 64;
+/// The length of the IPv4 header that is written.
+pub const OUTER_HEADER_LENGTH: usize = 20;
+/// The length of a router solicitation.
+pub const SOLICITATION_LENGTH: usize = 48;
+/// The most that a Too Big message is long.
+pub const MAX_TOO_BIG_LENGTH: usize = 1280;
+/// The most that [`Node::send`] writes.
+pub const MAX_SENT_LENGTH: usize = 9216;

@@ -1,0 +1,204 @@
+//! Each answer of the safe interface against the C interface's own, on calls that meet every refusal that a safe caller can.
+
+use bogtrumpet::rules::{self, link_local, Outer};
+use bogtrumpet::{Locator, Node, Prefix, Refusal, Sent, Settings};
+use std::net::{Ipv4Addr, Ipv6Addr};
+
+const OWN: Ipv4Addr = Ipv4Addr::new(10, 0, 0, 1);
+const NEIGHBOUR: Ipv4Addr = Ipv4Addr::new(10, 1, 0, 1);
+const ROUTER: Ipv4Addr = Ipv4Addr::new(10, 2, 0, 1);
+
+fn node() -> Node {
+    Node::new(&Settings::new(&[Locator::new(OWN, 7)]).routers(&[ROUTER])).expect("settings within the rules")
+}
+
+fn packet(length: usize, source: Ipv6Addr) -> Vec<u8> {
+    let mut packet = vec![0; length];
+    packet[0] = 0x60;
+    packet[4..6].copy_from_slice(&u16::try_from(length - 40).unwrap().to_be_bytes());
+    packet[6] = 17;
+    packet[8..24].copy_from_slice(&source.octets());
+    packet
+}
+
+/// Puts the RFC 1071 checksum at `at` right.
+fn repair(bytes: &mut [u8], at: usize, start: u32) {
+    bytes[at..at + 2].fill(0);
+    let sum = rules::checksum(start, bytes);
+    bytes[at..at + 2].copy_from_slice(&(!sum).to_be_bytes());
+}
+
+fn datagram(inner: &[u8], source: Ipv4Addr) -> Vec<u8> {
+    let outer = Outer { identification: 1, dont_fragment: false, ttl: 64, protocol: 41, source, destination: OWN };
+    let mut out = vec![0; inner.len() + 20];
+    rules::wrap(&outer, inner, &mut out).expect("room for it").to_vec()
+}
+
+fn report(size: u16, quoted_source: Ipv4Addr) -> Vec<u8> {
+    let mut message = vec![0; 28];
+    message[..2].copy_from_slice(&[3, 4]);
+    message[6..8].copy_from_slice(&size.to_be_bytes());
+    message[8] = 0x45;
+    message[17] = 41;
+    message[20..24].copy_from_slice(&quoted_source.octets());
+    message[24..].copy_from_slice(&NEIGHBOUR.octets());
+    repair(&mut message, 2, 0);
+    message
+}
+
+fn advertisement(router: Ipv4Addr) -> Vec<u8> {
+    let mut packet = packet(56, link_local(router));
+    (packet[6], packet[7], packet[40]) = (58, 255, 134);
+    repair(&mut packet[8..], 34, 16 + 58);
+    packet
+}
+
+#[test]
+fn settings() {
+    let locators = [Locator::new(OWN, 0); 9];
+    assert_eq!(Node::new(&Settings::new(&locators)).unwrap_err(), Refusal::Settings);
+    assert_eq!(Node::new(&Settings::new(&[])).unwrap_err(), Refusal::Settings);
+    let settings = Settings::new(&locators[..1]);
+    let routers: Vec<Ipv4Addr> = (1..=17).map(|last| Ipv4Addr::new(10, 2, 0, last)).collect();
+    assert!(Node::new(&settings.routers(&routers[..16])).is_ok());
+    assert!(Node::new(&settings.routers(&routers)).is_err());
+    assert!(Node::new(&settings.prefixes(&[Prefix([1; 8]); 9])).is_err());
+    for broken in
+        [settings.link_size(575), settings.ttl(0), settings.interval(0), settings.reporting(Ipv6Addr::UNSPECIFIED)]
+    {
+        assert!(Node::new(&broken).is_err(), "{broken:?}");
+    }
+    let node = Node::new(&settings.identification(9).routers(&routers[..2])).unwrap();
+    assert_eq!((node.identification(), node.latest(), node.routers().count()), (9, 0, 2));
+    assert_eq!(node.settings(), settings.identification(9).routers(&routers[..2]));
+}
+
+#[test]
+fn receiving() {
+    let node = node();
+    let inner = packet(60, link_local(NEIGHBOUR));
+    let good = datagram(&inner, NEIGHBOUR);
+    assert_eq!(node.receive(&good, 7), Ok(&inner[..]));
+    assert_eq!(node.receive(&good, 8), Err(Refusal::NotForUs));
+    assert_eq!(node.receive(&good[..19], 7), Err(Refusal::OuterMalformed));
+    assert_eq!(node.receive(&[], 7), Err(Refusal::OuterMalformed));
+    let changed = |at: usize, value: u8| {
+        let mut datagram = good.clone();
+        datagram[at] = value;
+        if at < 20 {
+            repair(&mut datagram[..20], 10, 0);
+        }
+        node.receive(&datagram, 7).map(<[u8]>::len)
+    };
+    assert_eq!(changed(9, 17), Err(Refusal::OtherProtocol));
+    assert_eq!(changed(6, 0x20), Err(Refusal::Piece));
+    assert_eq!(changed(12, 127), Err(Refusal::OuterSourceForbidden));
+    assert_eq!(changed(20, 0x40), Err(Refusal::InnerMalformed));
+    assert_eq!(changed(28, 0xff), Err(Refusal::InnerSourceBad));
+    assert_eq!(changed(15, 2), Err(Refusal::OuterSourceWrong));
+    let mut wrong = good.clone();
+    wrong[10] ^= 1;
+    assert_eq!(node.receive(&wrong, 7), Err(Refusal::OuterChecksum));
+}
+
+#[test]
+fn sending() {
+    let mut node = node();
+    let (small, large) = (packet(60, link_local(OWN)), packet(1481, link_local(OWN)));
+    let mut out = [0x55; 1600];
+    let to = link_local(NEIGHBOUR);
+    let Ok(Sent::Wrapped(written)) = node.send(&small, to, 0, 5, &mut out) else { panic!("60 bytes pass") };
+    assert_eq!((written.len(), &written[20..]), (80, &small[..]));
+    assert!(out[80..].iter().all(|&byte| byte == 0x55));
+    let Ok(Sent::TooBig { size, message: Some(message) }) = node.send(&large, to, 0, 5, &mut out) else {
+        panic!("1481 bytes are too big")
+    };
+    assert_eq!((size, message.len()), (1480, 1280));
+    let unanswered = packet(1481, Ipv6Addr::UNSPECIFIED);
+    assert_eq!(node.send(&unanswered, to, 0, 5, &mut []), Ok(Sent::TooBig { size: 1480, message: None }));
+    let mut refused = |packet: &[u8], to, locator, room: usize| {
+        let before = out;
+        let refusal = node.send(packet, to, locator, 5, &mut out[..room]).unwrap_err();
+        assert!(before == out);
+        refusal
+    };
+    assert_eq!(refused(&small[..59], to, 0, 80), Refusal::InnerMalformed);
+    assert_eq!(refused(&small, to, 1, 80), Refusal::NoLocator);
+    assert_eq!(refused(&small, Ipv6Addr::LOCALHOST, 0, 80), Refusal::NextHopNotIsatap);
+    assert_eq!(refused(&small, link_local(OWN), 0, 80), Refusal::TunnelEndForbidden);
+    assert_eq!(refused(&small, to, 0, 79), Refusal::OutputShort);
+    assert_eq!(refused(&large, to, 0, 1279), Refusal::OutputShort);
+    assert_eq!((node.identification(), node.latest()), (2, 5));
+}
+
+#[test]
+fn reports() {
+    let mut node = node();
+    assert_eq!(node.report(&[], 1), Err(Refusal::ReportMalformed));
+    assert_eq!(node.report(&report(1400, NEIGHBOUR), 1), Err(Refusal::QuoteNotOurs));
+    assert_eq!(node.report(&report(67, OWN), 1), Err(Refusal::SizeUnusable));
+    assert_eq!(node.report(&report(1500, OWN), 1), Err(Refusal::SizeNotBelow));
+    let reported = node.report(&report(1400, OWN), 1).unwrap();
+    assert_eq!((reported.neighbour, reported.size), (NEIGHBOUR, 1400));
+    assert_eq!((node.path_size(NEIGHBOUR), node.path_size(ROUTER)), (1400, 1500));
+}
+
+#[test]
+fn routers() {
+    let mut node = node();
+    let mut out = [0; 48];
+    assert_eq!(node.ask(1, 10, &mut out), Err(Refusal::NoLocator));
+    assert_eq!(node.ask(0, 10, &mut out[..47]), Err(Refusal::OutputShort));
+    let asked = node.ask(0, 10, &mut out).unwrap();
+    assert_eq!((asked.router, asked.solicitation.len(), asked.solicitation[40]), (ROUTER, 48, 133));
+    assert_eq!(node.ask(0, 11, &mut out), Err(Refusal::NoRouterDue));
+    assert_eq!(node.hear(&[], 12), Err(Refusal::InnerMalformed));
+    assert_eq!(node.hear(&packet(56, link_local(ROUTER)), 12), Err(Refusal::AdvertisementInvalid));
+    assert_eq!(node.hear(&advertisement(NEIGHBOUR), 12), Err(Refusal::AdvertiserNotListed));
+    assert_eq!(node.hear(&advertisement(ROUTER), 12), Ok(ROUTER));
+    assert_eq!(node.routers().map(|router| router.due).collect::<Vec<_>>(), [3612]);
+    assert_eq!(node.replace_routers(&[OWN], 13), Err(Refusal::Settings));
+    assert_eq!(node.replace_routers(&[Ipv4Addr::new(10, 2, 0, 2); 17], 13), Err(Refusal::Settings));
+    assert_eq!(node.replace_routers(&[NEIGHBOUR, ROUTER], 13), Ok(()));
+    assert_eq!(node.routers().map(|router| router.due).collect::<Vec<_>>(), [13, 3612]);
+}
+
+#[test]
+fn rules_without_state() {
+    let inner = packet(60, link_local(NEIGHBOUR));
+    let mut good = datagram(&inner, NEIGHBOUR);
+    let read = rules::read_outer(&good).unwrap();
+    assert_eq!((read.header, read.total, read.source, read.destination), (20, 80, NEIGHBOUR, OWN));
+    assert_eq!(rules::unwrap(&good), Ok(&inner[..]));
+    assert!(rules::checksum_right(&good[..20]) && rules::checksum_right(&[0xff, 0xff]) && !rules::checksum_right(&[]));
+    good[0] = 0;
+    assert_eq!(rules::read_outer(&good), Err(Refusal::OuterMalformed));
+    assert!(rules::forbidden(Ipv4Addr::LOCALHOST) && !rules::forbidden(OWN));
+    assert!(rules::bad_source(Ipv6Addr::LOCALHOST) && !rules::bad_source(link_local(OWN)));
+    let global: Ipv6Addr = "2001:db8::200:5efe:10.0.0.1".parse().unwrap();
+    assert_eq!(rules::isatap(&[Prefix::from(global)], global), Some(OWN));
+    assert_eq!(rules::isatap(&[], global), None);
+    let mut out = [0; 1280];
+    assert_eq!(rules::too_big(global, 1480, &inner, &mut out).map(<[u8]>::len), Ok(108));
+    assert_eq!(rules::too_big(global, 1480, &inner[..39], &mut out), Err(Refusal::InnerMalformed));
+    assert_eq!(rules::solicitation(OWN, ROUTER, &mut out).map(<[u8]>::len), Ok(48));
+    assert_eq!(rules::solicitation(OWN, ROUTER, &mut out[..47]), Err(Refusal::OutputShort));
+    let outer =
+        Outer { identification: 1, dont_fragment: true, ttl: 64, protocol: 41, source: OWN, destination: ROUTER };
+    assert_eq!(rules::wrap(&outer, &vec![0; 65516], &mut out), Err(Refusal::WrappedTooLong));
+    assert_eq!(rules::wrap(&outer, &[], &mut out).map(|written| written[6]), Ok(0x40));
+}
+
+#[test]
+fn refusals() {
+    let numbers: Vec<u8> = Refusal::ALL.iter().map(|refusal| refusal.number()).collect();
+    assert_eq!(numbers, (1..=23).filter(|&number| number != 14).collect::<Vec<u8>>());
+    for &refusal in Refusal::ALL {
+        assert_eq!(Refusal::from_number(refusal.number()), Some(refusal));
+        let error: &dyn std::error::Error = &refusal;
+        assert!(!error.to_string().is_empty());
+    }
+    for number in [0, 14, 24, 255] {
+        assert_eq!(Refusal::from_number(number), None);
+    }
+}

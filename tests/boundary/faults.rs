@@ -1,0 +1,44 @@
+//! Calls with two faults, as tests/double_faults.txt has them: of the two numbers the one that is judged first must be given.
+
+use crate::check::{same, Check};
+use crate::nodes::Nodes;
+use crate::plain::{Locator, Settings};
+
+const CALLS: &str = include_str!("../double_faults.txt");
+
+pub fn faults(check: &mut Check) {
+    for line in CALLS.lines().filter(|line| !line.starts_with('#')) {
+        let words: Vec<&str> = line.split(' ').collect();
+        let given = given(check, &words);
+        same("the first of two faults", &number(words[1]), &usize::from(given), &|| line.into());
+    }
+}
+
+fn given(check: &mut Check, words: &[&str]) -> u8 {
+    let mut settings = Settings { locator_count: 1, prefix_count: 1, ..Settings::default() };
+    settings.locators[0] = Locator { address: 0x0a00_0001, interface: 0 };
+    settings.prefixes[0] = [0x20, 0x01, 0x0d, 0xb8, 0, 0, 0, 1];
+    let mut nodes = Nodes::new(check, &settings.defaults()).expect("settings within the rules");
+    let last = words[words.len() - 1];
+    match words[0] {
+        "receive" => nodes.receive(check, &bytes(last), number(words[3]) as u8),
+        "send" => {
+            let next_hop = bytes(words[4]).try_into().expect("16 bytes");
+            nodes.send(check, &bytes(last), next_hop, number(words[3]), 0, number(words[5]))
+        }
+        "report" => nodes.report(check, &bytes(last), 0),
+        "ask" => nodes.ask(check, number(words[3]), 0, number(words[4])),
+        "advertisement" => nodes.hear(check, &bytes(last), 0),
+        other => panic!("no call: {other}"),
+    }
+}
+
+fn number(word: &str) -> usize {
+    word.parse().expect("a number")
+}
+
+fn bytes(word: &str) -> Vec<u8> {
+    let digits = if word == "-" { "" } else { word };
+    let byte = |at: usize| u8::from_str_radix(&digits[at..at + 2], 16).expect("two digits");
+    (0..digits.len()).step_by(2).map(byte).collect()
+}

@@ -1,0 +1,220 @@
+//! The stack that each exported call needs on the worst inputs that one can think of: longest, most options, full tables. It is painted
+//! below the call and looked through afterwards.
+
+use crate::packets;
+use crate::plain::rules::link_local;
+use crate::random::Random;
+use bogtrumpet::raw::{self, *};
+use std::arch::asm;
+use std::hint::black_box;
+
+/// Bytes below the call that are painted; a call that needs more ends the program.
+const PAINTED: usize = 3 << 20;
+const PAINT: u8 = 0xa5;
+
+const LOCATOR: u32 = 0x0a00_0001;
+const NEIGHBOUR: u32 = 0x0a01_0001;
+const ROUTER: u32 = 0x0a02_0001;
+const PREFIX: [u8; 8] = [0x20, 0x01, 0x0d, 0xb8, 0, 0, 0, 7];
+/// The options of an advertisement as long as one can be.
+const OPTIONS: usize = 65_512;
+
+/// The bytes of stack between here and the deepest place that the call wrote to: its own frames, its arguments and its answer.
+#[inline(never)]
+fn needed(call: &mut dyn FnMut()) -> usize {
+    let here: usize;
+    let first: usize;
+    // SAFETY: the thread's stack reaches further down than what is painted, and nothing stands there while nothing is called.
+    unsafe {
+        asm!("mov {here}, rsp", "lea rdi, [rsp - {size}]", "rep stosb", here = out(reg) here, size = const PAINTED,
+            inout("rcx") PAINTED => _, in("al") PAINT, out("rdi") _, options(nostack));
+    }
+    call();
+    // SAFETY: only reads what was painted.
+    unsafe {
+        asm!("repe scasb", inout("rdi") here - PAINTED => first, inout("rcx") PAINTED => _, in("al") PAINT,
+            options(nostack, readonly));
+    }
+    here - (first - 1)
+}
+
+/// What each call needed at most.
+struct Needs(Vec<(&'static str, usize)>);
+
+impl Needs {
+    fn call<T>(&mut self, name: &'static str, mut call: impl FnMut() -> T) {
+        let bytes = needed(&mut || _ = black_box(&call()));
+        match self.0.iter_mut().find(|(known, _)| *known == name) {
+            Some((_, most)) => *most = bytes.max(*most),
+            None => self.0.push((name, bytes)),
+        }
+    }
+}
+
+/// One line for each call, and whether all keep to the limit.
+pub fn stack(limit: usize) -> bool {
+    let thread = std::thread::Builder::new().stack_size(PAINTED + (1 << 20));
+    let needs = thread.spawn(all).expect("a thread").join().expect("the calls");
+    for (name, bytes) in &needs.0 {
+        println!("bogtrumpet_{name} needs {bytes} bytes of stack{}", if *bytes > limit { ", too much" } else { "" });
+    }
+    println!("at most {} of {limit}", needs.0.iter().map(|(_, bytes)| bytes).max().expect("some calls"));
+    needs.0.iter().all(|(_, bytes)| *bytes <= limit)
+}
+
+fn all() -> Needs {
+    let (mut needs, mut random) = (Needs(Vec::new()), Random::new(1));
+    let settings = settings();
+    needs.call("defaults", || settings.defaults());
+    let mut node = Node::EMPTY;
+    needs.call("new", || node.set_up(Settings { ttl: 0, ..settings }));
+    needs.call("new", || node.set_up(settings));
+    for neighbour in 0..64 {
+        let message = packets::size_report(&mut random, 1400, 1500, (LOCATOR, NEIGHBOUR + neighbour), 0, 8);
+        assert_eq!(node.report(&message, 1000).number, 0);
+    }
+    receiving(&mut needs, &mut random, &node);
+    sending(&mut needs, &mut random, node);
+    reports(&mut needs, &mut random, node);
+    routers(&mut needs, &mut random, node);
+    rules(&mut needs, &mut random);
+    needs
+}
+
+/// As many of everything as there can be.
+fn settings() -> Settings {
+    let mut settings = Settings { locator_count: 8, prefix_count: 8, router_count: 16, ..Settings::EMPTY };
+    for (place, locator) in settings.locators.iter_mut().enumerate() {
+        *locator = Locator { address: LOCATOR + place as u32, interface: place as u8 };
+    }
+    for (place, prefix) in settings.prefixes.chunks_exact_mut(8).enumerate() {
+        prefix.copy_from_slice(&PREFIX);
+        prefix[7] = place as u8;
+    }
+    for (place, router) in settings.routers.iter_mut().enumerate() {
+        *router = ROUTER + place as u32;
+    }
+    Settings { link_size: 9216, ..settings.defaults() }
+}
+
+/// Sources of every kind: by the last prefix, a listed router's, one that is refused at the end of all lists.
+fn receiving(needs: &mut Needs, random: &mut Random, node: &Node) {
+    for source in [NEIGHBOUR, ROUTER + 15, NEIGHBOUR + 1, 0x7f00_0001] {
+        for (length, words) in [(40, 0), (65_475, 10), (65_515, 0)] {
+            let inner = packets::packet(random, length, 58, &packets::address(&PREFIX, 2, NEIGHBOUR));
+            let mut datagram = packets::datagram(random, (source, LOCATOR + 7), words, &inner, 70_000);
+            for _ in 0..2 {
+                needs.call("receive", || node.receive(&datagram, 7));
+                needs.call("read_outer", || raw::read_outer(&datagram));
+                needs.call("unwrap", || raw::unwrap(&datagram));
+                datagram[10] ^= 1;
+            }
+        }
+    }
+}
+
+fn sending(needs: &mut Needs, random: &mut Random, start: Node) {
+    let mut out = vec![0; 70_000];
+    for neighbour in [NEIGHBOUR, NEIGHBOUR + 63, NEIGHBOUR + 64, LOCATOR + 7] {
+        let next_hop = Address { bytes: packets::address(&PREFIX, 2, neighbour) };
+        for length in [40, 1380, 1381, 9196, 9197, 65_575] {
+            for source in [link_local(LOCATOR), [0; 16]] {
+                let packet = packets::packet(random, length, 58, &source);
+                for room in [0, 70_000] {
+                    let mut node = start;
+                    needs.call("send", || node.send(&packet, next_hop, 7, 1001, &mut out[..room]));
+                    needs.call("send", || node.send(&packet, next_hop, 8, 1601, &mut out[..room]));
+                }
+            }
+        }
+        needs.call("path_size", || start.path_size(neighbour));
+    }
+}
+
+fn reports(needs: &mut Needs, random: &mut Random, start: Node) {
+    for neighbour in [NEIGHBOUR, NEIGHBOUR + 63, NEIGHBOUR + 64, LOCATOR + 7] {
+        for size in [0, 67, 68, 1399, 1400] {
+            for (words, rest) in [(0, 0), (10, 65_467), (10, 139_000)] {
+                let mut message = packets::size_report(random, size, 69, (LOCATOR + 7, neighbour), words, rest);
+                let mut node = start;
+                needs.call("report", || node.report(&message, 1001));
+                message[2] ^= 1;
+                needs.call("report", || node.report(&message, 1002));
+            }
+        }
+    }
+}
+
+fn routers(needs: &mut Needs, random: &mut Random, start: Node) {
+    let mut out = [0; 48];
+    let mut list = Addresses { routers: start.service.settings.routers, count: 16 };
+    list.routers.reverse();
+    for first in [ROUTER + 15, ROUTER + 40, LOCATOR + 7] {
+        list.routers[0] = first;
+        let mut node = start;
+        needs.call("replace_routers", || node.replace_routers(list, 1001));
+    }
+    let mut node = start;
+    for _ in 0..17 {
+        needs.call("ask", || node.ask(7, 1001, &mut out));
+        needs.call("ask", || node.ask(7, 1001, &mut []));
+    }
+    for router in [ROUTER + 15, NEIGHBOUR] {
+        for (kind, units) in [(1, 1), (24, 1), (24, 3), (3, 4), (5, 255)] {
+            let mut options = Vec::new();
+            while options.len() < OPTIONS {
+                let units = units.min((OPTIONS - options.len()) / 8);
+                options.extend(packets::option(random, kind, units as u8, 4000));
+            }
+            advertisements(needs, &packets::advertisement(random, &link_local(router), 1800, &options), start);
+        }
+    }
+}
+
+/// The longest advertisement as it is, and with each thing wrong that is judged before or behind its options.
+fn advertisements(needs: &mut Needs, packet: &[u8], start: Node) {
+    let mut node = start;
+    assert!(packet.len() == 65_568 && matches!(node.hear(packet, 1001).number, 0 | 21), "the longest, and valid");
+    let last = packet.len() - 7;
+    for (at, value) in [(0, 0x60), (0, 0x40), (6, 59), (7, 64), (8, 0x20), (41, 1), (last, 0), (57, 0), (42, 0)] {
+        for repaired in [true, false] {
+            let (mut packet, mut node) = (packet.to_vec(), start);
+            packet[at] = value;
+            if repaired {
+                packets::repair_icmpv6(&mut packet);
+            }
+            needs.call("hear", || node.hear(&packet, 1001));
+        }
+    }
+}
+
+fn rules(needs: &mut Needs, random: &mut Random) {
+    let (mut bytes, mut out) = (vec![0; 140_000], vec![0; 140_000]);
+    random.fill(&mut bytes);
+    let outer =
+        Outer { identification: 1, dont_fragment: 1, ttl: 64, protocol: 41, source: LOCATOR, destination: NEIGHBOUR };
+    let prefixes = Prefixes { bytes: settings().prefixes, count: 8 };
+    for length in [0, 1, 20, 39, 40, 1232, 1500, 65_515, 65_516, 140_000] {
+        let bytes = &bytes[..length];
+        needs.call("checksum", || raw::checksum(u32::MAX, bytes));
+        needs.call("checksum_right", || raw::checksum_right(bytes));
+        for room in [0, 140_000] {
+            let out = &mut out[..room];
+            needs.call("wrap", || raw::wrap(outer, bytes, out));
+            needs.call("too_big", || raw::too_big(Address { bytes: [1; 16] }, 1280, bytes, out));
+            needs.call("solicitation", || raw::solicitation(LOCATOR, ROUTER, out));
+        }
+    }
+    for address in packets::EDGES.into_iter().chain([NEIGHBOUR]) {
+        needs.call("forbidden", || raw::forbidden(address));
+        needs.call("link_local", || raw::link_local(address));
+        for prefix in [PREFIX, [0; 8], [0xff; 8]] {
+            let full = Address { bytes: packets::address(&prefix, 2, address) };
+            needs.call("isatap", || raw::isatap(prefixes, full));
+            needs.call("bad_source", || raw::bad_source(full));
+        }
+        let mut compatible = [0; 16];
+        packets::put32(&mut compatible, 12, address);
+        needs.call("bad_source", || raw::bad_source(Address { bytes: compatible }));
+    }
+}
