@@ -36,16 +36,16 @@ reportWith sum size total =
     3 ∷ 4 ∷ be16 sum (be16 0 (be16 size (0x45 ∷ 0 ∷ be16 total (0 ∷ 1 ∷ 0 ∷ 0 ∷ 64 ∷ 41 ∷ be16 0 (be32 us (be32 neighbour []))))))
 
 -- the call with that report, its checksum right
-abbrev report : ℕ → ℕ → NodeCall
-report size total = reporting (reportWith (onesComplement (onesSum (reportWith 0 size total))) size total) 0
+abbrev sizeReport : ℕ → ℕ → NodeCall
+sizeReport size total = reporting (reportWith (onesComplement (onesSum (reportWith 0 size total))) size total) 0
 
 -- a packet of n bytes to the neighbour
 abbrev packet : ℕ → List ℕ
 packet n = 0x60 ∷ 0 ∷ 0 ∷ 0 ∷ be16 (n - 40) (59 ∷ 64 ∷ linkLocalOf us ++ (linkLocalOf neighbour ++ replicate (n - 40) 0))
 
 -- the sending of such a packet, into an output of 2,000 bytes
-abbrev send : ℕ → NodeCall
-send n = sending (packet n) (linkLocalOf neighbour) 0 0 (replicate 2000 0)
+abbrev offered : ℕ → NodeCall
+offered n = sending (packet n) (linkLocalOf neighbour) 0 0 (replicate 2000 0)
 
 -- an inner packet from the neighbour, whose source's identifier begins with a byte b
 abbrev inner : ℕ → List ℕ
@@ -81,30 +81,30 @@ pub record Starred : Type 0 where
   -- the settings keep the rules, so this is a node of them
   pub accepted : isAccepted settings ≡ true
   -- P 1,300: n 1,280 wrapped, flag clear; 1,281 gives M 1,280
-  pub path1300 : (givenLast node (report 1300 1500 ∷ []) (send 1280) ≡ answered (1300 ∷ []))
-      × (flagsLast node (report 1300 1500 ∷ []) (send 1280) ≡ 0)
-      × (givenLast node (report 1300 1500 ∷ []) (send 1281) ≡ tooBig 1280)
+  pub path1300 : (givenLast node (sizeReport 1300 1500 ∷ []) (offered 1280) ≡ answered (1300 ∷ []))
+      × (flagsLast node (sizeReport 1300 1500 ∷ []) (offered 1280) ≡ 0)
+      × (givenLast node (sizeReport 1300 1500 ∷ []) (offered 1281) ≡ tooBig 1280)
   -- P 1,301: 1,281 wrapped, flag set; 1,282 gives 1,281
-  pub path1301 : (givenLast node (report 1301 1500 ∷ []) (send 1281) ≡ answered (1301 ∷ []))
-      × (flagsLast node (report 1301 1500 ∷ []) (send 1281) ≡ 64)
-      × (givenLast node (report 1301 1500 ∷ []) (send 1282) ≡ tooBig 1281)
+  pub path1301 : (givenLast node (sizeReport 1301 1500 ∷ []) (offered 1281) ≡ answered (1301 ∷ []))
+      × (flagsLast node (sizeReport 1301 1500 ∷ []) (offered 1281) ≡ 64)
+      × (givenLast node (sizeReport 1301 1500 ∷ []) (offered 1282) ≡ tooBig 1281)
   -- P 1,500: 1,480 passes; 1,481 gives 1,480
-  pub path1500 : (givenLast node [] (send 1480) ≡ answered (1500 ∷ [])) × (givenLast node [] (send 1481) ≡ tooBig 1480)
+  pub path1500 : (givenLast node [] (offered 1480) ≡ answered (1500 ∷ [])) × (givenLast node [] (offered 1481) ≡ tooBig 1480)
   -- P 600: 1,280 passes, flag clear
-  pub path600 : (givenLast node (report 600 1500 ∷ []) (send 1280) ≡ answered (1300 ∷ []))
-      × (flagsLast node (report 600 1500 ∷ []) (send 1280) ≡ 0)
+  pub path600 : (givenLast node (sizeReport 600 1500 ∷ []) (offered 1280) ≡ answered (1300 ∷ []))
+      × (flagsLast node (sizeReport 600 1500 ∷ []) (offered 1280) ≡ 0)
   -- candidate 0: quoted 1,500 gives 1,492; 1,492 gives 1,006; 69 gives 68; 68 is 18
-  pub plateaus : (givenLast node [] (report 0 1500) ≡ reported 1492)
-      × (givenLast node [] (report 0 1492) ≡ reported 1006)
-      × (givenLast node [] (report 0 69) ≡ reported 68)
-      × (givenLast node [] (report 0 68) ≡ refused SizeUnusable)
+  pub plateaus : (givenLast node [] (sizeReport 0 1500) ≡ reported 1492)
+      × (givenLast node [] (sizeReport 0 1492) ≡ reported 1006)
+      × (givenLast node [] (sizeReport 0 69) ≡ reported 68)
+      × (givenLast node [] (sizeReport 0 68) ≡ refused SizeUnusable)
   -- size 68 accepted, 67 is 18, 1,500 is 19
-  pub sizes : (givenLast node [] (report 68 1500) ≡ reported 68)
-      × (givenLast node [] (report 67 1500) ≡ refused SizeUnusable)
-      × (givenLast node [] (report 1500 1500) ≡ refused SizeNotBelow)
+  pub sizes : (givenLast node [] (sizeReport 68 1500) ≡ reported 68)
+      × (givenLast node [] (sizeReport 67 1500) ≡ refused SizeUnusable)
+      × (givenLast node [] (sizeReport 1500 1500) ≡ refused SizeNotBelow)
   -- accepted at 1,000: in force at 1,599, gone at 1,600
-  pub ages : (pathSize (nodeAfter node (asking 0 1000 [] ∷ report 1300 1500 ∷ asking 0 1599 [] ∷ [])) neighbour ≡ 1300)
-      × (pathSize (nodeAfter node (asking 0 1000 [] ∷ report 1300 1500 ∷ asking 0 1600 [] ∷ [])) neighbour ≡ 1500)
+  pub ages : (pathSize (nodeAfter node (asking 0 1000 [] ∷ sizeReport 1300 1500 ∷ asking 0 1599 [] ∷ [])) neighbour ≡ 1300)
+      × (pathSize (nodeAfter node (asking 0 1000 [] ∷ sizeReport 1300 1500 ∷ asking 0 1600 [] ∷ [])) neighbour ≡ 1500)
   -- the header of the program's example gets checksum 6696
   pub checksum : outerBytes 60 (record { identification = 1; «dont_fragment» = false; ttl = 64; protocol = 41; source = neighbour; destination = us })
       ≡ 0x45 ∷ 0x00 ∷ 0x00 ∷ 0x3C ∷ 0x00 ∷ 0x01 ∷ 0x00 ∷ 0x00 ∷ 0x40 ∷ 0x29 ∷ 0x66 ∷ 0x96 ∷ be32 neighbour (be32 us [])
