@@ -7,7 +7,7 @@
  * It needs nothing but memcpy, memmove and memset. x86-64 and ELF alone.
  *
  * Values. No function allocates, keeps a pointer, blocks, or fails in another way than by its number. None has a precondition on values:
- * any struct, number and bytes may be handed over, a node of arbitrary bytes too; a bool alone must be one, and none is handed over.
+ * any struct, number and bytes may be handed over, a node of arbitrary bytes too.
  * IPv4 addresses are numbers, 10.0.0.1 is 0x0A000001; IPv6 addresses and packets are bytes in the order of the network.
  *
  * Memory. Lent bytes are (pointer, length). A pointer is valid for its length, or null where the length is 0. One to a node is valid,
