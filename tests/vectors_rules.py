@@ -100,7 +100,7 @@ def show(name, d):
 
 
 def outer_headers():
-    written("wrap", "header of document 01", fields() + PACKET, WHOLE, 60, shown=(0, 20))
+    written("wrap", "header of the worked input", fields() + PACKET, WHOLE, 60, shown=(0, 20))
     show("read back", WHOLE)
     show("no byte", b"")
     show("19 bytes", WHOLE[:19])
@@ -147,7 +147,7 @@ def deliver(name, d):
 
 def received():
     more = b"\xee" * 4
-    deliver("packet of document 01", WHOLE)
+    deliver("packet of the worked input", WHOLE)
     deliver("four bytes of padding", outer(60) + PACKET + more)
     deliver("four bytes behind the packet", outer(64) + PACKET + more)
     deliver("payload of four bytes", outer(64) + inner(4) + more)
