@@ -1,85 +1,13 @@
-//! The rows of a node's calls: what each is given, turn by turn, and the number that it must give.
+//! The rows of a node's calls: what each is given, turn by turn.
 
 use crate::check::Check;
 use crate::measure::Row;
 use crate::nodes::Nodes;
 use crate::packets::{address, advertisement, datagram, option, packet, put, put16, put32, repair_outer, size_report};
 use crate::plain::rules::link_local;
-use crate::plain::{Address, Locator, Settings};
-use crate::ways::{self, Turn};
-use crate::{inside, lent_node};
-
-pub const INTERFACE: u8 = 1;
-pub const LOCATOR: usize = 0;
-/// Bytes of output that a call is lent.
-pub const ROOM: usize = 2048;
-/// The time of the first turn.
-pub const START: u32 = 1000;
-
-const OWN: u32 = 0x0a01_0001;
-const PREFIXES: [[u8; 8]; 2] = [[0x20, 1, 0xd, 0xb8, 0, 0, 0, 1], [0x20, 1, 0xd, 0xb8, 0, 0, 0, 2]];
-const ROUTERS: [u32; 4] = [0x0a02_0001, 0x0a02_0002, 0x0a02_0003, 0x0a02_0004];
-/// The neighbours that a full path table keeps, and others.
-const KEPT: u32 = 0x0a03_0000;
-const OTHER: u32 = 0x0a04_0000;
-const NEXT_HOP: u32 = KEPT + 32;
-const LINK_SIZE: u16 = 9000;
-const REPORTED: u16 = 1500;
-
-pub enum Call {
-    Receive,
-    Send,
-    Report,
-    Ask,
-    Hear,
-}
-
-/// One call, made with its inputs in turn.
-pub struct Work {
-    pub name: String,
-    pub call: Call,
-    /// What every turn must give.
-    number: u8,
-    pub nodes: Nodes,
-    /// The inputs, one behind the other, and each.
-    pub all: &'static [u8],
-    pub inputs: [&'static [u8]; 4],
-    pub next_hop: Address,
-    /// Seconds from turn to turn.
-    pub step: u32,
-}
-
-impl Work {
-    /// What a turn is given.
-    pub fn turn<'a>(&'a self, turn: u32, out: &'a mut [u8]) -> Turn<'a> {
-        let (input, time) = (self.inputs[turn as usize % 4], START + turn * self.step);
-        Turn { input, next_hop: &self.next_hop, interface: INTERFACE, locator: LOCATOR, time, out }
-    }
-}
-
-/// A work whose four inputs have the same length.
-fn work(name: String, call: Call, number: u8, nodes: Nodes, input: impl FnMut(u32) -> Vec<u8>) -> Work {
-    let all = (0..4).flat_map(input).collect::<Vec<u8>>().leak();
-    let size = all.len() / 4;
-    let inputs = [0, 1, 2, 3].map(|place| &all[place * size..][..size]);
-    Work { name, call, number, nodes, all, inputs, next_hop: link_local(NEXT_HOP), step: 0 }
-}
-
-/// A tunnel end with two locators, two prefixes and four routers, and `kept` neighbours in its path table.
-pub fn nodes(check: &mut Check, kept: u32) -> Nodes {
-    let mut settings = Settings { locator_count: 2, prefix_count: 2, router_count: 4, ..Settings::default() };
-    settings.locators[0] = Locator { address: OWN, interface: INTERFACE };
-    settings.locators[1] = Locator { address: OWN + 1, interface: INTERFACE + 1 };
-    settings.prefixes[..2].copy_from_slice(&PREFIXES);
-    settings.routers[..4].copy_from_slice(&ROUTERS);
-    let settings = Settings { link_size: LINK_SIZE, interval: 1, ..settings.defaults() };
-    let mut nodes = Nodes::new(check, &settings).expect("settings that are allowed");
-    for neighbour in KEPT..KEPT + kept {
-        let message = size_report(&mut check.random, REPORTED, 0, (OWN, neighbour), 0, 8);
-        assert_eq!(nodes.report(check, &message, START), 0);
-    }
-    nodes
-}
+use crate::plain::Address;
+use crate::work::{nodes, work, Call, Turn, Work, KEPT, OTHER, OWN, PREFIXES, ROOM, ROUTERS};
+use crate::{inside, plain_way, pointer_way};
 
 /// Four sources that pass: by fe80::/64, by either prefix, and a listed router's.
 fn passing(turn: u32) -> (u32, Address) {
@@ -98,7 +26,7 @@ fn delivered(check: &mut Check, turn: u32, length: usize) -> Vec<u8> {
     datagram(&mut check.random, (neighbour, OWN), 0, &inner, 0)
 }
 
-/// The same with one thing wrong, so that it is refused by the number.
+/// A datagram of 64 bytes with one thing wrong, so that it is refused by the number.
 fn refused(check: &mut Check, turn: u32, number: u8) -> Vec<u8> {
     let mut d = delivered(check, turn, 64);
     match number {
@@ -217,12 +145,7 @@ pub fn rows(check: &mut Check) -> Vec<Row> {
     let row = |work: Work| {
         compare(check, &work);
         let work: &'static Work = Box::leak(Box::new(work));
-        let ways = [
-            Some(ways::plain(work)),
-            Some(ways::by_value(work)),
-            Some(inside::inside(work)),
-            Some(lent_node::lent(work)),
-        ];
+        let ways = [Some(plain_way::way(work)), Some(pointer_way::way(work)), inside::way(work)];
         Row { name: work.name.clone(), ways }
     };
     works.into_iter().map(row).collect()

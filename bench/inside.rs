@@ -1,24 +1,16 @@
-//! The library's own loops: many calls in one, so that the crossing from C and the node's copies there count once.
+//! The library's own loops (crate bench_loops): many calls in one, so that the crossing from C and the node's copy there count once.
 
-use crate::bogtrumpet::{Address, Node};
-use crate::calls::{Call, Work, INTERFACE, LOCATOR, ROOM, START};
 use crate::measure::Turns;
 use crate::nodes::number;
 use crate::plain::Sent;
-use crate::ways::Turn;
+use crate::work::{Call, Turn, Work, INTERFACE, LOCATOR, ROOM, START};
+use bogtrumpet::raw::{Address, Node, Paths};
 use std::hint::black_box;
 
-// Each gives the sum of what its calls answer: a refused one its number, another its length, size or router.
-unsafe extern "C" {
-    fn bogtrumpet_receive_many(
-        node: Node,
-        all: *const u8,
-        length: usize,
-        size: usize,
-        interface: u8,
-        count: u32,
-    ) -> u64;
-    fn bogtrumpet_send_many(
+// Each gives the sum of what its calls answer: a refused one its number, another its length or size.
+extern "C" {
+    fn bench_receive(node: Node, all: *const u8, length: usize, size: usize, interface: u8, count: u32) -> u64;
+    fn bench_send(
         node: Node,
         all: *const u8,
         length: usize,
@@ -30,51 +22,36 @@ unsafe extern "C" {
         room: usize,
         count: u32,
     ) -> u64;
-    fn bogtrumpet_report_many(
-        node: Node,
-        all: *const u8,
-        length: usize,
-        size: usize,
-        time: u32,
-        step: u32,
-        count: u32,
-    ) -> u64;
-    fn bogtrumpet_ask_many(
-        node: Node,
-        locator: usize,
-        time: u32,
-        step: u32,
-        out: *mut u8,
-        room: usize,
-        count: u32,
-    ) -> u64;
-    fn bogtrumpet_hear_many(node: Node, all: *const u8, length: usize, size: usize, time: u32, count: u32) -> u64;
-    fn bogtrumpet_checksum_many(start: u32, all: *const u8, length: usize, size: usize, count: u32) -> u64;
+    fn bench_checksum(start: u32, all: *const u8, length: usize, size: usize, count: u32) -> u64;
+    fn bench_lookup(table: Paths, link: u16, first: u32, count: u32, now: u32) -> u64;
 }
 
 /// The sum of so many checksums, of four parts in turn.
 pub fn checksums(all: &[u8], count: u32) -> u64 {
     // SAFETY: pointers and lengths are those of slices; so below.
-    unsafe { bogtrumpet_checksum_many(0, all.as_ptr(), all.len(), all.len() / 4, count) }
+    unsafe { bench_checksum(0, all.as_ptr(), all.len(), all.len() / 4, count) }
 }
 
-/// The sum of what so many calls answer.
-fn many(work: &Work, out: &mut [u8], count: u32) -> u64 {
+/// The sum of the sizes toward so many neighbours, one number after the other.
+pub fn sizes(table: &Paths, link: u16, first: u32, count: u32, now: u32) -> u64 {
+    unsafe { bench_lookup(*table, link, first, count, now) }
+}
+
+/// The sum of what so many calls answer, of a kind of call that has a loop.
+fn many(work: &Work, out: &mut [u8], count: u32) -> Option<u64> {
     let (node, all, length) = (work.nodes.library, work.all.as_ptr(), work.all.len());
-    let (size, next_hop, step) = (length / 4, Address { bytes: work.next_hop }, work.step);
+    let (size, next_hop) = (length / 4, Address { bytes: work.next_hop });
     let (output, room) = (out.as_mut_ptr(), out.len());
     unsafe {
         match work.call {
-            Call::Receive => bogtrumpet_receive_many(node, all, length, size, INTERFACE, count),
-            Call::Send => bogtrumpet_send_many(node, all, length, size, next_hop, LOCATOR, START, output, room, count),
-            Call::Report => bogtrumpet_report_many(node, all, length, size, START, step, count),
-            Call::Ask => bogtrumpet_ask_many(node, LOCATOR, START, step, output, room, count),
-            Call::Hear => bogtrumpet_hear_many(node, all, length, size, START, count),
+            Call::Receive => Some(bench_receive(node, all, length, size, INTERFACE, count)),
+            Call::Send => Some(bench_send(node, all, length, size, next_hop, LOCATOR, START, output, room, count)),
+            Call::Report | Call::Ask | Call::Hear => None,
         }
     }
 }
 
-/// The same of plain Rust.
+/// The sum in plain Rust.
 fn plain_many(work: &Work, out: &mut [u8], count: u32) -> u64 {
     let mut node = work.nodes.plain;
     let mut sum = 0;
@@ -99,16 +76,18 @@ fn plain_many(work: &Work, out: &mut [u8], count: u32) -> u64 {
 fn compare(work: &Work) {
     for count in [0, 1, 2, 3, 255, 256] {
         let (mut plain, mut library) = ([0x55; ROOM], [0x55; ROOM]);
-        assert_eq!(plain_many(work, &mut plain, count), many(work, &mut library, count), "{} {count} times", work.name);
+        let sums = (Some(plain_many(work, &mut plain, count)), many(work, &mut library, count));
+        assert_eq!(sums.0, sums.1, "{} {count} times", work.name);
         assert!(plain == library, "{} {count} times: outputs", work.name);
     }
 }
 
-pub fn inside(work: &'static Work) -> Turns {
-    compare(work);
+pub fn way(work: &'static Work) -> Option<Turns> {
     let mut out = vec![0; ROOM];
-    Box::new(move |turns| {
+    many(work, &mut out, 0)?;
+    compare(work);
+    Some(Box::new(move |turns| {
         black_box(many(black_box(work), &mut out, turns));
         black_box(&out);
-    })
+    }))
 }

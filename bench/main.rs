@@ -5,18 +5,20 @@
 //!     bench COUNTS     the table with the counts that callgrind wrote
 //!     bench --moves    the table of bytes moved, if built with moves.c
 
-mod calls;
-mod inside;
-mod lent_node;
+// From what needs nothing to what needs all: measuring; a row's work; the ways to do it; the rows; the tables.
 mod measure;
+mod work;
+
+mod inside;
+mod plain_way;
+mod pointer_way;
+
+mod calls;
 mod paths;
 mod rules;
-mod table;
-mod ways;
 
-#[allow(dead_code)]
-#[path = "../rust/bogtrumpet.rs"]
-mod bogtrumpet;
+mod table;
+
 #[allow(dead_code)]
 #[path = "../tests/boundary/check.rs"]
 mod check;

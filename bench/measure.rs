@@ -6,19 +6,21 @@ use std::time::Instant;
 /// So many turns of a row's work, done in one way. Every run starts from the same state.
 pub type Turns = Box<dyn FnMut(u32)>;
 
-/// The same work in each way: plain Rust first. `None` where the library has no such function.
+/// Plain Rust, the library across the C boundary, and a loop of the library.
+pub const WAYS: [&str; COUNT] = ["Rust", "C", "inside"];
+const COUNT: usize = 3;
+
+/// The same work in each way. `None` where the library has no such function.
 pub struct Row {
     pub name: String,
-    pub ways: [Option<Turns>; 4],
+    pub ways: [Option<Turns>; COUNT],
 }
-
-pub const WAYS: [&str; 4] = ["Rust", "value", "inside", "lent"];
 
 /// What was measured of one turn, way by way.
 pub struct Measured {
     pub name: String,
-    pub times: [Option<f64>; 4],
-    pub counts: [Option<f64>; 4],
+    pub times: [Option<f64>; COUNT],
+    pub counts: [Option<f64>; COUNT],
 }
 
 /// Turns come in such lots: each of the inputs has come equally often after them.
@@ -65,7 +67,7 @@ fn time(way: &mut Turns, turns: u32) -> f64 {
 }
 
 /// The best of many short rounds of each way, the ways in turn: the machine does other work too.
-fn improve(row: &mut Row, best: &mut [f64; 4]) {
+fn improve(row: &mut Row, best: &mut [f64; COUNT]) {
     let turns = row.ways.each_mut().map(|way| {
         let lots = way.as_mut().map_or(0.0, |way| ROUND_NANOSECONDS / (time(way, LOT) * f64::from(LOT)));
         (lots as u32 + 1) * LOT
@@ -92,12 +94,12 @@ fn deeper(steps: u32, work: &mut dyn FnMut()) {
 
 /// Times of all rows, and the instructions counted in the file, if there is one.
 pub fn measured(mut rows: Vec<Row>, file: Option<&str>) -> Vec<Measured> {
-    let mut times = vec![[f64::MAX; 4]; rows.len()];
+    let mut times = vec![[f64::MAX; COUNT]; rows.len()];
     for pass in 0..PASSES {
         deeper(pass, &mut || rows.iter_mut().zip(&mut times).for_each(|(row, best)| improve(row, best)));
     }
     let mut counts = file.map(counts).unwrap_or_default().into_iter();
-    let measured = |(row, times): (Row, [f64; 4])| Measured {
+    let measured = |(row, times): (Row, [f64; COUNT])| Measured {
         name: row.name,
         times: times.map(|time| (time < f64::MAX).then_some(time)),
         counts: row.ways.map(|way| way.and_then(|_| counts.next())),
@@ -107,7 +109,7 @@ pub fn measured(mut rows: Vec<Row>, file: Option<&str>) -> Vec<Measured> {
 
 /// Bytes that memcpy and memmove move in one turn of each way.
 #[cfg(moves)]
-pub fn moved(rows: Vec<Row>) -> Vec<(String, [Option<f64>; 4])> {
+pub fn moved(rows: Vec<Row>) -> Vec<(String, [Option<f64>; COUNT])> {
     unsafe extern "C" {
         safe fn bench_moved() -> u64;
     }

@@ -1,10 +1,10 @@
 //! The rows of the rules without state: checksums, and wrapping in an outer header.
 
-use crate::bogtrumpet;
 use crate::inside;
 use crate::measure::{Row, Turns};
 use crate::plain::rules::{self, Outer, Refusal};
 use crate::random::Random;
+use bogtrumpet::raw;
 use std::hint::black_box;
 
 /// Longer than any datagram.
@@ -43,14 +43,14 @@ fn plain_checksum(start: u32, bytes: &[u8]) -> u16 {
 fn checksum(random: &mut Random, length: usize) -> Row {
     let inputs = inputs(random, length);
     for input in each(inputs) {
-        assert_eq!(plain_checksum(0, input), bogtrumpet::checksum(0, input), "checksum of {length} bytes");
+        assert_eq!(plain_checksum(0, input), raw::checksum(0, input), "checksum of {length} bytes");
     }
     let sum: u64 = each(inputs).iter().map(|input| u64::from(plain_checksum(0, input))).sum();
     assert_eq!(sum, inside::checksums(inputs, 4), "checksums of {length} bytes");
     let plain = turns(inputs, |_, input, _| _ = black_box(plain_checksum(black_box(0), input)));
-    let by_value = turns(inputs, |_, input, _| _ = black_box(bogtrumpet::checksum(black_box(0), input)));
+    let library = turns(inputs, |_, input, _| _ = black_box(raw::checksum(black_box(0), input)));
     let inside: Turns = Box::new(|turns| _ = black_box(inside::checksums(black_box(inputs), turns)));
-    Row { name: format!("checksum {length}"), ways: [plain, by_value, Some(inside), None] }
+    Row { name: format!("checksum {length}"), ways: [plain, library, Some(inside)] }
 }
 
 #[inline(never)]
@@ -70,9 +70,10 @@ fn outers(random: &mut Random) -> [Outer; 4] {
     })
 }
 
-fn library_outer(outer: Outer) -> bogtrumpet::Outer {
+fn library_outer(outer: Outer) -> raw::Outer {
     let Outer { identification, dont_fragment, ttl, protocol, source, destination } = outer;
-    bogtrumpet::Outer { identification, dont_fragment, ttl, protocol, source, destination }
+    let dont_fragment = dont_fragment.into();
+    raw::Outer { identification, dont_fragment, ttl, protocol, source, destination }
 }
 
 fn wrap(random: &mut Random, length: usize) -> Row {
@@ -81,15 +82,15 @@ fn wrap(random: &mut Random, length: usize) -> Row {
     let library_outers = outers.map(library_outer);
     for (place, input) in each(inputs).iter().enumerate() {
         let (mut plain, mut library) = (vec![0x55; ROOM], vec![0x55; ROOM]);
-        let written = bogtrumpet::wrap(library_outers[place], input, &mut library);
-        assert_eq!(plain_wrap(&outers[place], input, &mut plain), Ok(written), "{length} bytes wrapped");
+        let written = raw::wrap(library_outers[place], input, &mut library);
+        assert_eq!(plain_wrap(&outers[place], input, &mut plain), Ok(written.length), "{length} bytes wrapped");
         assert!(plain == library, "{length} bytes wrapped");
     }
     let plain = turns(inputs, move |place, input, out| _ = black_box(plain_wrap(&outers[place], input, out)));
-    let by_value = turns(inputs, move |place, input, out| {
-        black_box(bogtrumpet::wrap(library_outers[place], input, out));
+    let library = turns(inputs, move |place, input, out| {
+        black_box(raw::wrap(library_outers[place], input, out));
     });
-    Row { name: format!("wrap {length}"), ways: [plain, by_value, None, None] }
+    Row { name: format!("wrap {length}"), ways: [plain, library, None] }
 }
 
 pub fn rows(random: &mut Random) -> Vec<Row> {

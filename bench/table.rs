@@ -18,7 +18,7 @@ pub fn print_rows(rows: &[Measured]) {
     print_heading("", &columns);
     for row in rows {
         let way = |way| [number(row.times[way], 1), number(row.counts[way], 0), number(ratio(row, way), 2)];
-        let cells = (0..4).map(way).collect::<Vec<_>>().concat();
+        let cells = (0..WAYS.len()).map(way).collect::<Vec<_>>().concat();
         print_line(&row.name, &[&cells[..2], &cells[3..]].concat());
     }
 }
@@ -28,7 +28,7 @@ pub fn print_goals(rows: &[Measured]) {
     let columns = WAYS[1..].iter().flat_map(|way| [way.to_string(), "worst".into()]).collect::<Vec<_>>();
     print_heading("rows within the goal", &columns);
     for (name, limit) in GOALS {
-        let cells = (1..4).flat_map(|way| {
+        let cells = (1..WAYS.len()).flat_map(|way| {
             let ratios: Vec<f64> =
                 rows.iter().filter(|row| row.name.starts_with(name)).filter_map(|row| ratio(row, way)).collect();
             let within = ratios.iter().filter(|&&ratio| ratio <= limit).count();
@@ -40,7 +40,7 @@ pub fn print_goals(rows: &[Measured]) {
 }
 
 #[cfg(moves)]
-pub fn print_moves(rows: &[(String, [Option<f64>; 4])]) {
+pub fn print_moves(rows: &[(String, [Option<f64>; WAYS.len()])]) {
     print_heading("bytes moved", &WAYS.map(String::from));
     for (name, ways) in rows.iter().filter(|(_, ways)| ways.iter().flatten().any(|&bytes| bytes > 0.0)) {
         print_line(name, &ways.map(|way| number(way, 0)));

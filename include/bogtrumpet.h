@@ -7,7 +7,7 @@
  * It needs nothing but memcpy, memmove and memset. x86-64 and ELF alone.
  *
  * Values. No function allocates, keeps a pointer, blocks, or fails in another way than by its number. None has a precondition on values:
- * any struct, number and bytes may be handed over, a node of arbitrary bytes too; a bool alone must be one, and none is handed over.
+ * any struct, number and bytes may be handed over, a node of arbitrary bytes too.
  * IPv4 addresses are numbers, 10.0.0.1 is 0x0A000001; IPv6 addresses and packets are bytes in the order of the network.
  *
  * Memory. Lent bytes are (pointer, length). A pointer is valid for its length, or null where the length is 0. One to a node is valid,
@@ -18,10 +18,9 @@
  *
  * Stack. A call needs at most BOGTRUMPET_STACK bytes, whatever it is given (tests/boundary measures it).
  *
- * Answers. Every answer has a number of enum bogtrumpet_number, 0 where the call was not refused, but for the calls that say "gives no
- * number". Where several apply, the first in the order that stands at the call is given. Fields of an answer that do not apply are 0.
- * After a refusal the lent output is untouched and the node as before but for the latest time; 14 alone may write. Bytes of an output
- * behind the written length stay as they were.
+ * Answers. A call that can be refused gives a number of enum bogtrumpet_number, 0 where it is not. Where several apply, the first in the
+ * order that stands at the call is given. Fields of an answer that do not apply are 0. After a refusal the lent output is untouched and
+ * the node as before but for the latest time; 14 alone may write. Bytes of an output behind the written length stay as they were.
  *
  * Time is a count of seconds that the caller hands over; one earlier than the latest is read as the latest.
  */
@@ -234,7 +233,7 @@ struct bogtrumpet_heard {
 /* ---- The node's calls --------------------------------------------------------------------------------------------- */
 
 /* The same locators, prefixes, routers and counts; link size 1,500, TTL 64, interval 120, identification 1, reporting address
-   the link-local address of locator 0 (R2.10). Gives no number. */
+   the link-local address of locator 0 (R2.10). Never refused: bogtrumpet_new judges them. */
 BOGTRUMPET_CHECKED struct bogtrumpet_settings bogtrumpet_defaults(struct bogtrumpet_settings settings);
 
 /* Fills the node, whatever stood there: a node with all routers due at time 0. The number: 0, or 1, and then the node is the one of
@@ -274,7 +273,7 @@ BOGTRUMPET_CHECKED struct bogtrumpet_asked bogtrumpet_ask(struct bogtrumpet_node
 BOGTRUMPET_CHECKED struct bogtrumpet_heard bogtrumpet_hear(struct bogtrumpet_node *node, const uint8_t *packet,
                                                            size_t length, uint32_t time);
 
-/* The path size in force toward the neighbour at the latest time (R10). Gives no number. */
+/* The path size in force toward the neighbour at the latest time (R10). */
 BOGTRUMPET_CHECKED uint16_t bogtrumpet_path_size(const struct bogtrumpet_node *node, uint32_t neighbour);
 
 /* ---- Rules without state ------------------------------------------------------------------------------------------ */
@@ -315,7 +314,7 @@ struct bogtrumpet_written {
     size_t length; /* with 0: the length written */
 };
 
-/* The RFC 1071 sum of the bytes, continued from the two words of start: the sum itself, not its complement (R1.5). Gives no number. */
+/* The RFC 1071 sum of the bytes, continued from the two words of start: the sum itself, not its complement (R1.5). */
 BOGTRUMPET_CHECKED uint16_t bogtrumpet_checksum(uint32_t start, const uint8_t *bytes, size_t length);
 
 /* Whether the sum that includes the checksum field is FFFF. */

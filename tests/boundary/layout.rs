@@ -1,12 +1,16 @@
-//! The structs of the Rust package have their fields where the C header has them.
+//! The structs of the Rust package have their fields where the C header has them, and texts and constants are the same.
 
 use crate::check::same;
 use bogtrumpet::raw::*;
+use bogtrumpet::Refusal;
+use std::ffi::{c_char, CStr};
 use std::mem::offset_of;
 
 extern "C" {
     static bogtrumpet_layout: [usize; 0];
     static bogtrumpet_layout_length: usize;
+    static bogtrumpet_constants: [usize; 8];
+    fn bogtrumpet_text(number: u8) -> *const c_char;
 }
 
 macro_rules! places {
@@ -19,6 +23,37 @@ macro_rules! places {
 }
 
 pub fn compare() {
+    places();
+    texts();
+    let constants = [
+        bogtrumpet::MAX_LOCATORS,
+        bogtrumpet::MAX_PREFIXES,
+        bogtrumpet::MAX_ROUTERS,
+        bogtrumpet::MAX_NEIGHBOURS,
+        bogtrumpet::OUTER_HEADER_LENGTH,
+        bogtrumpet::SOLICITATION_LENGTH,
+        bogtrumpet::MAX_TOO_BIG_LENGTH,
+        bogtrumpet::MAX_SENT_LENGTH,
+    ];
+    // SAFETY: through.c's table has that length.
+    same("constants", unsafe { &bogtrumpet_constants }, &constants, &|| "the header and the package".into());
+}
+
+fn texts() {
+    for number in 0..=255 {
+        // SAFETY: the header's texts are C strings.
+        let header = unsafe { CStr::from_ptr(bogtrumpet_text(number)) }.to_str().expect("a text");
+        let package = match (number, Refusal::from_number(number)) {
+            (_, Some(refusal)) => refusal.to_string(),
+            (0, None) => "not refused".into(),
+            (14, None) => "packet too big".into(),
+            _ => "no number of bogtrumpet".into(),
+        };
+        same("text", header, &*package, &|| format!("number {number}"));
+    }
+}
+
+fn places() {
     // SAFETY: through.c's table has that length.
     let header = unsafe { std::slice::from_raw_parts((&raw const bogtrumpet_layout).cast(), bogtrumpet_layout_length) };
     let module: Vec<(&str, usize)> = places! {

@@ -1,6 +1,6 @@
 /*
  * Every call once more through C: linked with --wrap, the test's calls come here and go on to the library as the header has them.
- * bogtrumpet_layout is the header's place of each field, for layout.rs to compare with the Rust package's.
+ * The rest is the header's own, for layout.rs to compare with the Rust package's.
  */
 #include "bogtrumpet.h"
 
@@ -40,6 +40,16 @@ FORWARD(struct bogtrumpet_written, too_big, (address_t a, uint16_t size, bytes_t
         (a, size, p, length, out, room))
 FORWARD(struct bogtrumpet_written, solicitation, (uint32_t locator, uint32_t router, uint8_t *out, size_t room),
         (locator, router, out, room))
+
+/* The header's texts and constants, for layout.rs. */
+const char *bogtrumpet_text(uint8_t number);
+const char *bogtrumpet_text(uint8_t number) { return bogtrumpet_number_text(number); }
+
+const size_t bogtrumpet_constants[8] = {
+    BOGTRUMPET_MAX_LOCATORS, BOGTRUMPET_MAX_PREFIXES, BOGTRUMPET_MAX_ROUTERS, BOGTRUMPET_MAX_NEIGHBOURS,
+    BOGTRUMPET_OUTER_HEADER_LENGTH, BOGTRUMPET_SOLICITATION_LENGTH, BOGTRUMPET_MAX_TOO_BIG_LENGTH,
+    BOGTRUMPET_MAX_SENT_LENGTH,
+};
 
 /* The place of each field and the size of each struct, in the header's order; layout.rs has the same list. */
 #define AT(name, field) offsetof(struct bogtrumpet_##name, field)

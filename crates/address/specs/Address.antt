@@ -95,6 +95,6 @@ unfoldable pub isBadSourceWith : Bool → List ℕ → Bool
 isBadSourceWith forbidden a =
     isMulticastOrUnspecified a || areZero 12 a && eqb (lastQuad a) 1 || areZero 12 a && forbidden
 
--- the same with document 01's forbidden addresses
+-- a bad inner source, where document 01's addresses are forbidden and no more
 abbrev pub isBadSource : List ℕ → Bool
 isBadSource a = isBadSourceWith (isForbidden (lastQuad a)) a

@@ -1,4 +1,4 @@
--- Loops over calls, one after the other: the sum of what n turns answer, and what they leave.
+-- Loops over calls, one after the other: the sum of what n turns answer, and what they leave. Only functions of the crate's own cite this.
 use Prim.Native.Nat.{ℕ, suc, zero, _+_, _*_, _/_, _%_, _^_, min}
 use mathlib.Core.List.{List}
 use lib.ListN.{length, take, drop}

@@ -15,8 +15,9 @@ use Rattle.paths.specs.Candidate.{isBelow}
 use Rattle.paths.specs.Kept.{inForce}
 use Rattle.paths.specs.Packets.{largestPacket}
 use Rattle.paths.specs.Table.{keptIn}
-use Rattle.paths.specs.Calls.{PathCall, clock, report, send, Answer, accepted, notBelow, other, table, answer, remembered, latest, history, sendAnswer}
-use Rattle.paths.specs.Sender.{Event, nothing, packetEvent, eventOf, eventsOf}
+use Rattle.paths.proofs.Calls.{PathCall, clock, report, send, Answer, accepted, notBelow, other, table, answer, remembered, latest, history, sendAnswer}
+use Rattle.paths.specs.Sender.{Event, nothing}
+use Rattle.paths.proofs.Events.{packetEvent, eventOf, eventsOf}
 use Rattle.paths.specs.declared.PathTable.{PathTable}
 use Rattle.sending.specs.Plan.{sendCheck}
 use Rattle.sending.proofs.Seen.{tooBigSeen, takesMessage, seenAfter, sent-seen}

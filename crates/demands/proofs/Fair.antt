@@ -15,8 +15,8 @@ use Rattle.lifetimes.specs.Lifetimes.{withoutLifetime}
 use Rattle.routers.specs.Routers.{live, nextOf, rescheduled, rescheduledOf}
 use Rattle.routers.specs.declared.Router.{Router}
 use Rattle.routers.specs.declared.Next.the-variants.{Due}
-use Rattle.routers.specs.Fairness as routers
-use Rattle.routers.specs.Fairness.{RouterCall, served, Unheard}
+use Rattle.routers.proofs.FairCalls as routers
+use Rattle.routers.proofs.FairCalls.{RouterCall, served, Unheard}
 use Rattle.routers.proofs.Fairness.{fair}
 use Rattle.routers.proofs.Live.{live-rescheduled}
 use Rattle.asking.proofs.Laws as asking

@@ -6,7 +6,7 @@ use mathlib.Core.Option.{some}
 use lib.ListN.{length}
 use Rattle.address.specs.Address.{lastQuad}
 use Rattle.settings.specs.declared.Settings.{Settings}
-use Rattle.paths.specs.Claim.{tableOf}
+use Rattle.paths.proofs.Claim.{tableOf}
 use Rattle.paths.specs.declared.PathTable.{PathTable}
 use Rattle.paths.proofs.Answers.{same-in-force}
 use Rattle.sending.specs.Sending.{sentOf, sendGiven}

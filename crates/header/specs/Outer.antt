@@ -5,12 +5,11 @@ use mathlib.Core.List.{List, [], _∷_, _++_}
 use lib.ListN.{getD, length, take, drop}
 use lib.Dec.{eqb, ltb}
 use Rattle.checksum.specs.Sum.{isRight}
-use Rattle.refusals.specs.Refusals.{firstOf}
+use Rattle.refusals.specs.Refusals.{firstOf, stopOr}
 use Rattle.refusals.specs.Given.{Given, answered, refused}
 use Rattle.refusals.specs.declared.Refusal.{Refusal}
 use Rattle.refusals.specs.declared.Refusal.the-variants.{OuterMalformed, OuterChecksum, OtherProtocol, Piece}
 use Rattle.refusals.specs.declared.Check.{Check}
-use Rattle.refusals.specs.declared.Check.the-variants.{Pass, Stop}
 use Rattle.header.specs.Numbers.{outerHeader, ipv6}
 use Rattle.header.specs.Fields.{wordAt, quadAt}
 use Rattle.header.specs.declared.outer.Outer.{Outer}
@@ -23,7 +22,7 @@ outerOf d = record {
   version = getD d 0 0 / 16;
   header = getD d 0 0 % 16 * 4;
   total = wordAt d 2;
-  fragment = wordAt d 6 % 16384;
+  fragment = wordAt d 6 % 0x4000;
   protocol = getD d 9 0;
   source = quadAt d 12;
   destination = quadAt d 16;
@@ -65,9 +64,9 @@ abbrev pub outerGiven : OuterRead → Given
 outerGiven (Header o) = answered (o .header ∷ o .total ∷ o .source ∷ o .destination ∷ o .protocol ∷ o .fragment ∷ [])
 outerGiven (Refused refusal) = refused refusal
 
+-- the fields of a header that passes, or the refusal
 abbrev pub readWith : Check → Outer → OuterRead
-readWith Pass o = Header o
-readWith (Stop refusal) o = Refused refusal
+readWith check o = stopOr Refused check (Header o)
 
 -- the fields of a datagram's outer header, or the first refusal
 unfoldable pub outerReadOf : List ℕ → OuterRead

@@ -6,11 +6,10 @@ use lib.ListN.{length}
 use lib.Dec.{ltb}
 use Rattle.checksum.specs.Sum.{onesSum, onesComplement}
 use Rattle.lent.specs.Written.{written}
-use Rattle.refusals.specs.Refusals.{firstOf}
+use Rattle.refusals.specs.Refusals.{firstOf, stopOr}
 use Rattle.refusals.specs.Given.{Given, answered, refused}
 use Rattle.refusals.specs.declared.Refusal.the-variants.{WrappedTooLong, OutputShort}
 use Rattle.refusals.specs.declared.Check.{Check}
-use Rattle.refusals.specs.declared.Check.the-variants.{Pass, Stop}
 use Rattle.header.specs.Numbers.{outerHeader}
 use Rattle.header.specs.declared.wrap.OuterFields.{OuterFields}
 use Rattle.header.specs.declared.wrap.Written.{Written}
@@ -61,16 +60,16 @@ writtenGiven (Refused refusal) = refused refusal
 
 -- what a writer answers that would write n bytes
 abbrev pub writerAnswer : Check → ℕ → Written
-writerAnswer Pass n = Length n
-writerAnswer (Stop refusal) n = Refused refusal
+writerAnswer check n = stopOr Refused check (Length n)
 
 -- what a writer leaves in the output that would write w: "the lent output is untouched" after a refusal
 abbrev pub writerOutput : Check → List ℕ → List ℕ → List ℕ
-writerOutput Pass w out = written w out
-writerOutput (Stop refusal) w out = out
+writerOutput check w out = stopOr (λ refusal. out) check (written w out)
 
+-- the length written, or the refusal
 unfoldable pub wrapAnswer : ℕ → ℕ → Written
 wrapAnswer n room = writerAnswer (wrapCheck n room) (outerHeader + n)
 
+-- what stands in the output afterwards
 unfoldable pub wrapOutput : OuterFields → List ℕ → List ℕ → List ℕ
 wrapOutput h packet out = writerOutput (wrapCheck (length packet) (length out)) (wrapped h packet) out

@@ -98,7 +98,7 @@ fn full_address(t: &[u8]) -> [u8; 16]
     ]
 }
 
-// The same of fewer bytes, with zeros behind them.
+// The bytes of an address that is cut off, with zeros behind them.
 fn short_address(t: &[u8]) -> [u8; 16]
     requires { ⌜ length (now t) ≤ 16 ⌝ }
     ensures { λ r. ⌜ r ≡ bytesFrom 16 0 (now (t .entry)) ⌝ }

@@ -72,11 +72,11 @@ pub fn outer_bytes(total: u16, h: OuterFields) -> [u8; OUTER_HEADER]
     b[6] = flags(h.dont_fragment);
     b[8] = h.ttl;
     b[9] = h.protocol;
-    place(&be16(total), &mut b, 2);
-    place(&be16(h.identification), &mut b, 4);
-    place(&be16(sum), &mut b, 10);
-    place(&be32(h.source), &mut b, 12);
-    place(&be32(h.destination), &mut b, 16);
+    place(&word_bytes(total), &mut b, 2);
+    place(&word_bytes(h.identification), &mut b, 4);
+    place(&word_bytes(sum), &mut b, 10);
+    place(&quad_bytes(h.source), &mut b, 12);
+    place(&quad_bytes(h.destination), &mut b, 16);
     b
 }
 
@@ -93,14 +93,14 @@ fn header_sum(total: u16, h: OuterFields) -> u16
 }
 
 // The two bytes of a 16-bit number.
-fn be16(x: u16) -> [u8; 2]
+fn word_bytes(x: u16) -> [u8; 2]
     ensures { λ r. ⌜ r ≡ be16 x [] ⌝ }
 {
     [fields::high(x), fields::low(x)]
 }
 
 // The four bytes of a 32-bit number.
-fn be32(x: u32) -> [u8; 4]
+fn quad_bytes(x: u32) -> [u8; 4]
     ensures { λ r. ⌜ r ≡ be32 x [] ⌝ }
 {
     [

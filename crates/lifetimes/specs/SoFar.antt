@@ -1,4 +1,4 @@
--- What a walk over the options has found so far: the contracts of the private functions.
+-- What a walk over the options has found so far. Only functions of the crate's own cite this.
 use Prim.Native.Nat.{ℕ, zero, suc}
 use mathlib.Core.List.{List, [], _∷_, _++_, map}
 use mathlib.Core.Bool.{cond}

@@ -5,8 +5,8 @@ use Prim.Native.Nat.{ℕ}
 use Rattle.paths.specs.Kept.{Report, inForce}
 use Rattle.paths.specs.Table.{keptIn}
 use Rattle.paths.specs.Record.{recordKept}
-use Rattle.paths.specs.Calls.{PathCall, clock, report, send, Answer, accepted, notBelow, tooBig, other, table, plain, answer, remembered, latest, history, keptAfter}
-use Rattle.paths.specs.Claim.{SameKept, tableOf}
+use Rattle.paths.proofs.Calls.{PathCall, clock, report, send, Answer, accepted, notBelow, tooBig, other, table, plain, answer, remembered, latest, history, keptAfter}
+use Rattle.paths.proofs.Claim.{SameKept, tableOf}
 use Rattle.paths.proofs.Same.{kept-same, tableOf-keeps}
 
 pub same-kept : SameKept

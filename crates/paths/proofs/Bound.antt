@@ -10,9 +10,10 @@ use borrow.Author.Tests.{ltb-true, eqb-true}
 use lib.Dec.{ltb, eqb}
 use Rattle.paths.specs.Candidate.{isBelow}
 use Rattle.paths.specs.Kept.{Report}
-use Rattle.paths.specs.Calls.{PathCall, clock, report, send, Answer, accepted, notBelow, tooBig, other, plain, sizeToward, remembered, latest, answer, history}
-use Rattle.paths.specs.Sender.{Event, told, passed, lowered, nothing, AtMostAll, Heeds, tooBigs, reports, Bound, packetEvent, eventOf, eventsOf}
-use Rattle.paths.specs.Claim.{Grows}
+use Rattle.paths.proofs.Calls.{PathCall, clock, report, send, Answer, accepted, notBelow, tooBig, other, plain, sizeToward, remembered, latest, answer, history}
+use Rattle.paths.specs.Sender.{Event, told, passed, lowered, nothing, AtMostAll, Heeds, tooBigs, reports, Bound}
+use Rattle.paths.proofs.Events.{packetEvent, eventOf, eventsOf}
+use Rattle.paths.proofs.Claim.{Grows}
 use Rattle.paths.proofs.Reports.{tested}
 use Rattle.paths.proofs.Rise.{Small, size-small, size-later, size-others}
 

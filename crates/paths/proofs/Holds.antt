@@ -6,8 +6,8 @@ use lib.ListN.{take}
 use Rattle.paths.specs.Packets.{largestPacket}
 use Rattle.paths.specs.Kept.{whileYoung, inForce}
 use Rattle.paths.specs.Table.{keptIn, tableAfter}
-use Rattle.paths.specs.Claim.{Grows, AllPathsHold}
-use Rattle.paths.specs.Values.{Values}
+use Rattle.paths.proofs.Claim.{Grows, AllPathsHold}
+use Rattle.paths.proofs.Values.{Values}
 use Rattle.paths.proofs.Answers.{same-history, same-after}
 use Rattle.paths.proofs.Bound.{from-first}
 

@@ -12,7 +12,7 @@ use lib.Dec.{ltb, eqb}
 use Rattle.paths.specs.Kept.{Report, lifetime, mostNeighbours, lastOf, whileYoung, keptFrom, inForce}
 use Rattle.paths.specs.Table.{placeIn, cut}
 use Rattle.paths.specs.Record.{lastOfEach, othersSince, recordKept}
-use Rattle.paths.specs.Calls.{plain, sizeToward}
+use Rattle.paths.proofs.Calls.{plain, sizeToward}
 use Rattle.paths.specs.declared.Kept.{Kept}
 use Rattle.paths.specs.declared.Kept.the-variants.{Size, Nothing}
 use Rattle.paths.proofs.Reports.{tested, others-place, without-each}

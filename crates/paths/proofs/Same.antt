@@ -11,7 +11,7 @@ use lib.ListN.{length, take}
 use Rattle.paths.specs.Kept.{Report, mostNeighbours, lastOf, keptFrom}
 use Rattle.paths.specs.Table.{rows, held, placeIn, cut, keptIn, tableAfter}
 use Rattle.paths.specs.Record.{lastOfEach, recordKept}
-use Rattle.paths.specs.Claim.{tableOf}
+use Rattle.paths.proofs.Claim.{tableOf}
 use Rattle.paths.specs.declared.PathTable.{PathTable}
 use Rattle.paths.proofs.Reports.{keptFrom-cond, take-length-take, take-cut, cut-last, placeIn-le, placeIn-take, lastOf-take, lastOf-each, others-place, without-each}
 

@@ -4,9 +4,6 @@ pub mod Candidate
 pub mod Kept
 pub mod Table
 pub mod Record
-pub mod Calls
 pub mod Sender
-pub mod Claim
 pub mod Largest
-pub mod Values
 pub mod Search

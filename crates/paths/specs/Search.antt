@@ -8,10 +8,11 @@ use lib.ListN.{length, drop}
 use Rattle.lists.specs.Any.{anyOf}
 use Rattle.paths.specs.Table.{placeOf}
 
--- so many, in two halves
+-- half of the neighbours that are compared at once
 abbrev pub half : ℕ
 half = 4
 
+-- the neighbours that are compared at once
 abbrev pub together : ℕ
 together = half + half
 

@@ -1,9 +1,6 @@
 -- Document 01, "The record of demand 3": a sender is any choice of sendings with one neighbour. What it meets, and what it heeds.
 use Prim.Native.Nat.{ℕ, suc, _≤_}
-use mathlib.Core.Bool.{cond, _&&_}
 use mathlib.Core.List.{List, [], _∷_}
-use lib.Dec.{eqb}
-use Rattle.paths.specs.Calls.{PathCall, clock, report, send, Answer, accepted, notBelow, tooBig, other}
 
 -- what a call is to a sender
 pub data Event : Type 0 where
@@ -56,29 +53,3 @@ fromFirst (nothing ∷ h) = fromFirst h
 -- if it heeds, it gets at most one Too Big more than the accepted reports for its neighbour since its first packet
 abbrev pub Bound : List Event → Type 0
 Bound h = Heeds [] h → tooBigs h ≤ suc (reports (fromFirst h))
-
--- ---- of the calls above
-
--- a packet of n bytes, by its answer
-abbrev pub packetEvent : ℕ → Answer → Event
-packetEvent n (tooBig m) = told n m
-packetEvent n (accepted w c) = passed n
-packetEvent n notBelow = passed n
-packetEvent n other = passed n
-
--- a report, by its answer, to a sender with neighbour v
-abbrev pub reportEvent : ℕ → Answer → Event
-reportEvent v (accepted w c) = cond (eqb w v) lowered nothing
-reportEvent v (tooBig m) = nothing
-reportEvent v notBelow = nothing
-reportEvent v other = nothing
-
--- a call and its answer, to the sender with neighbour v whose packets are marked
-abbrev pub eventOf : ℕ → PathCall → Answer → Event
-eventOf v (clock t) a = nothing
-eventOf v (report w c) a = reportEvent v a
-eventOf v (send mine w n fits) a = cond (mine && eqb w v) (packetEvent n a) nothing
-
-abbrev pub eventsOf : ℕ → List (PathCall × Answer) → List Event
-eventsOf v [] = []
-eventsOf v (x ∷ h) = eventOf v (x .0) (x .1) ∷ eventsOf v h

@@ -66,7 +66,7 @@ pub(crate) fn place(neighbours: &[u32], count: usize, neighbour: u32) -> usize
     place_from(&neighbours[..count], 0, neighbour)
 }
 
-// The same for a lent row.
+// The place of a neighbour among the first `count` of a lent row, or `count`: eight numbers are compared at once.
 pub(crate) fn place_in_lent(neighbours: &[u32], count: usize, neighbour: u32) -> usize
     requires { ⌜ count ≤ length (now neighbours) ⌝ }
     ensures { λ r. ⌜ r ≡ placeOf neighbour (take count (now (neighbours .entry))) ⌝ }
@@ -75,7 +75,7 @@ pub(crate) fn place_in_lent(neighbours: &[u32], count: usize, neighbour: u32) ->
     place_from(used, eights_before(used, neighbour), neighbour)
 }
 
-// A row with one more in front, and the one at `last` gone.
+// A row of numbers with one more in front, and the one at `last` gone.
 pub(crate) fn push_number(row: &mut [u32; NEIGHBOURS], first: u32, last: usize)
     requires { ⌜ (last < mostNeighbours) × (length (now row) ≡ mostNeighbours) ⌝ }
     ensures { λ _. ⌜ now (row .exit) ≡ pushed first last (now (row .entry)) ⌝ }
@@ -90,7 +90,7 @@ pub(crate) fn push_number(row: &mut [u32; NEIGHBOURS], first: u32, last: usize)
     }
 }
 
-// The same for the row of sizes.
+// A row of sizes with one more in front, and the one at `last` gone.
 pub(crate) fn push_size(row: &mut [u16; NEIGHBOURS], first: u16, last: usize)
     requires { ⌜ (last < mostNeighbours) × (length (now row) ≡ mostNeighbours) ⌝ }
     ensures { λ _. ⌜ now (row .exit) ≡ pushed first last (now (row .entry)) ⌝ }

@@ -33,6 +33,7 @@ module _ (s : Settings) (routers : List Router) (d : List ℕ) (interface : ℕ)
   abbrev pub delivered : List ℕ
   delivered = partOf (receivedOf s routers d interface) d
 
+  -- receiving does exactly what the rules say, in both calls
   pub record DeliveredExactly : Type 0 where
     -- the call for the number gives the first of 2 to 10 whose fact holds, and where none holds the end of the outer header and
     -- 40 + payload length

@@ -1,5 +1,5 @@
 -- The order of receiving in three stages, as the code goes through it: 2 to 5 is header's `outerCheck`. That they are the one table of
--- `receiveRows` is proved.
+-- `receiveRows` is proved. Only functions of the crate's own cite this.
 use Prim.Native.Nat.{ℕ}
 use mathlib.Core.Bool.{Bool, not}
 use mathlib.Core.List.{List, [], _∷_}

@@ -7,6 +7,7 @@ use lib.Dec.{eqb}
 use Rattle.refusals.specs.Refusals.{numberOf}
 use Rattle.refusals.specs.declared.Refusal.{Refusal}
 
+-- what is given back: the number, and the values that go with it
 pub record Given : Type 0 where
   pub number : ℕ
   pub values : List ℕ

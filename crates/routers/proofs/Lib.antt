@@ -1,4 +1,5 @@
 -- What the proofs of several functions use, and the laws that callers cite.
+pub mod FairCalls
 pub mod Laws
 pub mod Live
 pub mod Earliest

@@ -1,3 +1,2 @@
 pub mod Routers
-pub mod Fairness
 pub mod Facts

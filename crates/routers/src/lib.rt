@@ -55,7 +55,7 @@ impl Router {
 }
 
 // Of two routers the one that is due earlier, the first on a tie.
-fn earlier(first: Router, second: Router) -> Router
+fn earlier_of_two(first: Router, second: Router) -> Router
     ensures { λ r. ⌜ r ≡ earlierOf first second ⌝ }
 {
     if second.due < first.due {
@@ -116,7 +116,7 @@ impl RouterList {
         let mut best = self.routers[0];
         let mut i = 1;
         while i < n {
-            best = earlier(best, self.routers[i]);
+            best = earlier_of_two(best, self.routers[i]);
             i += 1;
         }
         best.if_due(now)

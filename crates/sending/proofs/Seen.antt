@@ -12,8 +12,9 @@ use Rattle.header.specs.declared.wrap.Written.{Written}
 use Rattle.header.specs.declared.wrap.Written.the-variants as written
 use Rattle.messages.specs.Icmp.{tooBigLength, tooBigCheck, tooBigAnswer}
 use Rattle.messages.proofs.WriterLaws.{too-big-room}
-use Rattle.paths.specs.Calls.{Answer, tooBig, other, sendAnswer}
+use Rattle.paths.proofs.Calls.{Answer, tooBig, other, sendAnswer}
 use Rattle.paths.specs.Packets.{largestPacket}
+use Rattle.refusals.specs.Refusals.{stopOr}
 use Rattle.refusals.specs.declared.Refusal.the-variants.{OutputShort}
 use Rattle.refusals.specs.declared.Check.{Check}
 use Rattle.refusals.specs.declared.Check.the-variants.{Pass, Stop}
@@ -37,8 +38,7 @@ takesMessage packet room = not (mayDrawError packet && ltb room (tooBigLength (l
 
 -- what is seen of a call that was stopped before 14, or came to it
 abbrev pub seenAfter : Check → Answer → Answer
-seenAfter Pass a = a
-seenAfter (Stop refusal) a = other
+seenAfter check a = stopOr (λ refusal. other) check a
 
 wrapped-seen : (w : Written) → tooBigSeen (wrappedAs w) ≡ other
 wrapped-seen (written.Length n) = refl

@@ -8,6 +8,7 @@ use Rattle.settings.specs.declared.locators.Locator.{Locator}
 use Rattle.settings.specs.declared.locators.Found.{Found}
 use Rattle.settings.specs.declared.locators.Found.the-variants.{Address, Nothing}
 
+-- what stands at a place without a locator
 abbrev pub noLocator : Locator
 noLocator = record { address = 0; interface = 0 }
 

@@ -53,6 +53,7 @@ isBadEnd s a = forbiddenTo s a || isOurs s a
 unfoldable pub embeddedTo : Settings → List ℕ → Embedded
 embeddedTo s a = embeddedIn (rowsOf (s .prefixes)) (s .«prefix_count») a
 
+-- the locator has a forbidden address
 abbrev pub isForbiddenLocator : Settings → Locator → Bool
 isForbiddenLocator s l = forbiddenTo s (l .address)
 

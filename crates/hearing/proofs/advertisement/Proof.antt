@@ -1,18 +1,25 @@
 -- `hearing::advertisement` meets its contract: by the test that goes before the checksum's. Assumes nothing.
 use native.Mathlib.Omega.{arith}
-use Rattle.hearing.specs.Heard.{isAdvertisement}
+use mathlib.Core.Path.{_≡_, sym, _∙_}
+use mathlib.Core.Bool.{_&&_}
+use Rattle.address.specs.Address.{isLinkLocal}
+use Rattle.hearing.specs.Message.{hasFields}
+use Rattle.hearing.specs.Heard.{advertisementType, optionsStart, isAdvertisement}
 use Rattle.hearing.proofs.advertisement.Statement.{statement}
 use Rattle.hearing.proofs.advertisement.Tie as tie
 
+-- what the test before the checksum's says
+tested : (c : tie.After-fields-right) → let a = c .before .before .before .before .args in
+    (c .before .link-local-prefixed .result && c .fields-right .result) ≡ (isLinkLocal (a .i .source) && hasFields advertisementType optionsStart (a .i) (a .p .now))
+tested c = rw (c .fields-right .ensures, c .before .link-local-prefixed .ensures)
+
 returns : tie.Need-returns
 unfolding isAdvertisement
-returns c =
-    let f = c .before .before in
-    rw (← f .fields-right .ensures, ← f .before .link-local-prefixed .ensures, c .before .if1 .taken, c .sum-right .ensures)
+returns c = rw (sym (tested (c .before .before)) ∙ c .before .if1 .taken) (c .sum-right .ensures)
 
 returns-2 : tie.Need-returns-2
 unfolding isAdvertisement
-returns-2 c = rw (← c .before .fields-right .ensures, ← c .before .before .link-local-prefixed .ensures, c .if1 .left)
+returns-2 c = rw (sym (tested (c .before)) ∙ c .if1 .left)
 
 pub advertisement-spec : {M : Type 1} → statement M
 advertisement-spec = tie.close (tie.spec (omega arith) (omega arith) (omega arith) returns returns-2)

@@ -1,6 +1,7 @@
 -- `hearing::hear_from` meets its contract: by cases on what the source embeds, and on whether that is listed. Assumes nothing.
 use borrow.Author.Needs.{needs}
 use native.Mathlib.Omega.{arith}
+use mathlib.Core.Path.{sym, _∙_}
 use Rattle.settings.specs.Settings.{embeddedTo}
 use Rattle.hearing.specs.Heard.{heardFrom}
 use Rattle.hearing.proofs.hear_from.Statement.{statement}
@@ -10,13 +11,15 @@ returns : tie.Need-returns
 unfolding heardFrom embeddedTo
 returns c =
     let f = c .before .before .before .before .before in
-    rw (← f .before .before .before .rows .ensures, ← f .before .before .isatap .ensures, f .found .given .1, ← c .before .before .before .lists .ensures, c .before .before .if1 .taken, c .rescheduled .ensures, c .before .due-after .ensures)
+    let inList = sym (c .before .before .before .lists .ensures) ∙ c .before .before .if1 .taken in
+    rw (← f .before .before .before .rows .ensures, ← f .before .before .isatap .ensures, f .found .given .1, inList, c .rescheduled .ensures, c .before .due-after .ensures)
 
 returns-2 : tie.Need-returns-2
 unfolding heardFrom embeddedTo
 returns-2 c =
     let f = c .before .before .before .before in
-    rw (← f .before .before .before .rows .ensures, ← f .before .before .isatap .ensures, f .found .given .1, ← c .before .before .lists .ensures, c .before .if1 .left, c .refused .ensures)
+    let out = sym (c .before .before .lists .ensures) ∙ c .before .if1 .left in
+    rw (← f .before .before .before .rows .ensures, ← f .before .before .isatap .ensures, f .found .given .1, out, c .refused .ensures)
 
 returns-3 : tie.Need-returns-3
 unfolding heardFrom embeddedTo

@@ -14,11 +14,11 @@ returns c =
     let c2 = c3 .before .before .before .before .before in
     let c1 = c2 .before .before .before .before .before in
     let c0 = c1 .before .before .before .before in
-    let total = rw (c1 .before .before .before .be16 .ensures, c0 .flags .ensures) at (c1 .place .ensures) in
-    let identification = rw (c2 .before .before .before .be162 .ensures, total) at (c2 .place2 .ensures) in
-    let sum = rw (c3 .before .before .before .be163 .ensures, c0 .before .complement .ensures, c0 .before .before .header-sum .ensures, identification) at (c3 .place3 .ensures) in
-    let source = rw (c4 .before .before .before .be32 .ensures, sum) at (c4 .place4 .ensures) in
-    rw (c5 .before .before .before .be322 .ensures, source) at (c5 .place5 .ensures)
+    let total = rw (c1 .before .before .before .word-bytes .ensures, c0 .flags .ensures) at (c1 .place .ensures) in
+    let identification = rw (c2 .before .before .before .word-bytes2 .ensures, total) at (c2 .place2 .ensures) in
+    let sum = rw (c3 .before .before .before .word-bytes3 .ensures, c0 .before .complement .ensures, c0 .before .before .header-sum .ensures, identification) at (c3 .place3 .ensures) in
+    let source = rw (c4 .before .before .before .quad-bytes .ensures, sum) at (c4 .place4 .ensures) in
+    rw (c5 .before .before .before .quad-bytes2 .ensures, source) at (c5 .place5 .ensures)
 
 pub outer-bytes-spec : {M : Type 1} → statement M
 outer-bytes-spec =

@@ -33,7 +33,7 @@ loop-again : tie.Need-loop-again Inv-loop μ-loop
 loop-again c =
     let b = c .before .before .before in
     let a = b .before .before .before .before .args in
-    (omega arith, b .loop .inv .1 ∙ rw (earliest-step (a .t1 .count) (b .loop .i) (a .t1 .routers) (omega arith) (b .loop .best), c .earlier .ensures))
+    (omega arith, b .loop .inv .1 ∙ rw (earliest-step (a .t1 .count) (b .loop .i) (a .t1 .routers) (omega arith) (b .loop .best), c .earlier-of-two .ensures))
 
 returns-2 : tie.Need-returns-2 Inv-loop μ-loop
 unfolding earliest

@@ -5,8 +5,9 @@ use mathlib.Core.Bool.{true}
 use mathlib.Core.List.{List, [], _∷_, map}
 use Rattle.paths.specs.Packets.{largestPacket}
 use Rattle.paths.specs.Kept.{inForce}
-use Rattle.paths.specs.Calls.{PathCall, clock, report, send, Answer, accepted, notBelow, table, historyOf, keptOf}
-use Rattle.paths.specs.Sender.{Event, Heeds, tooBigs, reports, fromFirst, eventsOf}
+use Rattle.paths.proofs.Calls.{PathCall, clock, report, send, Answer, accepted, notBelow, table, historyOf, keptOf}
+use Rattle.paths.specs.Sender.{Event, Heeds, tooBigs, reports, fromFirst}
+use Rattle.paths.proofs.Events.{eventsOf}
 
 abbrev answersTo : List PathCall → List Answer
 answersTo calls = map (λ (x : PathCall × Answer). x .1) (historyOf table largestPacket 1500 calls)

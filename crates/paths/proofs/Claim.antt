@@ -6,8 +6,9 @@ use lib.ListN.{take}
 use Rattle.paths.specs.Kept.{Report}
 use Rattle.paths.specs.Table.{noReports, keptIn, tableAfter}
 use Rattle.paths.specs.Record.{recordKept}
-use Rattle.paths.specs.Calls.{PathCall, table, plain, historyOf, keptOf}
-use Rattle.paths.specs.Sender.{Bound, eventsOf}
+use Rattle.paths.proofs.Calls.{PathCall, table, plain, historyOf, keptOf}
+use Rattle.paths.specs.Sender.{Bound}
+use Rattle.paths.proofs.Events.{eventsOf}
 use Rattle.paths.specs.declared.PathTable.{PathTable}
 
 -- the table after accepted reports, the newest first

@@ -1,0 +1,57 @@
+//! The calls in plain Rust: each call a function of its own, the node by reference.
+
+use crate::measure::Turns;
+use crate::plain::{Address, Node, Refusal, Sent};
+use crate::work::{turns, Call, Work};
+use std::hint::black_box;
+use std::ops::Range;
+
+pub fn way(work: &'static Work) -> Turns {
+    let node = work.nodes.plain;
+    match work.call {
+        Call::Receive => turns(work, node, |node, turn| _ = black_box(&receive(node, turn.input, turn.interface))),
+        Call::Send => turns(work, node, |node, turn| {
+            _ = black_box(&send(node, turn.input, turn.next_hop, turn.locator, turn.time, turn.out));
+        }),
+        Call::Report => turns(work, node, |node, turn| _ = black_box(&report(node, turn.input, turn.time))),
+        Call::Ask => turns(work, node, |node, turn| _ = black_box(&ask(node, turn.locator, turn.time, turn.out))),
+        Call::Hear => turns(work, node, |node, turn| _ = black_box(&hear(node, turn.input, turn.time))),
+    }
+}
+
+#[inline(never)]
+fn receive(node: &Node, datagram: &[u8], interface: u8) -> Result<Range<usize>, Refusal> {
+    node.receive(datagram, interface)
+}
+
+#[inline(never)]
+fn send(
+    node: &mut Node,
+    packet: &[u8],
+    next_hop: &Address,
+    locator: usize,
+    time: u32,
+    out: &mut [u8],
+) -> Result<Sent, Refusal> {
+    node.send(packet, next_hop, locator, time, out)
+}
+
+#[inline(never)]
+fn report(node: &mut Node, message: &[u8], time: u32) -> Result<(u32, u16), Refusal> {
+    node.report(message, time)
+}
+
+#[inline(never)]
+fn ask(node: &mut Node, locator: usize, time: u32, out: &mut [u8]) -> Result<u32, Refusal> {
+    node.ask(locator, time, out)
+}
+
+#[inline(never)]
+fn hear(node: &mut Node, packet: &[u8], time: u32) -> Result<u32, Refusal> {
+    node.hear(packet, time)
+}
+
+#[inline(never)]
+pub fn path_size(node: &Node, neighbour: u32) -> u16 {
+    node.path_size(neighbour)
+}

@@ -1,0 +1,20 @@
+//! The calls of the library across the C boundary, over a pointer to the node, which is changed in place.
+
+use crate::measure::Turns;
+use crate::work::{turns, Call, Work};
+use bogtrumpet::raw::Address;
+use std::hint::black_box;
+
+pub fn way(work: &'static Work) -> Turns {
+    let node = work.nodes.library;
+    match work.call {
+        Call::Receive => turns(work, node, |node, turn| _ = black_box(&node.receive(turn.input, turn.interface))),
+        Call::Send => turns(work, node, |node, turn| {
+            let next_hop = Address { bytes: *turn.next_hop };
+            _ = black_box(&node.send(turn.input, next_hop, turn.locator, turn.time, turn.out));
+        }),
+        Call::Report => turns(work, node, |node, turn| _ = black_box(&node.report(turn.input, turn.time))),
+        Call::Ask => turns(work, node, |node, turn| _ = black_box(&node.ask(turn.locator, turn.time, turn.out))),
+        Call::Hear => turns(work, node, |node, turn| _ = black_box(&node.hear(turn.input, turn.time))),
+    }
+}

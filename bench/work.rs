@@ -1,0 +1,108 @@
+//! A row's work: one call of a node with its inputs in turn, and the number that it must give.
+
+use crate::check::Check;
+use crate::measure::Turns;
+use crate::nodes::Nodes;
+use crate::packets::size_report;
+use crate::plain::rules::link_local;
+use crate::plain::{Address, Locator, Settings};
+use std::hint::black_box;
+
+pub const INTERFACE: u8 = 1;
+pub const LOCATOR: usize = 0;
+/// Bytes of output that a call is lent.
+pub const ROOM: usize = 2048;
+/// The time of the first turn.
+pub const START: u32 = 1000;
+
+pub const OWN: u32 = 0x0a01_0001;
+pub const PREFIXES: [[u8; 8]; 2] = [[0x20, 1, 0xd, 0xb8, 0, 0, 0, 1], [0x20, 1, 0xd, 0xb8, 0, 0, 0, 2]];
+pub const ROUTERS: [u32; 4] = [0x0a02_0001, 0x0a02_0002, 0x0a02_0003, 0x0a02_0004];
+/// The neighbours that a full path table keeps, and others.
+pub const KEPT: u32 = 0x0a03_0000;
+pub const OTHER: u32 = 0x0a04_0000;
+const NEXT_HOP: u32 = KEPT + 32;
+pub const LINK_SIZE: u16 = 9000;
+const REPORTED: u16 = 1500;
+
+/// What one turn is given.
+pub struct Turn<'a> {
+    pub input: &'a [u8],
+    pub next_hop: &'a Address,
+    pub interface: u8,
+    pub locator: usize,
+    pub time: u32,
+    pub out: &'a mut [u8],
+}
+
+pub enum Call {
+    Receive,
+    Send,
+    Report,
+    Ask,
+    Hear,
+}
+
+/// One call, made with its inputs in turn.
+pub struct Work {
+    pub name: String,
+    pub call: Call,
+    /// What every turn must give.
+    pub number: u8,
+    pub nodes: Nodes,
+    /// The inputs, one behind the other, and each.
+    pub all: &'static [u8],
+    pub inputs: [&'static [u8]; 4],
+    pub next_hop: Address,
+    /// Seconds from turn to turn.
+    pub step: u32,
+}
+
+impl Work {
+    /// What a turn is given.
+    pub fn turn<'a>(&'a self, turn: u32, out: &'a mut [u8]) -> Turn<'a> {
+        let (input, time) = (self.inputs[turn as usize % 4], START + turn * self.step);
+        Turn { input, next_hop: &self.next_hop, interface: INTERFACE, locator: LOCATOR, time, out }
+    }
+}
+
+/// A work whose four inputs have the same length.
+pub fn work(name: String, call: Call, number: u8, nodes: Nodes, input: impl FnMut(u32) -> Vec<u8>) -> Work {
+    let all = (0..4).flat_map(input).collect::<Vec<u8>>().leak();
+    let size = all.len() / 4;
+    let inputs = [0, 1, 2, 3].map(|place| &all[place * size..][..size]);
+    Work { name, call, number, nodes, all, inputs, next_hop: link_local(NEXT_HOP), step: 0 }
+}
+
+/// A tunnel end with two locators, two prefixes and four routers, and `kept` neighbours in its path table.
+pub fn nodes(check: &mut Check, kept: u32) -> Nodes {
+    let mut settings = Settings { locator_count: 2, prefix_count: 2, router_count: 4, ..Settings::default() };
+    settings.locators[0] = Locator { address: OWN, interface: INTERFACE };
+    settings.locators[1] = Locator { address: OWN + 1, interface: INTERFACE + 1 };
+    settings.prefixes[..2].copy_from_slice(&PREFIXES);
+    settings.routers[..4].copy_from_slice(&ROUTERS);
+    let settings = Settings { link_size: LINK_SIZE, interval: 1, ..settings.defaults() };
+    let mut nodes = Nodes::new(check, &settings).expect("settings that are allowed");
+    for neighbour in KEPT..KEPT + kept {
+        let message = size_report(&mut check.random, REPORTED, 0, (OWN, neighbour), 0, 8);
+        assert_eq!(nodes.report(check, &message, START), 0);
+    }
+    nodes
+}
+
+/// Turns of a call, each run from the same node and time, the inputs in turn. Answers are handed to `black_box` where they stand: a
+/// copy of one, read in other pieces than it was written in, would wait for it.
+pub fn turns<N: Copy + 'static>(work: &'static Work, start: N, call: impl Fn(&mut N, Turn) + 'static) -> Turns {
+    let mut out = vec![0; ROOM];
+    Box::new(move |turns| {
+        let (work, interface, locator) = black_box((work, INTERFACE, LOCATOR));
+        let mut node = start;
+        let mut time = START;
+        for (_, input) in (0..turns).zip(work.inputs.iter().cycle()) {
+            let turn = Turn { input, next_hop: &work.next_hop, interface, locator, time, out: &mut out };
+            call(&mut node, turn);
+            time += work.step;
+        }
+        black_box((&node, &out));
+    })
+}
