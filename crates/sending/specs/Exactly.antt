@@ -50,7 +50,7 @@ module _ (s : Settings) (i P : ℕ) (packet hop : List ℕ) (k : ℕ) (out : Lis
   abbrev pub Refuses : Refusal → Type 0
   Refuses r = Gives (Refused r) × (output ≡ out)
 
-  -- when each refusal is given, the first in the call's order: these cases, 14 and the wrapped packet are all that can be
+  -- when each refusal is given, in the call's order: each where those before it, 14 among them, do not hold
   pub record RefusedExactly : Type 0 where
     pub malformed : (Whole packet → ⊥) → Refuses InnerMalformed
     pub noLocator : Whole packet → ((a : ℕ) → LocatorAt s k a → ⊥) → Refuses NoLocator
