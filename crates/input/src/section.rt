@@ -93,7 +93,7 @@ pub fn prefixes(s: &[u8]) -> [u8; 64]
     let mut all = [0u8; 64];
     let n = fields::least(count(s), 8) * PREFIX as usize;
     let bytes = front(fields::tail(s, 2), n);
-    lent::place(bytes, &mut all, 0);
+    lent::write_at(bytes, &mut all, 0);
     all
 }
 

@@ -2,14 +2,14 @@
 ghost use mathlib.Core.Path.{_≡_};
 ghost use Prim.Native.Nat.{_≤_, min};
 ghost use lib.ListN.{length};
-ghost use Rattle.lent.specs.Written.{written, placed};
+ghost use Rattle.lent.specs.Written.{written, writtenAt};
 
 // The bytes that are moved at a time: no datagram has more.
 const BLOCK: usize = 65536;
 
 // Writes src into dst from the index at on; where it does not fit, nothing is written.
-pub fn place(src: &[u8], dst: &mut [u8], at: usize)
-    ensures { λ _. ⌜ now (dst .exit) ≡ placed at (now (src .entry)) (now (dst .entry)) ⌝ }
+pub fn write_at(src: &[u8], dst: &mut [u8], at: usize)
+    ensures { λ _. ⌜ now (dst .exit) ≡ writtenAt at (now (src .entry)) (now (dst .entry)) ⌝ }
 {
     if dst.len() < at {
         return;

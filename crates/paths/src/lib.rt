@@ -3,10 +3,10 @@ pub mod packets;
 pub mod reported;
 mod rows;
 
-use rows::place;
-use rows::place_in_lent;
 use rows::push_number;
 use rows::push_size;
+use rows::row_in_lent;
+use rows::row_of;
 ghost use mathlib.Core.Path.{_≡_};
 ghost use Prim.Native.Nat.{min, max};
 ghost use Rattle.paths.specs.Kept.{whileYoung, inForce};
@@ -18,7 +18,7 @@ const NEIGHBOURS: usize = 64;
 // For how many seconds a report is in force.
 const LIFETIME: u64 = 600;
 
-// Accepted reports, the newest first, at most one of each neighbour: place by place whose it is, its size and its time.
+// Accepted reports, the newest first, at most one of each neighbour: row by row whose it is, its size and its time.
 // The first `count` places are in use.
 #[repr(C)]
 pub struct PathTable {
@@ -61,7 +61,7 @@ impl PathTable {
         }
         let count = least(self.count, NEIGHBOURS);
         let neighbours = self.neighbours;
-        let p = place(&neighbours, count, neighbour);
+        let p = row_of(&neighbours, count, neighbour);
         if p < count {
             let sizes = self.sizes;
             let times = self.times;
@@ -76,7 +76,7 @@ impl PathTable {
         ensures { λ r. ⌜ r ≡ tableAfter self neighbour size now ⌝ }
     {
         let count = least(self.count, NEIGHBOURS);
-        let last = least(place(&self.neighbours, count, neighbour), NEIGHBOURS - 1);
+        let last = least(row_of(&self.neighbours, count, neighbour), NEIGHBOURS - 1);
         push_number(&mut self.neighbours, neighbour, last);
         push_size(&mut self.sizes, size, last);
         push_number(&mut self.times, now, last);
@@ -110,7 +110,7 @@ pub fn size_among<'a>(
 {
     let places = least(least(neighbours.len(), sizes.len()), times.len());
     let used = least(count, places);
-    let p = place_in_lent(neighbours, used, neighbour);
+    let p = row_in_lent(neighbours, used, neighbour);
     if p < used {
         in_force(link, while_young(sizes[p], times[p], time))
     } else {
