@@ -31,7 +31,7 @@ pub fn too_big(reporting: [u8; 16], size: u16, packet: &[u8], out: &mut [u8]) ->
     if packet.len() < INNER_HEADER {
         return Written::Refused(Refusal::InnerMalformed);
     }
-    let quoted = fields::least(QUOTE, packet.len());
+    let quoted = lists::least(QUOTE, packet.len());
     if out.len() < HEADERS + quoted {
         return Written::Refused(Refusal::OutputShort);
     }
