@@ -3,7 +3,6 @@
 pub mod prefixes;
 
 ghost use mathlib.Core.Path.{_≡_};
-ghost use Prim.Native.Nat.{min};
 ghost use Rattle.address.specs.Address.{isForbidden, quadOf, wideOf, lastQuad, isUnder, isLinkLocal, isOnLink, isIdentifier, embeddedIn, isLinkLocalIsatap, linkLocalOf, areZero, isMulticastOrUnspecified, isBadSourceWith, isBadSource};
 
 // What stands before the embedded address: 00-00-5E-FE,
@@ -66,12 +65,6 @@ pub fn link_local_prefixed(a: [u8; 16]) -> bool
     under(a, [0xfe, 0x80, 0, 0, 0, 0, 0, 0])
 }
 
-fn least(a: usize, b: usize) -> usize
-    ensures { λ r. ⌜ r ≡ min a b ⌝ }
-{
-    if a < b { a } else { b }
-}
-
 // Whether the address is in fe80::/64 or under one of the first `count` prefixes; a count above 8 is read as 8.
 pub fn on_link(prefixes: [[u8; 8]; 8], count: usize, a: [u8; 16]) -> bool
     ensures { λ r. ⌜ r ≡ isOnLink prefixes count a ⌝ }
@@ -79,7 +72,7 @@ pub fn on_link(prefixes: [[u8; 8]; 8], count: usize, a: [u8; 16]) -> bool
     if link_local_prefixed(a) {
         return true;
     }
-    let n = least(count, 8);
+    let n = lists::least(count, 8);
     let mut i: usize = 0;
     while i < n {
         if under(a, prefixes[i]) {

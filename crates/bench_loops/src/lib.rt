@@ -1,6 +1,5 @@
 // Loops for timing: many calls in one, so that what is timed is the library and not the crossing from C. The answer is the sum, modulo
 // 2^64, of what the calls answer: a refused one its number, another its length or size.
-use header::fields;
 use node::Node;
 use paths::PathTable;
 use receiving::Received;
@@ -21,7 +20,7 @@ pub struct Address {
 fn part_at(all: &[u8], size: usize, i: u32) -> &[u8]
     ensures { λ r. ⌜ now r ≡ partAt (now (all .entry)) size i ⌝ }
 {
-    let size = fields::least(size, all.len() / 4);
+    let size = lists::least(size, all.len() / 4);
     let start = (i % 4) as usize * size;
     let end = start + size;
     &all[start..end]

@@ -37,12 +37,10 @@ demand-two n =
     record {
       receives = λ d interface. record { number = refl; part = refl; exactly = delivers-exactly s (live routers) d interface };
       sends = λ packet hop k time out. record {
-        answer = refl;
         node = refl;
-        output = refl;
         exactly = sent-exactly s (n .service .identification) (pathSizeToward n hop time) packet hop k out;
       };
-      reports = λ m time. record { answer = refl; node = refl; exactly = reported-exactly s m (λ v. pathSizeAt n v (max (n .latest) time)) };
+      reports = λ m time. record { node = refl; exactly = reported-exactly s m (λ v. pathSizeAt n v (max (n .latest) time)) };
       relists = relists n;
       asks = λ k time out. record { answer = refl; node = refl; output = refl; exactly = asked-exactly s routers (max (n .latest) time) k out };
       hears = λ packet time. record { answer = refl; node = refl; exactly = heard-exactly s routers (max (n .latest) time) packet };

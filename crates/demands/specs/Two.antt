@@ -9,9 +9,8 @@ use Rattle.refusals.specs.declared.Refusal.the-variants as refusal
 use Rattle.routers.specs.Routers.{live, replacedOf}
 use Rattle.settings.specs.Facts.{BadEnd}
 use Rattle.settings.specs.declared.Settings.{Settings}
-use Rattle.reports.specs.Accepts.{answerToward, ReportedExactly}
+use Rattle.reports.specs.Accepts.{ReportedExactly}
 use Rattle.sending.specs.Exactly.{SentExactly}
-use Rattle.sending.specs.Sending.{sentOf, sentOutput}
 use Rattle.receiving.specs.Admitted.{DeliveredExactly}
 use Rattle.receiving.specs.Receive.{receivedOf, partOf}
 use Rattle.asking.specs.Ask.{askedOf, askedOutput}
@@ -47,26 +46,20 @@ module _ (n : Node) where
     pub part : partIn n d interface ≡ partOf (receivedOf (n .service .settings) (live (n .service .routers)) d interface) d
     pub exactly : DeliveredExactly (n .service .settings) (live (n .service .routers)) d interface
 
-  -- a packet is wrapped, answered by 14 or refused exactly when the rules say so of the path size in force toward the tunnel end; then that is
-  -- written, and the next identification is the next node's
+  -- a packet is wrapped, answered by 14 or refused exactly when the rules say so of the path size in force toward the tunnel end, and those
+  -- bytes are written; of the node no more than identification and latest time change
   pub record Sends (packet hop : List ℕ) (k time : ℕ) (out : List ℕ) : Type 0 where
-    pub answer : sendOf n packet hop k time (length out) .answer
-        ≡ sentOf (n .service .settings) (n .service .identification) (pathSizeToward n hop time) packet hop k (length out) .answer
-    pub node : sendOf n packet hop k time (length out) .node
-        ≡ nodeWith n
-        (withIdentification (n .service)
-        (sentOf (n .service .settings) (n .service .identification) (pathSizeToward n hop time) packet hop k (length out) .identification))
-        (n .paths) time
-    pub output : sendOutput n packet hop k time out
-        ≡ sentOutput (n .service .settings) (n .service .identification) (pathSizeToward n hop time) packet hop k out
     pub exactly : SentExactly (n .service .settings) (n .service .identification) (pathSizeToward n hop time) packet hop k out
+        (sendOf n packet hop k time (length out) .answer) (sendOf n packet hop k time (length out) .node .service .identification)
+        (sendOutput n packet hop k time out)
+    pub node : sendOf n packet hop k time (length out) .node
+        ≡ nodeWith n (withIdentification (n .service) (sendOf n packet hop k time (length out) .node .service .identification)) (n .paths) time
 
   -- a report is accepted exactly when 16 to 19 do not hold, at the size in force toward its neighbour; otherwise the first of them is given.
   -- Then it is that neighbour's last
   pub record Reports (m : List ℕ) (time : ℕ) : Type 0 where
-    pub answer : reportOf n m time .answer ≡ answerToward (n .service .settings) m (λ v. pathSizeAt n v (max (n .latest) time))
+    pub exactly : ReportedExactly (n .service .settings) m (λ v. pathSizeAt n v (max (n .latest) time)) (reportOf n m time .answer)
     pub node : reportOf n m time .node ≡ nodeWith n (n .service) (pathsAfter (reportOf n m time .answer) (n .paths) (max (n .latest) time)) time
-    pub exactly : ReportedExactly (n .service .settings) m (λ v. pathSizeAt n v (max (n .latest) time))
 
   -- an asking is answered exactly when a router may be asked at the latest time; then the solicitation is written, and that router alone is
   -- due after the interval

@@ -1,6 +1,6 @@
 // Big-endian fields: of a slice, read at any place, where a byte past the end reads as 0; and the bytes of a number.
 ghost use mathlib.Core.Path.{_≡_};
-ghost use Prim.Native.Nat.{_+_, _*_, _/_, _%_, _≤_, min};
+ghost use Prim.Native.Nat.{_+_, _*_, _/_, _%_, _≤_};
 ghost use lib.ListN.{getD, drop, length};
 ghost use Rattle.header.specs.Fields.{wordAt, quadAt, bytesFrom, addressAt};
 
@@ -8,12 +8,6 @@ pub fn byte(d: &[u8], i: usize) -> u8
     ensures { λ r. ⌜ r ≡ getD (now (d .entry)) i 0 ⌝ }
 {
     if i < d.len() { d[i] } else { 0 }
-}
-
-pub fn least(a: usize, b: usize) -> usize
-    ensures { λ r. ⌜ r ≡ min a b ⌝ }
-{
-    if a < b { a } else { b }
 }
 
 // The high byte of a 16-bit number.
@@ -34,7 +28,7 @@ pub fn low(x: u16) -> u8
 pub fn tail(d: &[u8], k: usize) -> &[u8]
     ensures { λ r. ⌜ now r ≡ drop k (now (d .entry)) ⌝ }
 {
-    let start = least(k, d.len());
+    let start = lists::least(k, d.len());
     &d[start..]
 }
 

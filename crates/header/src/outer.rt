@@ -96,7 +96,7 @@ pub fn malformed(n: usize, o: Outer) -> bool
 pub fn sum_wrong(d: &[u8], o: Outer) -> bool
     ensures { λ r. ⌜ r ≡ isSumWrong (now (d .entry)) o ⌝ }
 {
-    let end = fields::least(o.header, d.len());
+    let end = lists::least(o.header, d.len());
     !checksum::right(&d[..end])
 }
 
@@ -138,7 +138,7 @@ pub fn read_outer(d: &[u8]) -> OuterRead
 pub fn payload(d: &[u8], o: Outer) -> &[u8]
     ensures { λ r. ⌜ now r ≡ payloadOf (now (d .entry)) o ⌝ }
 {
-    let end = fields::least(o.total, d.len());
+    let end = lists::least(o.total, d.len());
     let whole = &d[..end];
     fields::tail(whole, o.header)
 }

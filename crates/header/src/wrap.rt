@@ -1,7 +1,7 @@
 // A packet wrapped in an outer header.
 use crate::OUTER_HEADER;
 use crate::fields;
-use lent::place;
+use lent::write_at;
 use refusals::Refusal;
 ghost use mathlib.Core.Path.{_≡_};
 ghost use mathlib.Core.Bool.{cond};
@@ -56,8 +56,8 @@ pub fn wrap(h: OuterFields, packet: &[u8], out: &mut [u8]) -> Written
         return Written::Refused(Refusal::OutputShort);
     }
     let header = outer_bytes(total as u16, h);
-    place(&header, out, 0);
-    place(packet, out, OUTER_HEADER);
+    write_at(&header, out, 0);
+    write_at(packet, out, OUTER_HEADER);
     Written::Length(total)
 }
 
@@ -72,11 +72,11 @@ pub fn outer_bytes(total: u16, h: OuterFields) -> [u8; OUTER_HEADER]
     b[6] = flags(h.dont_fragment);
     b[8] = h.ttl;
     b[9] = h.protocol;
-    place(&word_bytes(total), &mut b, 2);
-    place(&word_bytes(h.identification), &mut b, 4);
-    place(&word_bytes(sum), &mut b, 10);
-    place(&quad_bytes(h.source), &mut b, 12);
-    place(&quad_bytes(h.destination), &mut b, 16);
+    write_at(&word_bytes(total), &mut b, 2);
+    write_at(&word_bytes(h.identification), &mut b, 4);
+    write_at(&word_bytes(sum), &mut b, 10);
+    write_at(&quad_bytes(h.source), &mut b, 12);
+    write_at(&quad_bytes(h.destination), &mut b, 16);
     b
 }
 

@@ -11,8 +11,8 @@ use lib.Dec.{leb}
 use lib.ListN.{length, getD, take, drop, set, replicate, length-take, length-map, length-replicate, List·getD-map}
 use lib.Seq.{drop-cons, drop-drop, take-suc, take-all, take-take, set-at}
 use Rattle.lists.proofs.Parts.{take-least, drop-least}
-use Rattle.lent.specs.Written.{written, placed}
-use Rattle.lent.proofs.Laws.{placed-first}
+use Rattle.lent.specs.Written.{written, writtenAt}
+use Rattle.lent.proofs.Laws.{writtenAt-first}
 use Rattle.input.specs.Section.{countOf, prefixBytes, records, recordsOf, recordAt, filled}
 use Rattle.input.proofs.Laws.{length-records, flatten-records}
 
@@ -74,7 +74,7 @@ first-eight c n bs h = picked (leb c 8) refl
 
 -- the bytes of the first eight prefixes, and zeros behind them
 pub prefixes-filled : (s bytes all : List ℕ) (n : ℕ) → n ≡ min (countOf s) 8 * 8 → bytes ≡ take n (drop 2 s)
-    → all ≡ placed 0 bytes (replicate 64 0) → all ≡ filled 64 0 (flatten (recordsOf prefixBytes s))
+    → all ≡ writtenAt 0 bytes (replicate 64 0) → all ≡ filled 64 0 (flatten (recordsOf prefixBytes s))
 unfolding filled recordsOf
 prefixes-filled s bytes all n h b e =
     let xs = take (countOf s * 8) (drop 2 s) in
@@ -82,5 +82,5 @@ prefixes-filled s bytes all n h b e =
     let t : bytes ≡ take 64 xs = b ∙ first-eight (countOf s) n (drop 2 s) h in
     let l = length-take 64 xs in
     let m : length bytes ≡ min (length xs) (length zs) = ap length t ∙ omega arith in
-    let w : all ≡ written bytes zs = placed-first bytes zs (omega arith) e in
+    let w : all ≡ written bytes zs = writtenAt-first bytes zs (omega arith) e in
     w ∙ rw (m, drop-least (length xs) zs, t, flatten-records 8 (countOf s) (drop 2 s))

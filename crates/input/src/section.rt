@@ -47,7 +47,7 @@ pub fn behind(s: &[u8], size: u8) -> &[u8]
 pub fn front(d: &[u8], n: usize) -> &[u8]
     ensures { λ r. ⌜ now r ≡ take n (now (d .entry)) ⌝ }
 {
-    let end = fields::least(n, d.len());
+    let end = lists::least(n, d.len());
     &d[..end]
 }
 
@@ -76,7 +76,7 @@ pub fn locators(s: &[u8]) -> [Locator; 8]
         address: 0,
         interface: 0,
     };
-    let n = fields::least(count(s), 8);
+    let n = lists::least(count(s), 8);
     let mut all = [none; 8];
     let mut i: usize = 0;
     while i < n {
@@ -91,9 +91,9 @@ pub fn prefixes(s: &[u8]) -> [u8; 64]
     ensures { λ r. ⌜ r ≡ prefixesIn (now (s .entry)) ⌝ }
 {
     let mut all = [0u8; 64];
-    let n = fields::least(count(s), 8) * PREFIX as usize;
+    let n = lists::least(count(s), 8) * PREFIX as usize;
     let bytes = front(fields::tail(s, 2), n);
-    lent::place(bytes, &mut all, 0);
+    lent::write_at(bytes, &mut all, 0);
     all
 }
 
@@ -101,7 +101,7 @@ pub fn prefixes(s: &[u8]) -> [u8; 64]
 pub fn routers(s: &[u8]) -> [u32; 16]
     ensures { λ r. ⌜ r ≡ routersIn (now (s .entry)) ⌝ }
 {
-    let n = fields::least(count(s), 16);
+    let n = lists::least(count(s), 16);
     let mut all = [0u32; 16];
     let mut i: usize = 0;
     while i < n {

@@ -7,17 +7,17 @@ use native.Mathlib.Nat.{zero-add}
 use borrow.Author.Tests.{lt-ltb, le-ltb}
 use lib.ListN.{length, take, drop, length-take, length-drop, length-append, drop-of-length-le}
 use lib.Seq.{take-append-seam, drop-append-seam, take-append-le, drop-append-le, drop-append-add, drop-drop, take-all, take-add, take-length, length-take-le}
-use Rattle.lent.specs.Written.{written, over, placed}
+use Rattle.lent.specs.Written.{written, over, writtenAt}
 
 -- what fits is written
-pub placed-fits : (at : ℕ) (p d : List ℕ) → at + length p ≤ length d → placed at p d ≡ over at p d
-unfolding placed
-placed-fits at p d h = simp (le-ltb _ _ h)
+pub writtenAt-fits : (at : ℕ) (p d : List ℕ) → at + length p ≤ length d → writtenAt at p d ≡ over at p d
+unfolding writtenAt
+writtenAt-fits at p d h = simp (le-ltb _ _ h)
 
 -- what does not fit is not
-pub placed-short : (at : ℕ) (p d : List ℕ) → length d < at + length p → placed at p d ≡ d
-unfolding placed
-placed-short at p d h = simp (lt-ltb _ _ h)
+pub writtenAt-short : (at : ℕ) (p d : List ℕ) → length d < at + length p → writtenAt at p d ≡ d
+unfolding writtenAt
+writtenAt-short at p d h = simp (lt-ltb _ _ h)
 
 -- a write leaves the length
 pub length-written : (w d : List ℕ) → length w ≤ length d → length (written w d) ≡ length d
@@ -28,14 +28,14 @@ over-next : (w p d : List ℕ) → over (length w) p (written w d) ≡ written (
 over-next w p d = simp (take-append-seam, drop-append-add, drop-drop, append-assoc, length-append)
 
 -- the first write, of a list that is known by what it equals
-pub placed-first : (w d : List ℕ) {d₁ : List ℕ} → length w ≤ length d → d₁ ≡ placed 0 w d → d₁ ≡ written w d
-placed-first w d h e = e ∙ placed-fits 0 w d (omega arith) ∙ simp zero-add
+pub writtenAt-first : (w d : List ℕ) {d₁ : List ℕ} → length w ≤ length d → d₁ ≡ writtenAt 0 w d → d₁ ≡ written w d
+writtenAt-first w d h e = e ∙ writtenAt-fits 0 w d (omega arith) ∙ simp zero-add
 
 -- the next write, right behind what was written
-pub placed-more : (at : ℕ) (w p d : List ℕ) {d₁ d₂ : List ℕ} → length w ≡ at → at + length p ≤ length d
-    → d₁ ≡ written w d → d₂ ≡ placed at p d₁ → d₂ ≡ written (w ++ p) d
-placed-more at w p d l h e f =
-    f ∙ rw (e, ← l) (placed-fits (length w) p (written w d) (rw (length-written w d (omega arith)) (omega arith)) ∙ over-next w p d)
+pub writtenAt-more : (at : ℕ) (w p d : List ℕ) {d₁ d₂ : List ℕ} → length w ≡ at → at + length p ≤ length d
+    → d₁ ≡ written w d → d₂ ≡ writtenAt at p d₁ → d₂ ≡ written (w ++ p) d
+writtenAt-more at w p d l h e f =
+    f ∙ rw (e, ← l) (writtenAt-fits (length w) p (written w d) (rw (length-written w d (omega arith)) (omega arith)) ∙ over-next w p d)
 
 -- so does one inside of it
 pub length-over : (at : ℕ) (p w : List ℕ) → at + length p ≤ length w → length (over at p w) ≡ length w
@@ -47,10 +47,10 @@ over-inside at w p d h =
     rw (length-over at p w h, take-append-le at w (drop (length w) d) k, drop-append-le (at + length p) w (drop (length w) d) h) (simp append-assoc)
 
 -- a write inside of what was written
-pub placed-inside : (at : ℕ) (w p d : List ℕ) {d₁ d₂ : List ℕ} → at + length p ≤ length w → length w ≤ length d
-    → d₁ ≡ written w d → d₂ ≡ placed at p d₁ → d₂ ≡ written (over at p w) d
-placed-inside at w p d h k e f =
-    f ∙ rw e (placed-fits at p (written w d) (rw (length-written w d k) (omega arith)) ∙ over-inside at w p d h)
+pub writtenAt-inside : (at : ℕ) (w p d : List ℕ) {d₁ d₂ : List ℕ} → at + length p ≤ length w → length w ≤ length d
+    → d₁ ≡ written w d → d₂ ≡ writtenAt at p d₁ → d₂ ≡ written (over at p w) d
+writtenAt-inside at w p d h k e f =
+    f ∙ rw e (writtenAt-fits at p (written w d) (rw (length-written w d k) (omega arith)) ∙ over-inside at w p d h)
 
 -- a write over one of the same length leaves nothing of it
 pub written-again : (v w d : List ℕ) → length v ≡ length w → written v (written w d) ≡ written v d

@@ -14,5 +14,5 @@ abbrev pub over : ℕ → List ℕ → List ℕ → List ℕ
 over at p d = take at d ++ (p ++ drop (at + length p) d)
 
 -- d with p written over it from the index at on, or d itself where p does not fit
-unfoldable pub placed : ℕ → List ℕ → List ℕ → List ℕ
-placed at p d = cond (ltb (length d) (at + length p)) d (over at p d)
+unfoldable pub writtenAt : ℕ → List ℕ → List ℕ → List ℕ
+writtenAt at p d = cond (ltb (length d) (at + length p)) d (over at p d)

@@ -1,15 +1,15 @@
 // Writing into a lent slice.
 ghost use mathlib.Core.Path.{_≡_};
-ghost use Prim.Native.Nat.{_≤_, min};
+ghost use Prim.Native.Nat.{_≤_};
 ghost use lib.ListN.{length};
-ghost use Rattle.lent.specs.Written.{written, placed};
+ghost use Rattle.lent.specs.Written.{written, writtenAt};
 
 // The bytes that are moved at a time: no datagram has more.
 const BLOCK: usize = 65536;
 
 // Writes src into dst from the index at on; where it does not fit, nothing is written.
-pub fn place(src: &[u8], dst: &mut [u8], at: usize)
-    ensures { λ _. ⌜ now (dst .exit) ≡ placed at (now (src .entry)) (now (dst .entry)) ⌝ }
+pub fn write_at(src: &[u8], dst: &mut [u8], at: usize)
+    ensures { λ _. ⌜ now (dst .exit) ≡ writtenAt at (now (src .entry)) (now (dst .entry)) ⌝ }
 {
     if dst.len() < at {
         return;
@@ -39,7 +39,7 @@ fn write_blocks(src: &[u8], dst: &mut [u8])
 {
     let mut i = 0;
     while i < src.len() {
-        let end = i + least(BLOCK, src.len() - i);
+        let end = i + lists::least(BLOCK, src.len() - i);
         write_block(&src[i..end], &mut dst[i..]);
         i = end;
     }
@@ -55,10 +55,4 @@ fn write_block(src: &[u8], dst: &mut [u8])
     let mut block = [0; BLOCK];
     let n = bytes::copy(src, &mut block);
     bytes::copy(&block[..n], dst);
-}
-
-fn least(a: usize, b: usize) -> usize
-    ensures { λ r. ⌜ r ≡ min a b ⌝ }
-{
-    if a < b { a } else { b }
 }

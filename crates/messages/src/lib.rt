@@ -3,7 +3,7 @@ use header::ICMPV6;
 use header::INNER_HEADER;
 use header::fields;
 use header::wrap::Written;
-use lent::place;
+use lent::write_at;
 use refusals::Refusal;
 ghost use mathlib.Core.Path.{_≡_};
 ghost use mathlib.Core.List.{_++_};
@@ -31,7 +31,7 @@ pub fn too_big(reporting: [u8; 16], size: u16, packet: &[u8], out: &mut [u8]) ->
     if packet.len() < INNER_HEADER {
         return Written::Refused(Refusal::InnerMalformed);
     }
-    let quoted = fields::least(QUOTE, packet.len());
+    let quoted = lists::least(QUOTE, packet.len());
     if out.len() < HEADERS + quoted {
         return Written::Refused(Refusal::OutputShort);
     }
@@ -62,8 +62,8 @@ fn write_message(hop: u8, from: [u8; 16], to: &[u8], front: [u8; 8], rest: &[u8]
     ensures { λ _. ⌜ now (out .exit) ≡ written (sealed (ipv6Header (8 + length (now (rest .entry))) hop from (now (to .entry)) ++ (front ++ now (rest .entry)))) (now (out .entry)) ⌝ }
 {
     write_ipv6_header((8 + rest.len()) as u16, hop, from, to, out);
-    place(&front, out, INNER_HEADER);
-    place(rest, out, HEADERS);
+    write_at(&front, out, INNER_HEADER);
+    write_at(rest, out, HEADERS);
     seal(HEADERS + rest.len(), out);
 }
 
@@ -74,9 +74,9 @@ fn write_ipv6_header(n: u16, hop: u8, from: [u8; 16], to: &[u8], out: &mut [u8])
     ensures { λ _. ⌜ now (out .exit) ≡ written (ipv6Header n hop from (now (to .entry))) (now (out .entry)) ⌝ }
 {
     let front = [0x60, 0, 0, 0, (n / 256) as u8, (n % 256) as u8, ICMPV6, hop];
-    place(&front, out, 0);
-    place(&from, out, 8);
-    place(to, out, 24);
+    write_at(&front, out, 0);
+    write_at(&from, out, 8);
+    write_at(to, out, 24);
 }
 
 // Puts the checksum into the ICMPv6 packet of n bytes at the front of out, where it is 0: one pass from the source address
@@ -88,5 +88,5 @@ fn seal(n: usize, out: &mut [u8])
     let sum = checksum::sum_from((n - INNER_HEADER + ICMPV6 as usize) as u32, &out[8..n]);
     let field = checksum::complement(sum);
     let bytes = [fields::high(field), fields::low(field)];
-    place(&bytes, out, 42);
+    write_at(&bytes, out, 42);
 }

@@ -11,7 +11,7 @@ use borrow.Author.Tests.{lt-ltb}
 use lib.Dec.{ltb, eqb, leb·suc-suc}
 use lib.ListN.{length, take, getD, length-take}
 use Rattle.paths.specs.Kept.{Report, mostNeighbours, lastOf, keptFrom, whileYoung}
-use Rattle.paths.specs.Table.{rows, heldIn, placeOf, placeIn, pushed, keptAmong, keptIn, tableAfter}
+use Rattle.paths.specs.Table.{rows, heldIn, rowOf, rowIn, pushed, keptAmong, keptIn, tableAfter}
 use Rattle.paths.specs.declared.PathTable.{PathTable}
 use Rattle.paths.specs.declared.Kept.the-variants.{Nothing}
 use Rattle.paths.proofs.Reports.{tested, keptFrom-cond}
@@ -24,8 +24,8 @@ module _ (v : ℕ) where
   -- of the reports es that the first places hold: the place of v, and its report if that place is among them
   abbrev Found : List ℕ → List ℕ → List ℕ → List Report → Type 0
   Found vs ss ts es =
-      let p : ℕ = placeOf v (take (length es) vs) in
-      (placeIn v es ≡ p) × (lastOf v es ≡ cond (ltb p (length es)) (some (rowAt vs ss ts p)) none)
+      let p : ℕ = rowOf v (take (length es) vs) in
+      (rowIn v es ≡ p) × (lastOf v es ≡ cond (ltb p (length es)) (some (rowAt vs ss ts p)) none)
 
   found : (n : ℕ) (vs ss ts : List ℕ) → Found vs ss ts (heldIn vs ss ts n)
   found zero vs ss ts = (refl, refl)
@@ -36,7 +36,7 @@ module _ (v : ℕ) where
       let es : List Report = heldIn vs ss ts n in
       let i : Found vs ss ts es = found n vs ss ts in
       ⊎-elim (λ e. rw e (refl, cc (lt-ltb 0 (suc (length es)) (omega arith))))
-      (λ e. rw e (ap suc (i .0), cc (leb·suc-suc (suc (placeOf v (take (length es) vs))) (length es), i .1))) (tested (eqb a v))
+      (λ e. rw e (ap suc (i .0), cc (leb·suc-suc (suc (rowOf v (take (length es) vs))) (length es), i .1))) (tested (eqb a v))
 
 -- three arrays hold as many reports as the shortest is long
 rows-length : (vs ss ts : List ℕ) → length (rows vs ss ts) ≡ min (min (length vs) (length ss)) (length ts)
@@ -48,14 +48,14 @@ rows-length (v ∷ vs) (s ∷ ss) (t ∷ ts) = omega (arith, rows-length vs ss t
 -- what the code knows of three arrays: n places are in use, and p is the place of v among them
 pub record Scanned (vs ss ts : List ℕ) (count v n p : ℕ) : Type 0 where
   pub used : n ≡ min count (min (min (length vs) (length ss)) (length ts))
-  pub place : p ≡ placeOf v (take n vs)
+  pub row : p ≡ rowOf v (take n vs)
 
 module _ {vs ss ts : List ℕ} {count v n p : ℕ} (c : Scanned vs ss ts count v n p) (now : ℕ) where
   number : n ≡ length (heldIn vs ss ts count)
   number = omega (arith, c .used, length-take count (rows vs ss ts), rows-length vs ss ts)
 
-  reads : (placeIn v (heldIn vs ss ts count) ≡ p) × (lastOf v (heldIn vs ss ts count) ≡ cond (ltb p n) (some (rowAt vs ss ts p)) none)
-  reads = rw (c .place, number) (found v count vs ss ts)
+  reads : (rowIn v (heldIn vs ss ts count) ≡ p) × (lastOf v (heldIn vs ss ts count) ≡ cond (ltb p n) (some (rowAt vs ss ts p)) none)
+  reads = rw (c .row, number) (found v count vs ss ts)
 
   pub kept-at : keptAmong vs ss ts count v now ≡ cond (ltb p n) (whileYoung (getD ss p 0) (getD ts p 0) now) Nothing
   kept-at = ap (λ (o : Option Report). keptFrom o now) (reads .1) ∙ keptFrom-cond (ltb p n) (some (rowAt vs ss ts p)) now
@@ -64,7 +64,7 @@ module _ {vs ss ts : List ℕ} {count v n p : ℕ} (c : Scanned vs ss ts count v
       → _≡_ {A = PathTable} (record { neighbours = ns; sizes = cs; times = ks; count = m }) (tableAfter (record { neighbours = vs; sizes = ss; times = ts; count = count }) v size now)
   unfolding tableAfter
   made size q m ns cs ks hq hm hns hcs hks =
-      let e : q ≡ min (placeIn v (heldIn vs ss ts count)) (mostNeighbours - 1) = omega (arith, reads .0) in
+      let e : q ≡ min (rowIn v (heldIn vs ss ts count)) (mostNeighbours - 1) = omega (arith, reads .0) in
       let f : m ≡ max (length (heldIn vs ss ts count)) (suc q) = omega (arith, number) in
       cc
 

@@ -11,7 +11,7 @@ use borrow.Author.Tests.{lt-ltb, le-ltb, eqb-true}
 use lib.Dec.{ltb, eqb, leb·suc-suc}
 use lib.ListN.{length, take}
 use Rattle.paths.specs.Kept.{Report, lastOf, keptFrom}
-use Rattle.paths.specs.Table.{placeIn, cut}
+use Rattle.paths.specs.Table.{rowIn, cut}
 use Rattle.paths.specs.Record.{since, without, lastOfEach, othersSince}
 use Rattle.paths.specs.declared.Kept.the-variants.{Nothing}
 
@@ -51,26 +51,26 @@ module _ {A : Type 0} where
 -- ---- the last report of v
 
 module _ (v : ℕ) where
-  pub placeIn-le : (es : List Report) → placeIn v es ≤ length es
-  placeIn-le [] = omega arith
-  placeIn-le (e ∷ es) =
-      ⊎-elim (λ h. rw h (omega arith)) (λ h. rw h (omega (arith, placeIn-le es))) (tested (eqb (e .neighbour) v))
+  pub rowIn-le : (es : List Report) → rowIn v es ≤ length es
+  rowIn-le [] = omega arith
+  rowIn-le (e ∷ es) =
+      ⊎-elim (λ h. rw h (omega arith)) (λ h. rw h (omega (arith, rowIn-le es))) (tested (eqb (e .neighbour) v))
 
-  pub placeIn-take : (m : ℕ) (es : List Report) → placeIn v (take m es) ≡ min m (placeIn v es)
-  placeIn-take zero es = omega arith
-  placeIn-take (suc m) [] = omega arith
-  placeIn-take (suc m) (e ∷ es) =
-      ⊎-elim (λ h. rw h (omega arith)) (λ h. rw h (omega (arith, placeIn-take m es))) (tested (eqb (e .neighbour) v))
+  pub rowIn-take : (m : ℕ) (es : List Report) → rowIn v (take m es) ≡ min m (rowIn v es)
+  rowIn-take zero es = omega arith
+  rowIn-take (suc m) [] = omega arith
+  rowIn-take (suc m) (e ∷ es) =
+      ⊎-elim (λ h. rw h (omega arith)) (λ h. rw h (omega (arith, rowIn-take m es))) (tested (eqb (e .neighbour) v))
 
-  pub since-length : (es : List Report) → length (since v es) ≡ placeIn v es
+  pub since-length : (es : List Report) → length (since v es) ≡ rowIn v es
   since-length [] = refl
   since-length (e ∷ es) = ⊎-elim (λ h. rw h) (λ h. rw h (ap suc (since-length es))) (tested (eqb (e .neighbour) v))
 
-  pub lastOf-take : (m : ℕ) (es : List Report) → lastOf v (take m es) ≡ cond (ltb (placeIn v es) m) (lastOf v es) none
-  lastOf-take zero es = rw (le-ltb (placeIn v es) 0 (omega arith))
+  pub lastOf-take : (m : ℕ) (es : List Report) → lastOf v (take m es) ≡ cond (ltb (rowIn v es) m) (lastOf v es) none
+  lastOf-take zero es = rw (le-ltb (rowIn v es) 0 (omega arith))
   lastOf-take (suc m) [] = rw (lt-ltb 0 (suc m) (omega arith))
   lastOf-take (suc m) (e ∷ es) =
-      ⊎-elim (λ h. cc (lt-ltb 0 (suc m) (omega arith))) (λ h. cc (leb·suc-suc (suc (placeIn v es)) m, lastOf-take m es))
+      ⊎-elim (λ h. cc (lt-ltb 0 (suc m) (omega arith))) (λ h. cc (leb·suc-suc (suc (rowIn v es)) m, lastOf-take m es))
       (tested (eqb (e .neighbour) v))
 
   -- ---- without the reports of another neighbour a
@@ -94,7 +94,7 @@ module _ (v : ℕ) where
         (λ h. ⊎-elim (λ k. cc) (λ k. cc (since-without es)) (tested (eqb (e .neighbour) v)))
         (tested (eqb (e .neighbour) a))
 
-    cut-without : (es : List Report) → without a (cut (placeIn v es) es) ≡ cut (placeIn v (without a es)) (without a es)
+    cut-without : (es : List Report) → without a (cut (rowIn v es) es) ≡ cut (rowIn v (without a es)) (without a es)
     cut-without [] = refl
     cut-without (e ∷ es) =
         ⊎-elim (λ h. cc (not-v e h, cut-without es))
@@ -126,11 +126,11 @@ module _ (v : ℕ) where
       ⊎-elim (λ h. cc) (λ h. cc (since-each es, since-without v (e .neighbour) h (lastOfEach es))) (tested (eqb (e .neighbour) v))
 
   -- how many other neighbours have had a report since is the place among the last of each
-  pub others-place : (es : List Report) → othersSince v es ≡ placeIn v (lastOfEach es)
-  others-place es = ap length (since-each es) ∙ since-length v (lastOfEach es)
+  pub others-row : (es : List Report) → othersSince v es ≡ rowIn v (lastOfEach es)
+  others-row es = ap length (since-each es) ∙ since-length v (lastOfEach es)
 
   -- among the last of each there is one of v at most
-  pub without-each : (es : List Report) → without v (lastOfEach es) ≡ cut (placeIn v (lastOfEach es)) (lastOfEach es)
+  pub without-each : (es : List Report) → without v (lastOfEach es) ≡ cut (rowIn v (lastOfEach es)) (lastOfEach es)
   without-each [] = refl
   without-each (e ∷ es) =
       ⊎-elim (λ h. cc (eqb-true (e .neighbour) v h, without-twice v (lastOfEach es)))

@@ -10,12 +10,12 @@ use native.Mathlib.Omega.{arith}
 use borrow.Author.Tests.{lt-ltb, ltb-true}
 use lib.Dec.{ltb, eqb}
 use Rattle.paths.specs.Kept.{Report, lifetime, mostNeighbours, lastOf, whileYoung, keptFrom, inForce}
-use Rattle.paths.specs.Table.{placeIn, cut}
+use Rattle.paths.specs.Table.{rowIn, cut}
 use Rattle.paths.specs.Record.{lastOfEach, othersSince, recordKept}
 use Rattle.paths.proofs.Calls.{plain, sizeToward}
 use Rattle.paths.specs.declared.Kept.{Kept}
 use Rattle.paths.specs.declared.Kept.the-variants.{Size, Nothing}
-use Rattle.paths.proofs.Reports.{tested, others-place, without-each}
+use Rattle.paths.proofs.Reports.{tested, others-row, without-each}
 
 -- ---- what is kept stays or ends
 
@@ -37,19 +37,19 @@ keptFrom-later (some e) now then l =
     (λ h. lt-ltb now (e .time + lifetime) (omega (arith, ltb-true then (e .time + lifetime) h))) (inl refl)
 
 -- a list without one element has v at most one place further on
-placeIn-cut : (v p : ℕ) (es : List Report) → placeIn v es ≤ suc (placeIn v (cut p es))
-placeIn-cut v p [] = omega arith
-placeIn-cut v zero (e ∷ es) =
+rowIn-cut : (v p : ℕ) (es : List Report) → rowIn v es ≤ suc (rowIn v (cut p es))
+rowIn-cut v p [] = omega arith
+rowIn-cut v zero (e ∷ es) =
     ⊎-elim (λ h. rw h (omega arith)) (λ h. rw h (omega arith)) (tested (eqb (e .neighbour) v))
-placeIn-cut v (suc p) (e ∷ es) =
-    ⊎-elim (λ h. rw h (omega arith)) (λ h. rw h (omega (arith, placeIn-cut v p es))) (tested (eqb (e .neighbour) v))
+rowIn-cut v (suc p) (e ∷ es) =
+    ⊎-elim (λ h. rw h (omega arith)) (λ h. rw h (omega (arith, rowIn-cut v p es))) (tested (eqb (e .neighbour) v))
 
 -- another neighbour's report takes away nothing from the count of others since
 others-grow : (v : ℕ) (e : Report) (es : List Report) → eqb (e .neighbour) v ≡ false → othersSince v es ≤ othersSince v (e ∷ es)
 others-grow v e es other =
-    let q : ℕ = placeIn (e .neighbour) (lastOfEach es) in
-    let p : placeIn v (lastOfEach (e ∷ es)) ≡ suc (placeIn v (cut q (lastOfEach es))) = cc (without-each (e .neighbour) es) in
-    omega (arith, others-place v es, others-place v (e ∷ es), placeIn-cut v q (lastOfEach es))
+    let q : ℕ = rowIn (e .neighbour) (lastOfEach es) in
+    let p : rowIn v (lastOfEach (e ∷ es)) ≡ suc (rowIn v (cut q (lastOfEach es))) = cc (without-each (e .neighbour) es) in
+    omega (arith, others-row v es, others-row v (e ∷ es), rowIn-cut v q (lastOfEach es))
 
 module _ (es : List Report) (v now : ℕ) where
   kept-later : (then : ℕ) → now ≤ then → Fades (recordKept es v now) (recordKept es v then)

@@ -9,11 +9,11 @@ use native.Mathlib.Omega.{arith}
 use lib.Dec.{ltb}
 use lib.ListN.{length, take}
 use Rattle.paths.specs.Kept.{Report, mostNeighbours, lastOf, keptFrom}
-use Rattle.paths.specs.Table.{rows, held, placeIn, cut, keptIn, tableAfter}
+use Rattle.paths.specs.Table.{rows, held, rowIn, cut, keptIn, tableAfter}
 use Rattle.paths.specs.Record.{lastOfEach, recordKept}
 use Rattle.paths.proofs.Claim.{tableOf}
 use Rattle.paths.specs.declared.PathTable.{PathTable}
-use Rattle.paths.proofs.Reports.{keptFrom-cond, take-length-take, take-cut, cut-last, placeIn-le, placeIn-take, lastOf-take, lastOf-each, others-place, without-each}
+use Rattle.paths.proofs.Reports.{keptFrom-cond, take-length-take, take-cut, cut-last, rowIn-le, rowIn-take, lastOf-take, lastOf-each, others-row, without-each}
 
 -- the table holds the last reports of the 64 newest neighbours of the record es
 abbrev pub Keeps : PathTable → List Report → Type 0
@@ -26,8 +26,8 @@ unfolding keptIn recordKept
 kept-same t es h v now =
     ap (λ (l : List Report). keptFrom (lastOf v l) now) h
     ∙ ap (λ (o : Option Report). keptFrom o now) (lastOf-take v mostNeighbours (lastOfEach es))
-    ∙ keptFrom-cond (ltb (placeIn v (lastOfEach es)) mostNeighbours) (lastOf v (lastOfEach es)) now
-    ∙ cc (lastOf-each v es, others-place v es)
+    ∙ keptFrom-cond (ltb (rowIn v (lastOfEach es)) mostNeighbours) (lastOf v (lastOfEach es)) now
+    ∙ cc (lastOf-each v es, others-row v es)
 
 -- ---- a report more
 
@@ -66,17 +66,17 @@ pub after-keeps : (t : PathTable) (es : List Report) → Keeps t es → (v c now
     → Keeps (tableAfter t v c now) (record { neighbour = v; size = c; time = now } ∷ es)
 unfolding tableAfter
 after-keeps t es h v c now =
-    let p : ℕ = min (placeIn v (held t)) (mostNeighbours - 1) in
+    let p : ℕ = min (rowIn v (held t)) (mostNeighbours - 1) in
     let e : Report = record { neighbour = v; size = c; time = now } in
     let n : ℕ = length (held t) in
     let all : List Report = rows (t .neighbours) (t .sizes) (t .times) in
-    let q : p ≡ min (placeIn v (lastOfEach es)) (mostNeighbours - 1) = omega (arith, ap (placeIn v) h, placeIn-take v mostNeighbours (lastOfEach es)) in
+    let q : p ≡ min (rowIn v (lastOfEach es)) (mostNeighbours - 1) = omega (arith, ap (rowIn v) h, rowIn-take v mostNeighbours (lastOfEach es)) in
     cc (
       rows-cut p (t .neighbours) (t .sizes) (t .times),
       take-pushed (max n (suc p)) p e all (omega arith),
-      cut-grown n p all (omega (arith, placeIn-le v (held t))),
+      cut-grown n p all (omega (arith, rowIn-le v (held t))),
       take-length-take (t .count) all,
-      take-cut (mostNeighbours - 1) (placeIn v (lastOfEach es)) (lastOfEach es),
+      take-cut (mostNeighbours - 1) (rowIn v (lastOfEach es)) (lastOfEach es),
       without-each v es,
     )
 

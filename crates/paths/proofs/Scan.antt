@@ -12,21 +12,21 @@ use lib.ListN.{length, take, drop, getD, set, length-drop, take-append-drop, dro
 use lib.Seq.{drop-cons, drop-drop, take-add, take-suc, set-at, getD-at, append-snoc, length-take-le}
 use Rattle.lists.proofs.Tests.{or-left, or-right}
 use Rattle.paths.specs.Search.{half, together, isAmong}
-use Rattle.paths.specs.Table.{placeOf, pushed}
+use Rattle.paths.specs.Table.{rowOf, pushed}
 use Rattle.paths.specs.Candidate.{firstBelow}
 use Rattle.paths.specs.declared.Candidate.the-variants.{Size}
 
 -- ---- the search for a neighbour
 
 module _ (v : ℕ) (xs : List ℕ) (i : ℕ) where
-  pub place-hit : i < length xs → getD xs i 0 ≡ v → placeOf v (drop i xs) ≡ 0
-  place-hit inside h = rw (drop-cons xs i 0 inside) (rw (eq-eqb _ _ h))
+  pub row-hit : i < length xs → getD xs i 0 ≡ v → rowOf v (drop i xs) ≡ 0
+  row-hit inside h = rw (drop-cons xs i 0 inside) (rw (eq-eqb _ _ h))
 
-  pub place-miss : i < length xs → (getD xs i 0 ≡ v → ⊥) → placeOf v (drop i xs) ≡ suc (placeOf v (drop (i + 1) xs))
-  place-miss inside h = rw (add-one i, drop-cons xs i 0 inside) (rw (ne-eqb _ _ h))
+  pub row-miss : i < length xs → (getD xs i 0 ≡ v → ⊥) → rowOf v (drop i xs) ≡ suc (rowOf v (drop (i + 1) xs))
+  row-miss inside h = rw (add-one i, drop-cons xs i 0 inside) (rw (ne-eqb _ _ h))
 
-  pub place-end : length xs ≤ i → placeOf v (drop i xs) ≡ 0
-  place-end l = rw (drop-of-length-le xs l)
+  pub row-end : length xs ≤ i → rowOf v (drop i xs) ≡ 0
+  row-end l = rw (drop-of-length-le xs l)
 
 -- four that are compared at once
 four : (xs : List ℕ) (i : ℕ) → i + half ≤ length xs → take half (drop i xs) ≡ getD xs i 0 ∷ getD xs (i + 1) 0 ∷ getD xs (i + 2) 0 ∷ getD xs (i + 3) 0 ∷ []
@@ -60,16 +60,16 @@ among-eight v xs i =
     let ys : List ℕ = drop i xs in
     rw (← drop-drop half i xs) (among-both v (take half ys) (take half (drop half ys)) ∙ ap (isAmong v) (sym (take-add half half ys)))
 
-none-in : (v : ℕ) (xs ys : List ℕ) → isAmong v xs ≡ false → placeOf v (xs ++ ys) ≡ length xs + placeOf v ys
-none-in v [] ys h = sym (zero-add (placeOf v ys))
+none-in : (v : ℕ) (xs ys : List ℕ) → isAmong v xs ≡ false → rowOf v (xs ++ ys) ≡ length xs + rowOf v ys
+none-in v [] ys h = sym (zero-add (rowOf v ys))
 none-in v (x ∷ xs) ys h = rw (or-left (eqb x v) (isAmong v xs) h) (omega (arith, none-in v xs ys (or-right (eqb x v) (isAmong v xs) h)))
 
 pub eight-miss : (v : ℕ) (xs : List ℕ) (i : ℕ) → i + together ≤ length xs → isAmong v (take together (drop i xs)) ≡ false
-    → placeOf v (drop i xs) ≡ together + placeOf v (drop (i + together) xs)
+    → rowOf v (drop i xs) ≡ together + rowOf v (drop (i + together) xs)
 eight-miss v xs i h none =
     let parts : take together (drop i xs) ++ drop (i + together) xs ≡ drop i xs = rw (← drop-drop together i xs) (take-append-drop together (drop i xs)) in
     let l : length (take together (drop i xs)) ≡ together = length-take-le together (drop i xs) (omega (arith, length-drop i xs)) in
-    ap (placeOf v) (sym parts) ∙ none-in v (take together (drop i xs)) (drop (i + together) xs) none ∙ rw l
+    ap (rowOf v) (sym parts) ∙ none-in v (take together (drop i xs)) (drop (i + together) xs) none ∙ rw l
 
 -- ---- the search for a plateau
 

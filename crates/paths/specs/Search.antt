@@ -6,7 +6,7 @@ use mathlib.Core.List.{List}
 use lib.Dec.{eqb}
 use lib.ListN.{length, drop}
 use Rattle.lists.specs.Any.{anyOf}
-use Rattle.paths.specs.Table.{placeOf}
+use Rattle.paths.specs.Table.{rowOf}
 
 -- half of the neighbours that are compared at once
 abbrev pub half : ℕ
@@ -22,4 +22,4 @@ isAmong v others = anyOf (λ a. eqb a v) others
 
 -- v is not among the first i
 abbrev pub Passed : ℕ → List ℕ → ℕ → Type 0
-Passed v others i = (i ≤ length others) × (placeOf v others ≡ i + placeOf v (drop i others))
+Passed v others i = (i ≤ length others) × (rowOf v others ≡ i + rowOf v (drop i others))

@@ -38,13 +38,13 @@ unfoldable pub keptIn : PathTable → ℕ → ℕ → Kept
 keptIn t v now = keptAmong (t .neighbours) (t .sizes) (t .times) (t .count) v now
 
 -- the place of v among neighbours, or their number
-abbrev pub placeOf : ℕ → List ℕ → ℕ
-placeOf v [] = 0
-placeOf v (a ∷ others) = cond (eqb a v) 0 (suc (placeOf v others))
+abbrev pub rowOf : ℕ → List ℕ → ℕ
+rowOf v [] = 0
+rowOf v (a ∷ others) = cond (eqb a v) 0 (suc (rowOf v others))
 
 -- the place of v's last report, or the number of reports
-abbrev pub placeIn : ℕ → List Report → ℕ
-placeIn v es = placeOf v (map (λ (e : Report). e .neighbour) es)
+abbrev pub rowIn : ℕ → List Report → ℕ
+rowIn v es = rowOf v (map (λ (e : Report). e .neighbour) es)
 
 -- a list without its element at p
 abbrev pub cut : {A : Type 0} → ℕ → List A → List A
@@ -57,7 +57,7 @@ pushed x p xs = x ∷ cut p xs
 -- the table after an accepted report: that stands in front; v's old one, else the last of 64, makes room
 unfoldable pub tableAfter : PathTable → ℕ → ℕ → ℕ → PathTable
 tableAfter t v size now =
-    let p : ℕ = min (placeIn v (held t)) (mostNeighbours - 1) in
+    let p : ℕ = min (rowIn v (held t)) (mostNeighbours - 1) in
     record {
       neighbours = pushed v p (t .neighbours);
       sizes = pushed size p (t .sizes);

@@ -3,12 +3,12 @@ pub mod packets;
 pub mod reported;
 mod rows;
 
-use rows::place;
-use rows::place_in_lent;
 use rows::push_number;
 use rows::push_size;
+use rows::row_in_lent;
+use rows::row_of;
 ghost use mathlib.Core.Path.{_≡_};
-ghost use Prim.Native.Nat.{min, max};
+ghost use Prim.Native.Nat.{max};
 ghost use Rattle.paths.specs.Kept.{whileYoung, inForce};
 ghost use Rattle.paths.specs.Table.{noReports, keptAmong, keptIn, tableAfter};
 
@@ -18,8 +18,8 @@ const NEIGHBOURS: usize = 64;
 // For how many seconds a report is in force.
 const LIFETIME: u64 = 600;
 
-// Accepted reports, the newest first, at most one of each neighbour: place by place whose it is, its size and its time.
-// The first `count` places are in use.
+// Accepted reports, the newest first, at most one of each neighbour: row by row whose it is, its size and its time.
+// The first `count` rows are in use.
 #[repr(C)]
 pub struct PathTable {
     pub neighbours: [u32; NEIGHBOURS],
@@ -59,9 +59,9 @@ impl PathTable {
         if self.count == 0 {
             return Kept::Nothing;
         }
-        let count = least(self.count, NEIGHBOURS);
+        let count = lists::least(self.count, NEIGHBOURS);
         let neighbours = self.neighbours;
-        let p = place(&neighbours, count, neighbour);
+        let p = row_of(&neighbours, count, neighbour);
         if p < count {
             let sizes = self.sizes;
             let times = self.times;
@@ -75,8 +75,8 @@ impl PathTable {
     pub fn accepted(mut self, neighbour: u32, size: u16, now: u32) -> Self
         ensures { λ r. ⌜ r ≡ tableAfter self neighbour size now ⌝ }
     {
-        let count = least(self.count, NEIGHBOURS);
-        let last = least(place(&self.neighbours, count, neighbour), NEIGHBOURS - 1);
+        let count = lists::least(self.count, NEIGHBOURS);
+        let last = lists::least(row_of(&self.neighbours, count, neighbour), NEIGHBOURS - 1);
         push_number(&mut self.neighbours, neighbour, last);
         push_size(&mut self.sizes, size, last);
         push_number(&mut self.times, now, last);
@@ -95,7 +95,7 @@ pub fn in_force(link: u16, kept: Kept) -> u16
     }
 }
 
-// The size in force over a link toward a neighbour at a time, of a table whose rows are lent: one pass over the places in use, and
+// The size in force over a link toward a neighbour at a time, of a table whose rows are lent: one pass over those in use, and
 // nothing is copied.
 pub fn size_among<'a>(
     link: u16,
@@ -108,9 +108,9 @@ pub fn size_among<'a>(
 ) -> u16
     ensures { λ r. ⌜ r ≡ inForce link (keptAmong (now (neighbours .entry)) (now (sizes .entry)) (now (times .entry)) count neighbour time) ⌝ }
 {
-    let places = least(least(neighbours.len(), sizes.len()), times.len());
-    let used = least(count, places);
-    let p = place_in_lent(neighbours, used, neighbour);
+    let rows = lists::least(lists::least(neighbours.len(), sizes.len()), times.len());
+    let used = lists::least(count, rows);
+    let p = row_in_lent(neighbours, used, neighbour);
     if p < used {
         in_force(link, while_young(sizes[p], times[p], time))
     } else {
@@ -127,12 +127,6 @@ fn while_young(size: u16, time: u32, now: u32) -> Kept
     } else {
         Kept::Nothing
     }
-}
-
-fn least(a: usize, b: usize) -> usize
-    ensures { λ r. ⌜ r ≡ min a b ⌝ }
-{
-    if a < b { a } else { b }
 }
 
 fn most(a: usize, b: usize) -> usize

@@ -5,7 +5,7 @@ ghost use Prim.Native.Nat.{_<_, _≤_, _+_};
 ghost use lib.ListN.{length, take, drop};
 ghost use Rattle.paths.specs.Kept.{mostNeighbours};
 ghost use Rattle.paths.specs.Search.{half, together, isAmong, Passed};
-ghost use Rattle.paths.specs.Table.{placeOf, pushed};
+ghost use Rattle.paths.specs.Table.{rowOf, pushed};
 
 // How many numbers are compared at once.
 const TOGETHER: usize = 8;
@@ -42,10 +42,10 @@ fn eights_before(used: &[u32], neighbour: u32) -> usize
     i
 }
 
-// The place of a neighbour, or the number of places, where it is known not to be before `start`.
-fn place_from(used: &[u32], start: usize, neighbour: u32) -> usize
+// The row of a neighbour, or the number of rows, where it is known not to be before `start`.
+fn row_from(used: &[u32], start: usize, neighbour: u32) -> usize
     requires { ⌜ Passed neighbour (now used) start ⌝ }
-    ensures { λ r. ⌜ r ≡ placeOf neighbour (now (used .entry)) ⌝ }
+    ensures { λ r. ⌜ r ≡ rowOf neighbour (now (used .entry)) ⌝ }
 {
     let mut i = start;
     while i < used.len() {
@@ -57,22 +57,22 @@ fn place_from(used: &[u32], start: usize, neighbour: u32) -> usize
     i
 }
 
-// The place of a neighbour among the first `count`, or `count`. For a row of its own: the compiler, which knows that all of it may be
+// The row of a neighbour among the first `count`, or `count`. For a row of its own: the compiler, which knows that all of it may be
 // read, compares several numbers at once by itself.
-pub(crate) fn place(neighbours: &[u32], count: usize, neighbour: u32) -> usize
+pub(crate) fn row_of(neighbours: &[u32], count: usize, neighbour: u32) -> usize
     requires { ⌜ count ≤ length (now neighbours) ⌝ }
-    ensures { λ r. ⌜ r ≡ placeOf neighbour (take count (now (neighbours .entry))) ⌝ }
+    ensures { λ r. ⌜ r ≡ rowOf neighbour (take count (now (neighbours .entry))) ⌝ }
 {
-    place_from(&neighbours[..count], 0, neighbour)
+    row_from(&neighbours[..count], 0, neighbour)
 }
 
-// The place of a neighbour among the first `count` of a lent row, or `count`: eight numbers are compared at once.
-pub(crate) fn place_in_lent(neighbours: &[u32], count: usize, neighbour: u32) -> usize
+// The row of a neighbour among the first `count` of a lent row, or `count`: eight numbers are compared at once.
+pub(crate) fn row_in_lent(neighbours: &[u32], count: usize, neighbour: u32) -> usize
     requires { ⌜ count ≤ length (now neighbours) ⌝ }
-    ensures { λ r. ⌜ r ≡ placeOf neighbour (take count (now (neighbours .entry))) ⌝ }
+    ensures { λ r. ⌜ r ≡ rowOf neighbour (take count (now (neighbours .entry))) ⌝ }
 {
     let used = &neighbours[..count];
-    place_from(used, eights_before(used, neighbour), neighbour)
+    row_from(used, eights_before(used, neighbour), neighbour)
 }
 
 // A row of numbers with one more in front, and the one at `last` gone.

@@ -10,7 +10,7 @@ use lib.Dec.{ltb}
 use lib.ListN.{length, getD, length-append, List·getD-map}
 use lib.Seq.{take-append-seam}
 use Rattle.lent.specs.Written.{written}
-use Rattle.lent.proofs.Laws.{placed-first}
+use Rattle.lent.proofs.Laws.{writtenAt-first}
 use Rattle.program.proofs.TextLaws.{Wrote, behind-fits}
 use Rattle.settings.specs.Settings.{isAccepted}
 use Rattle.node.specs.Node.{nodeOf, setupOf}
@@ -63,7 +63,7 @@ count-given s d h w =
     let l : length (textFor s) ≤ length d = omega (arith, text-short s) in
     let t = le-ltb (length d) outputRoom h in
     let r = w .0 ∙ behind-fits 0 (textFor s) d (omega arith) ∙ zero-add (length (textFor s)) in
-    (simp t r, simp t (placed-first (textFor s) d l (w .1)))
+    (simp t r, simp t (writtenAt-first (textFor s) d l (w .1)))
 
 -- all that is promised, with too little room and with enough
 abbrev pub Promised : List ℕ → List ℕ → ℕ → List ℕ → Type 0

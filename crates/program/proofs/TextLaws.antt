@@ -9,8 +9,8 @@ use borrow.Author.Tests.{le-ltb, ltb-false}
 use lib.Dec.{ltb}
 use lib.ListN.{length, take, drop, length-append, length-take, take-append-drop}
 use lib.Seq.{take-append-seam, drop-append-add, drop-drop}
-use Rattle.lent.specs.Written.{over, placed}
-use Rattle.lent.proofs.Laws.{placed-fits, length-over}
+use Rattle.lent.specs.Written.{over, writtenAt}
+use Rattle.lent.proofs.Laws.{writtenAt-fits, length-over}
 use Rattle.program.specs.Text.{behind, decimalUpTo, decimal}
 
 -- behind what fits
@@ -20,7 +20,7 @@ behind-fits at w d h = simp (le-ltb _ _ h)
 
 -- what a function that writes w into d leaves, with the index that it gives
 abbrev pub Wrote : ℕ → List ℕ → List ℕ → ℕ → List ℕ → Type 0
-Wrote at w d r e = (r ≡ behind at w d) × (e ≡ placed at w d)
+Wrote at w d r e = (r ≡ behind at w d) × (e ≡ writtenAt at w d)
 
 over-seam : (x p d : List ℕ) (n : ℕ) → length x ≡ n → over n p (x ++ drop n d) ≡ x ++ (p ++ drop (n + length p) d)
 over-seam x p d n h = rw (← h) (simp (take-append-seam, drop-append-add, drop-drop))
@@ -38,26 +38,26 @@ pub wrote-more : (at : ℕ) (w p d : List ℕ) {r r′ : ℕ} {e e′ : List ℕ
 wrote-more at w p d h f g =
     let n = length-append w p in
     let l : length (over at w d) ≡ length d = length-over at w d (omega arith) in
-    let e = f .1 ∙ placed-fits at w d (omega arith) in
+    let e = f .1 ∙ writtenAt-fits at w d (omega arith) in
     let r = f .0 ∙ behind-fits at w d (omega arith) in
     let room : at + length w + length p ≤ length (over at w d) = rw l (omega arith) in
     let b = rw (e, r) at (g .0) in
     let t = rw (e, r) at (g .1) in (
       b ∙ behind-fits (at + length w) p (over at w d) room ∙ rw (behind-fits at (w ++ p) d h) (omega arith),
-      t ∙ placed-fits (at + length w) p (over at w d) room ∙ over-more at w p d (omega arith) ∙ sym (placed-fits at (w ++ p) d h),
+      t ∙ writtenAt-fits (at + length w) p (over at w d) room ∙ over-more at w p d (omega arith) ∙ sym (writtenAt-fits at (w ++ p) d h),
     )
 
 -- no text
 pub wrote-none : (at : ℕ) (d : List ℕ) → at ≤ length d → Wrote at [] d at d
 wrote-none at d h =
     let e : at + 0 ≡ at = omega arith in
-    (sym (behind-fits at [] d (omega arith) ∙ e), sym (placed-fits at [] d (omega arith) ∙ rw e (take-append-drop at d)))
+    (sym (behind-fits at [] d (omega arith) ∙ e), sym (writtenAt-fits at [] d (omega arith) ∙ rw e (take-append-drop at d)))
 
 -- the front of what was written over the start of d
 pub front-wrote : (w d : List ℕ) {r : ℕ} {e : List ℕ} → length w ≤ length d → Wrote 0 w d r e → (r ≡ length w) × (take r e ≡ w)
 front-wrote w d h f =
     let r = f .0 ∙ behind-fits 0 w d (omega arith) ∙ zero-add (length w) in
-    let e = f .1 ∙ placed-fits 0 w d (omega arith) in
+    let e = f .1 ∙ writtenAt-fits 0 w d (omega arith) in
     (r, rw (e, r) (take-append-seam w (drop (0 + length w) d)))
 
 -- a number below a power of ten has no more digits than that has zeros

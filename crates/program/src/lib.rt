@@ -10,7 +10,7 @@ use receiving::Received;
 ghost use mathlib.Core.Path.{_≡_};
 ghost use Prim.Native.Nat.{_+_, _*_, _≤_, _<_};
 ghost use lib.ListN.{length, replicate};
-ghost use Rattle.lent.specs.Written.{placed};
+ghost use Rattle.lent.specs.Written.{writtenAt};
 ghost use Rattle.program.specs.Text.{behind};
 ghost use mathlib.Core.Bool.{true};
 ghost use Rattle.input.specs.Section.{countOf};
@@ -59,7 +59,7 @@ fn line_on(node: Node, d: &[u8], interface: u8) -> Line
 fn put_lines(node: Node, r: &[u8], out: &mut [u8], from: usize) -> usize
     requires { ⌜ (countOf (now r) < 100000) × Below 4 (linesOf node (now r)) × (from + 20 * countOf (now r) ≤ length (now out)) ⌝ }
     ensures { λ e. ⌜ e ≡ behind from (linesTo (countOf (now (r .entry))) (linesOf node (now (r .entry)))) (now (out .entry)) ⌝ }
-    ensures { λ _. ⌜ now (out .exit) ≡ placed from (linesTo (countOf (now (r .entry))) (linesOf node (now (r .entry)))) (now (out .entry)) ⌝ }
+    ensures { λ _. ⌜ now (out .exit) ≡ writtenAt from (linesTo (countOf (now (r .entry))) (linesOf node (now (r .entry)))) (now (out .entry)) ⌝ }
 {
     let n = recording::count(r);
     let mut at = from;
@@ -79,7 +79,7 @@ fn put_lines(node: Node, r: &[u8], out: &mut [u8], from: usize) -> usize
 fn put_text(node: Node, r: &[u8], out: &mut [u8]) -> usize
     requires { ⌜ Short node (now r) × (outputRoom ≤ length (now out)) ⌝ }
     ensures { λ e. ⌜ e ≡ behind 0 (textOf (linesOf node (now (r .entry)))) (now (out .entry)) ⌝ }
-    ensures { λ _. ⌜ now (out .exit) ≡ placed 0 (textOf (linesOf node (now (r .entry)))) (now (out .entry)) ⌝ }
+    ensures { λ _. ⌜ now (out .exit) ≡ writtenAt 0 (textOf (linesOf node (now (r .entry)))) (now (out .entry)) ⌝ }
 {
     let at = lines::put_count(recording::count(r), out, 0);
     put_lines(node, r, out, at)
@@ -89,7 +89,7 @@ fn put_text(node: Node, r: &[u8], out: &mut [u8]) -> usize
 fn put_taken(s: &[u8], out: &mut [u8]) -> usize
     requires { ⌜ (isWellFormed (now s) ≡ true) × (outputRoom ≤ length (now out)) ⌝ }
     ensures { λ r. ⌜ r ≡ behind 0 (takenText (now (s .entry))) (now (out .entry)) ⌝ }
-    ensures { λ _. ⌜ now (out .exit) ≡ placed 0 (takenText (now (s .entry))) (now (out .entry)) ⌝ }
+    ensures { λ _. ⌜ now (out .exit) ≡ writtenAt 0 (takenText (now (s .entry))) (now (out .entry)) ⌝ }
 {
     let setup = Node::new(input::settings(s));
     let answer = setup.answer;

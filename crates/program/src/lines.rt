@@ -4,7 +4,7 @@ use crate::text;
 ghost use mathlib.Core.Path.{_≡_};
 ghost use Prim.Native.Nat.{_+_, _≤_};
 ghost use lib.ListN.{length};
-ghost use Rattle.lent.specs.Written.{placed};
+ghost use Rattle.lent.specs.Written.{writtenAt};
 ghost use Rattle.program.specs.Text.{behind};
 ghost use Rattle.program.specs.Lines.{longestLine, entryOf, badInput, countLine, lineOf};
 
@@ -21,7 +21,7 @@ const LONGEST_LINE: usize = 50;
 fn put_entry(word: &[u8], n: u64, out: &mut [u8], at: usize) -> usize
     requires { ⌜ at + (length (now word) + 21) ≤ length (now out) ⌝ }
     ensures { λ r. ⌜ r ≡ behind at (entryOf (now (word .entry)) n) (now (out .entry)) ⌝ }
-    ensures { λ _. ⌜ now (out .exit) ≡ placed at (entryOf (now (word .entry)) n) (now (out .entry)) ⌝ }
+    ensures { λ _. ⌜ now (out .exit) ≡ writtenAt at (entryOf (now (word .entry)) n) (now (out .entry)) ⌝ }
 {
     let number = text::put(word, out, at);
     let end = text::put_decimal(n, out, number);
@@ -32,7 +32,7 @@ fn put_entry(word: &[u8], n: u64, out: &mut [u8], at: usize) -> usize
 fn write_line(k: usize, line: Line, out: &mut [u8], at: usize) -> usize
     requires { ⌜ at + longestLine ≤ length (now out) ⌝ }
     ensures { λ r. ⌜ r ≡ behind at (lineOf k line) (now (out .entry)) ⌝ }
-    ensures { λ _. ⌜ now (out .exit) ≡ placed at (lineOf k line) (now (out .entry)) ⌝ }
+    ensures { λ _. ⌜ now (out .exit) ≡ writtenAt at (lineOf k line) (now (out .entry)) ⌝ }
 {
     let next = text::put_decimal(k as u64, out, at);
     match line {
@@ -44,7 +44,7 @@ fn write_line(k: usize, line: Line, out: &mut [u8], at: usize) -> usize
 // Writes the first line: how many datagrams there are.
 pub fn put_count(n: usize, out: &mut [u8], at: usize) -> usize
     ensures { λ r. ⌜ r ≡ behind at (countLine n) (now (out .entry)) ⌝ }
-    ensures { λ _. ⌜ now (out .exit) ≡ placed at (countLine n) (now (out .entry)) ⌝ }
+    ensures { λ _. ⌜ now (out .exit) ≡ writtenAt at (countLine n) (now (out .entry)) ⌝ }
 {
     let mut bytes = [0u8; LONGEST_LINE];
     let end = put_entry(b"datagrams ", n as u64, &mut bytes, 0);
@@ -54,7 +54,7 @@ pub fn put_count(n: usize, out: &mut [u8], at: usize) -> usize
 // Writes the line of the datagram of number k, counted from 1.
 pub fn put_line(k: usize, line: Line, out: &mut [u8], at: usize) -> usize
     ensures { λ r. ⌜ r ≡ behind at (lineOf k line) (now (out .entry)) ⌝ }
-    ensures { λ _. ⌜ now (out .exit) ≡ placed at (lineOf k line) (now (out .entry)) ⌝ }
+    ensures { λ _. ⌜ now (out .exit) ≡ writtenAt at (lineOf k line) (now (out .entry)) ⌝ }
 {
     let mut bytes = [0u8; LONGEST_LINE];
     let end = write_line(k, line, &mut bytes, 0);
@@ -64,7 +64,7 @@ pub fn put_line(k: usize, line: Line, out: &mut [u8], at: usize) -> usize
 // Writes the one line that is given for input that is not taken.
 pub fn put_bad_input(out: &mut [u8], at: usize) -> usize
     ensures { λ r. ⌜ r ≡ behind at badInput (now (out .entry)) ⌝ }
-    ensures { λ _. ⌜ now (out .exit) ≡ placed at badInput (now (out .entry)) ⌝ }
+    ensures { λ _. ⌜ now (out .exit) ≡ writtenAt at badInput (now (out .entry)) ⌝ }
 {
     text::put(b"bad input\n", out, at)
 }

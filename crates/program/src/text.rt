@@ -3,7 +3,7 @@
 ghost use mathlib.Core.Path.{_≡_};
 ghost use Prim.Native.Nat.{_+_, _<_};
 ghost use lib.ListN.{length, drop};
-ghost use Rattle.lent.specs.Written.{placed};
+ghost use Rattle.lent.specs.Written.{writtenAt};
 ghost use Rattle.program.specs.Text.{endOf, behind, decimal};
 
 fn end_of(at: usize, n: usize, room: usize) -> usize
@@ -21,10 +21,10 @@ fn end_of(at: usize, n: usize, room: usize) -> usize
 // Writes the bytes of a word.
 pub fn put(word: &[u8], out: &mut [u8], at: usize) -> usize
     ensures { λ r. ⌜ r ≡ behind at (now (word .entry)) (now (out .entry)) ⌝ }
-    ensures { λ _. ⌜ now (out .exit) ≡ placed at (now (word .entry)) (now (out .entry)) ⌝ }
+    ensures { λ _. ⌜ now (out .exit) ≡ writtenAt at (now (word .entry)) (now (out .entry)) ⌝ }
 {
     let end = end_of(at, word.len(), out.len());
-    lent::place(word, out, at);
+    lent::write_at(word, out, at);
     end
 }
 
@@ -53,7 +53,7 @@ fn decimal_digits(n: u64) -> Digits
 // Writes a number in decimal.
 pub fn put_decimal(n: u64, out: &mut [u8], at: usize) -> usize
     ensures { λ r. ⌜ r ≡ behind at (decimal n) (now (out .entry)) ⌝ }
-    ensures { λ _. ⌜ now (out .exit) ≡ placed at (decimal n) (now (out .entry)) ⌝ }
+    ensures { λ _. ⌜ now (out .exit) ≡ writtenAt at (decimal n) (now (out .entry)) ⌝ }
 {
     let d = decimal_digits(n);
     let bytes = d.bytes;

@@ -142,7 +142,7 @@ pub fn part(d: &[u8], received: Received) -> &[u8]
     match received {
         Received::Delivered { offset, length } => {
             let behind = fields::tail(d, offset);
-            let end = fields::least(length, behind.len());
+            let end = lists::least(length, behind.len());
             &behind[..end]
         }
         Received::Refused(_) => &d[..0],

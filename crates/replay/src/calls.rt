@@ -68,7 +68,7 @@ fn receive(node: Node, c: &[u8]) -> Made {
 
 // A call with an output, which has the room that the call says.
 fn writing(node: Node, c: &[u8], space: &mut [u8]) -> Made {
-    let room = fields::least(room(c) as usize, space.len());
+    let room = lists::least(room(c) as usize, space.len());
     writing_to(node, c, &mut space[..room])
 }
 

@@ -1,5 +1,4 @@
 // A line of the output, built from its words and values.
-use header::fields;
 use input::section;
 use refusals::Refusal;
 
@@ -22,10 +21,10 @@ impl Line {
     }
 
     fn with(self, text: &[u8]) -> Line {
-        let at = fields::least(self.length, LONGEST);
-        let n = fields::least(text.len(), LONGEST - at);
+        let at = lists::least(self.length, LONGEST);
+        let n = lists::least(text.len(), LONGEST - at);
         let mut bytes = self.bytes;
-        lent::place(section::front(text, n), &mut bytes, at);
+        lent::write_at(section::front(text, n), &mut bytes, at);
         Line {
             bytes,
             length: at + n,

@@ -1,5 +1,4 @@
 // Standard input, kept in a file without a name: it is read twice, is longer than a small stack has room for, and may be a pipe.
-use header::fields;
 use streams::Reading;
 ghost use Prim.Native.Nat.{_≤_};
 
@@ -104,7 +103,7 @@ impl Spool {
         }
         let got = libc::pread(self.file, buf, at as i64);
         let n = io::count(got, buf);
-        let failed = n < fields::least(buf.len(), above(self.size, at));
+        let failed = n < lists::least(buf.len(), above(self.size, at));
         if failed {
             io::write_all(2, b"replay: the file in /tmp could not be read\n");
         }

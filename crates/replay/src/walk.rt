@@ -111,10 +111,10 @@ impl Walk {
         if above(LINES, walk.waiting) < line::LONGEST {
             walk = self.written(lines);
         }
-        let at = fields::least(walk.waiting, LINES);
+        let at = lists::least(walk.waiting, LINES);
         let bytes = line.bytes;
-        let n = fields::least(line.length, line::LONGEST);
-        lent::place(section::front(&bytes, n), lines, at);
+        let n = lists::least(line.length, line::LONGEST);
+        lent::write_at(section::front(&bytes, n), lines, at);
         walk.waiting = at + n;
         walk
     }

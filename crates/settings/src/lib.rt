@@ -97,7 +97,7 @@ impl Settings {
     fn some_locator_forbidden(self) -> bool
         ensures { λ r. ⌜ r ≡ anyOf (isForbiddenLocator self) (take (self .«locator_count») (self .locators)) ⌝ }
     {
-        let n = locators::least(self.locator_count, 8);
+        let n = lists::least(self.locator_count, 8);
         let mut found = false;
         let mut i: usize = 0;
         while i < n {
@@ -122,7 +122,7 @@ impl Settings {
     fn some_router_bad(self, routers: [u32; 16], count: usize) -> bool
         ensures { λ r. ⌜ r ≡ anyOf (isBadEnd self) (take count routers) ⌝ }
     {
-        let n = locators::least(count, 16);
+        let n = lists::least(count, 16);
         let mut found = false;
         let mut i: usize = 0;
         while i < n {

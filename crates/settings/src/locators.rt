@@ -1,6 +1,5 @@
 // Locators.
 ghost use mathlib.Core.Path.{_≡_};
-ghost use Prim.Native.Nat.{min};
 ghost use lib.ListN.{take, drop};
 ghost use Rattle.lists.specs.Any.{anyOf, twice};
 ghost use Rattle.settings.specs.Locators.{isAt, isLocator, sameLocator, locatorFound};
@@ -16,17 +15,11 @@ pub enum Found {
     Nothing,
 }
 
-pub(crate) fn least(a: usize, b: usize) -> usize
-    ensures { λ r. ⌜ r ≡ min a b ⌝ }
-{
-    if a < b { a } else { b }
-}
-
 // The address of the locator of that number.
 pub fn locator_address(all: [Locator; 8], count: usize, number: usize) -> Found
     ensures { λ r. ⌜ r ≡ locatorFound all count number ⌝ }
 {
-    let n = least(count, 8);
+    let n = lists::least(count, 8);
     if number < n {
         let l = all[number];
         Found::Address(l.address)
@@ -39,7 +32,7 @@ pub fn locator_address(all: [Locator; 8], count: usize, number: usize) -> Found
 pub fn has_address(all: [Locator; 8], count: usize, a: u32) -> bool
     ensures { λ r. ⌜ r ≡ anyOf (isAt a) (take count all) ⌝ }
 {
-    let n = least(count, 8);
+    let n = lists::least(count, 8);
     let mut i: usize = 0;
     while i < n {
         let l = all[i];
@@ -55,7 +48,7 @@ pub fn has_address(all: [Locator; 8], count: usize, a: u32) -> bool
 pub fn has_locator(all: [Locator; 8], from: usize, count: usize, a: u32, interface: u8) -> bool
     ensures { λ r. ⌜ r ≡ anyOf (isLocator a interface) (drop from (take count all)) ⌝ }
 {
-    let n = least(count, 8);
+    let n = lists::least(count, 8);
     let mut i: usize = from;
     while i < n {
         let l = all[i];
@@ -71,7 +64,7 @@ pub fn has_locator(all: [Locator; 8], from: usize, count: usize, a: u32, interfa
 pub fn repeated(all: [Locator; 8], count: usize) -> bool
     ensures { λ r. ⌜ r ≡ twice sameLocator (take count all) ⌝ }
 {
-    let n = least(count, 8);
+    let n = lists::least(count, 8);
     let mut found = false;
     let mut i: usize = 0;
     while i < n {

@@ -1,6 +1,6 @@
 -- `messages::seal` meets its contract: the checksum stands inside of the packet. Assumes nothing.
 use native.Mathlib.Omega.{arith}
-use Rattle.lent.proofs.Laws.{placed-inside}
+use Rattle.lent.proofs.Laws.{writtenAt-inside}
 use Rattle.messages.specs.Sealed.{sealed}
 use Rattle.messages.proofs.SealedLaws.{one-pass}
 use Prim.Native.Nat.{ℕ}
@@ -21,7 +21,7 @@ returns c =
     let same = ap (λ (k : ℕ). take (a .n) out ++ drop k out) whole ∙ take-append-drop (a .n) out in
     let bytes = bytes-of out (λ i. c .before .before .before .before .before .before .before .before .before .before .before .slice-known .given i .fits) in
     let sum = c .before .before .before .before .before .before .before .before .sum-from .ensures ∙ one-pass (a .n) out (omega arith) (omega arith) (omega arith) bytes _ (omega arith) in
-    placed-inside 42 (take (a .n) out) (c .before .before .before .before .before .before .high .result ∷ (c .before .before .before .before .before .low .result ∷ [])) out (omega arith) (omega arith) (sym same) (c .before .before .place .ensures)
+    writtenAt-inside 42 (take (a .n) out) (c .before .before .before .before .before .before .high .result ∷ (c .before .before .before .before .before .low .result ∷ [])) out (omega arith) (omega arith) (sym same) (c .before .before .write-at .ensures)
     ∙ rw (c .before .before .before .before .before .low .ensures, c .before .before .before .before .before .before .high .ensures, c .before .before .before .before .before .before .before .complement .ensures, sum)
 
 pub seal-spec : {M : Type 1} → statement M

@@ -5,10 +5,10 @@ use Rattle.paths.proofs.Arrays.{Scanned, kept-at}
 use Rattle.paths.proofs.size_among.Statement.{statement}
 use Rattle.paths.proofs.size_among.Tie as tie
 
-scanned : (c : tie.After-place-in-lent)
+scanned : (c : tie.After-row-in-lent)
     → let a = c .before .before .before .before .before .before .before .args in
-    Scanned (a .neighbours .now) (a .sizes .now) (a .times .now) (a .count) (a .neighbour) (c .before .least3 .result) (c .place-in-lent .result)
-scanned c = record { used = omega arith; place = c .place-in-lent .ensures }
+    Scanned (a .neighbours .now) (a .sizes .now) (a .times .now) (a .count) (a .neighbour) (c .before .least3 .result) (c .row-in-lent .result)
+scanned c = record { used = omega arith; row = c .row-in-lent .ensures }
 
 returns : tie.Need-returns
 returns c =

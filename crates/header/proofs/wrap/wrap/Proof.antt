@@ -2,7 +2,7 @@
 use native.Mathlib.Omega.{arith}
 use Rattle.header.specs.Wrap.{outerBytes, wrapped, wrapAnswer, wrapOutput}
 use Rattle.header.proofs.WriterLaws.{wrap-too-long, wrap-short, wrap-pass, length-outerBytes}
-use Rattle.lent.proofs.Laws.{placed-first, placed-more}
+use Rattle.lent.proofs.Laws.{writtenAt-first, writtenAt-more}
 use lib.ListN.{length}
 use Prim.Native.Nat.{_+_, _≤_}
 use Rattle.header.proofs.wrap.wrap.Statement.{statement}
@@ -26,8 +26,8 @@ returns-3 c =
     let long = length-outerBytes (20 + n) (a .h) in
     let fits : 20 + n ≤ room = omega arith in
     let pass = wrap-pass n room (omega arith) fits in
-    let first = placed-first header (a .out .now) (omega arith) (rw (c .before .before .before .before .before .before .before .before .before .outer-bytes .ensures) at (c .before .before .before .before .before .before .place .ensures)) in
-    (rw pass, rw pass (placed-more _ header (a .packet .now) (a .out .now) (omega arith) (omega arith) first (c .before .before .place2 .ensures)))
+    let first = writtenAt-first header (a .out .now) (omega arith) (rw (c .before .before .before .before .before .before .before .before .before .outer-bytes .ensures) at (c .before .before .before .before .before .before .write-at .ensures)) in
+    (rw pass, rw pass (writtenAt-more _ header (a .packet .now) (a .out .now) (omega arith) (omega arith) first (c .before .before .write-at2 .ensures)))
 
 pub wrap-spec : {M : Type 1} → statement M
 wrap-spec =

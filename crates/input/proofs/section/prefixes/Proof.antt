@@ -13,8 +13,8 @@ returns c =
     let least = c3 .before .before .least in
     let count = c3 .before .before .before .count in
     let s = c3 .before .before .before .before .before .args .s .now in
-    prefixes-filled s (c3 .front .result .now) (c .before .place .last .1 .0) (least .result * 8) (rw (least .ensures, count .ensures))
-    (rw (c3 .front .ensures, c3 .before .tail .ensures)) (c .before .place .ensures)
+    prefixes-filled s (c3 .front .result .now) (c .before .write-at .last .1 .0) (least .result * 8) (rw (least .ensures, count .ensures))
+    (rw (c3 .front .ensures, c3 .before .tail .ensures)) (c .before .write-at .ensures)
 
 pub prefixes-spec : {M : Type 1} → statement M
 prefixes-spec =

@@ -7,15 +7,15 @@ use Rattle.paths.proofs.Arrays.{Scanned, made}
 use Rattle.paths.proofs.PathTable.accepted.Statement.{statement}
 use Rattle.paths.proofs.PathTable.accepted.Tie as tie
 
-scanned : (c : tie.After-place)
+scanned : (c : tie.After-row-of)
     → let a = c .before .before .before .before .before .args in
-    Scanned (a .t1 .neighbours) (a .t1 .sizes) (a .t1 .times) (a .t1 .count) (a .neighbour) (c .before .before .before .before .least .result) (c .place .result)
+    Scanned (a .t1 .neighbours) (a .t1 .sizes) (a .t1 .times) (a .t1 .count) (a .neighbour) (c .before .before .before .before .least .result) (c .row-of .result)
 scanned c =
     let t = c .before .before .before .before .before .args .t1 in
     let neighbours : length (t .neighbours) ≡ mostNeighbours = search needs in
     let sizes : length (t .sizes) ≡ mostNeighbours = search needs in
     let times : length (t .times) ≡ mostNeighbours = search needs in
-    record { used = omega arith; place = c .place .ensures }
+    record { used = omega arith; row = c .row-of .ensures }
 
 returns : tie.Need-returns
 returns c =

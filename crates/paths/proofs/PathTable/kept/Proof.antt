@@ -9,18 +9,18 @@ use Rattle.paths.proofs.Arrays.{Scanned, kept-at, kept-in-none}
 use Rattle.paths.proofs.PathTable.kept.Statement.{statement}
 use Rattle.paths.proofs.PathTable.kept.Tie as tie
 
-place-requires : tie.Need-place-requires
-place-requires c κs = let full : length (c .before .before .before .before .before .args .self .neighbours) ≡ mostNeighbours = search needs in omega arith
+row-of-requires : tie.Need-row-of-requires
+row-of-requires c κs = let full : length (c .before .before .before .before .before .args .self .neighbours) ≡ mostNeighbours = search needs in omega arith
 
-scanned : (c : tie.After-place)
+scanned : (c : tie.After-row-of)
     → let a = c .before .before .before .before .before .before .args in
-    Scanned (a .self .neighbours) (a .self .sizes) (a .self .times) (a .self .count) (a .neighbour) (c .before .before .before .least .result) (c .place .result)
+    Scanned (a .self .neighbours) (a .self .sizes) (a .self .times) (a .self .count) (a .neighbour) (c .before .before .before .least .result) (c .row-of .result)
 scanned c =
     let t = c .before .before .before .before .before .before .args .self in
     let neighbours : length (t .neighbours) ≡ mostNeighbours = search needs in
     let sizes : length (t .sizes) ≡ mostNeighbours = search needs in
     let times : length (t .times) ≡ mostNeighbours = search needs in
-    record { used = omega arith; place = c .place .ensures }
+    record { used = omega arith; row = c .row-of .ensures }
 
 returns : tie.Need-returns
 returns c = kept-in-none _ _ _ (c .if1 .taken)
@@ -40,4 +40,4 @@ returns-3 c =
 pub kept-spec : {M : Type 1} → statement M
 kept-spec =
     tie.close
-    (tie.spec returns (omega arith) (λ c. search needs) place-requires (omega arith) (omega arith) (omega arith) (omega arith) (omega arith) returns-2 returns-3)
+    (tie.spec returns (omega arith) (λ c. search needs) row-of-requires (omega arith) (omega arith) (omega arith) (omega arith) (omega arith) returns-2 returns-3)

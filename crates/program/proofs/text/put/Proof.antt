@@ -6,7 +6,7 @@ use Rattle.program.proofs.text.put.Tie as tie
 
 returns : tie.Need-returns
 unfolding behind
-returns c = (c .before .before .before .before .end-of .ensures, c .before .before .place .ensures)
+returns c = (c .before .before .before .before .end-of .ensures, c .before .before .write-at .ensures)
 
 pub put-spec : {M : Type 1} → statement M
 put-spec = tie.close (tie.spec (omega arith) (omega arith) (omega arith) returns)

@@ -2,9 +2,9 @@ use Prim.Native.Nat.{_-_}
 use native.Mathlib.Omega.{arith}
 use lib.ListN.{length}
 use Rattle.paths.specs.Search.{Passed}
-use Rattle.paths.proofs.Scan.{place-hit, place-miss, place-end}
-use Rattle.paths.proofs.rows.place_from.Statement.{statement}
-use Rattle.paths.proofs.rows.place_from.Tie as tie
+use Rattle.paths.proofs.Scan.{row-hit, row-miss, row-end}
+use Rattle.paths.proofs.rows.row_from.Statement.{statement}
+use Rattle.paths.proofs.rows.row_from.Tie as tie
 
 abbrev Inv-loop : tie.InvT-loop
 Inv-loop used start neighbour i₀ i = Passed neighbour used i
@@ -16,21 +16,21 @@ returns : tie.Need-returns Inv-loop μ-loop
 returns c =
     let b = c .before .before .before in
     let a = b .before .args in
-    omega (arith, place-hit (a .neighbour) (a .used .now) (b .loop .i) (omega arith) (c .if1 .taken))
+    omega (arith, row-hit (a .neighbour) (a .used .now) (b .loop .i) (omega arith) (c .if1 .taken))
 
 loop-again : tie.Need-loop-again Inv-loop μ-loop
 loop-again c =
     let b = c .before .before .before in
     let a = b .before .args in
-    omega (arith, place-miss (a .neighbour) (a .used .now) (b .loop .i) (omega arith) (c .if1 .left))
+    omega (arith, row-miss (a .neighbour) (a .used .now) (b .loop .i) (omega arith) (c .if1 .left))
 
 returns-2 : tie.Need-returns-2 Inv-loop μ-loop
 returns-2 c =
     let b = c .before in
     let a = b .before .args in
-    omega (arith, place-end (a .neighbour) (a .used .now) (b .loop .i) (omega arith))
+    omega (arith, row-end (a .neighbour) (a .used .now) (b .loop .i) (omega arith))
 
-pub place-from-spec : {M : Type 1} → statement M
-place-from-spec =
+pub row-from-spec : {M : Type 1} → statement M
+row-from-spec =
     tie.close
     (tie.spec Inv-loop μ-loop (omega arith) (omega arith) (omega arith) returns (omega arith) (omega arith) loop-again returns-2)
