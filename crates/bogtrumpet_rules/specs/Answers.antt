@@ -47,6 +47,6 @@ plainEmbedded Nothing = record { found = false; address = 0 }
 unfoldable pub isatapIn : Prefixes → Address → Embedded
 isatapIn prefixes a = plainEmbedded (embeddedIn (rowsOf (prefixes .bytes)) (prefixes .count) (a .bytes))
 
--- those we form have 00 (R6.3)
+-- the link-local ISATAP address of an IPv4 address, with 00 (R6.3)
 unfoldable pub linkLocalIn : ℕ → Address
 linkLocalIn a = record { bytes = linkLocalOf a }

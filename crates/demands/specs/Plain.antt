@@ -16,7 +16,7 @@ use Rattle.reports.specs.declared.ReportAnswer.the-variants.{Accepted, Refused}
 use Rattle.node.specs.declared.Node.{Node}
 use Rattle.demands.specs.Calls.{NodeCall, outcomeOf, OfSizes, aSending, aReport, noSize, viewOf}
 
--- it has a latest time, at first 0, and entries, at first none (R11.2)
+-- the record has a latest time, at first 0, and entries, at first none (R11.2)
 pub record Plain : Type 0 where
   pub latest : ℕ
   pub entries : List Report

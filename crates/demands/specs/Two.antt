@@ -100,6 +100,6 @@ module _ (n : Node) where
     pub asks : (k time : ℕ) (out : List ℕ) → Asks k time out
     pub hears : (packet : List ℕ) (time : ℕ) → Hears packet time
 
--- of every node
+-- demand 2, of every node
 unfoldable pub DemandTwo : Type 0
 DemandTwo = (n : Node) → Exactly n

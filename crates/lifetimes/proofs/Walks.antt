@@ -105,7 +105,7 @@ read-none bs s none = go (eqb (length bs) 0) refl
     go true e = read-end bs s (eqb-true _ _ e)
     go false e = read-bad bs s (eqb-false _ _ e) none
 
--- that is told by the place that the walks came to
+-- whether the options are whole is told by the place that the walks came to
 pub read-at : (at : ℕ) (bs : List ℕ) (s : Smallest) → at ≤ length bs → optionSize (drop at bs) ≡ 0
     → _≡_ {A = Options} (record { whole = eqb at (length bs); smallest = s }) (readOf (drop at bs) s)
 read-at at bs s within none = rw same (read-none (drop at bs) s none)

@@ -46,7 +46,7 @@ isQuoteForeign s quoted =
 abbrev pub reportRows : Settings → List ℕ → Outer → List (Bool × Refusal)
 reportRows s m quoted = (isReportMalformed m quoted, ReportMalformed) ∷ (isQuoteForeign s quoted, QuoteNotOurs) ∷ []
 
--- the first of them that a message gets whose quoted header has these fields
+-- the first of 16 and 17 that a message gets whose quoted header has these fields
 unfoldable pub reportCheck : Settings → List ℕ → Outer → Check
 reportCheck s m quoted = firstOf (reportRows s m quoted)
 

@@ -32,7 +32,7 @@ Names packet room len =
 
 -- of a sending with identification i into the output `out`: its answer, the next identification, and the output afterwards
 module _ (s : Settings) (i P : ℕ) (packet hop : List ℕ) (k : ℕ) (out : List ℕ) (answer : SendAnswer) (next : ℕ) (output : List ℕ) where
-  -- that answer is given, and no identification is used
+  -- the answer a is given, and no identification is used
   abbrev pub Gives : SendAnswer → Type 0
   Gives a = (answer ≡ a) × (next ≡ i)
 
@@ -46,7 +46,7 @@ module _ (s : Settings) (i P : ℕ) (packet hop : List ℕ) (k : ℕ) (out : Lis
     -- whenever its rules hold and the packet draws no message: nothing is written
     pub silent : (M : ℕ) → Exceeds s P packet hop k M → (DrawsMessage packet → ⊥) → Gives (TooBig M 0) × (output ≡ out)
 
-  -- that refusal is given, and nothing is written
+  -- the refusal r is given, and nothing is written
   abbrev pub Refuses : Refusal → Type 0
   Refuses r = Gives (Refused r) × (output ≡ out)
 
@@ -62,7 +62,7 @@ module _ (s : Settings) (i P : ℕ) (packet hop : List ℕ) (k : ℕ) (out : Lis
     pub short : (a : ℕ) → Passes s packet hop k a → PathTakes P (length packet) → outerHeader + length packet ≤ longestTotal
         → length out < outerHeader + length packet → Refuses OutputShort
 
-  -- all of it
+  -- a sending does exactly what the rules say: a packet wrapped, 14, and each refusal
   pub record SentExactly : Type 0 where
     pub wrapped : WrappedExactly s i P packet hop k out answer next output
     pub tooBig : TooBigExactly

@@ -50,7 +50,7 @@ sendRows s packet hop k =
     ∷ (isBadEnd s (lastQuad hop), TunnelEndForbidden)
     ∷ []
 
--- the first of them that a packet to that next hop gets, from locator k
+-- the first of 8, 11, 12 and 13 that a packet to that next hop gets, from locator k
 unfoldable pub sendCheck : Settings → List ℕ → List ℕ → ℕ → Check
 sendCheck s packet hop k = firstOf (sendRows s packet hop k)
 
