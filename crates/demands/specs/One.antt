@@ -21,7 +21,8 @@ pub record Refusing (n : Node) (time : ℕ) (lent : List ℕ) (o : Outcome) : Ty
   pub output : (o .given .number ≡ 0 → ⊥) → (o .given .number ≡ 14 → ⊥) → o .output ≡ lent
   pub tooBig : (size len : ℕ) → o .given ≡ record { number = 14; values = size ∷ len ∷ [] } → Message lent (o .output) len
 
--- demand 1, of every node and every call; that a reporting address has 16 bytes is its type: the contract of `node::Node::put_back` has it of every node
+-- demand 1, of every node and every call; that a reporting address has 16 bytes is its type: the contract of `node::Node::put_back` has
+-- it of every node
 unfoldable pub DemandOne : Type 0
 DemandOne =
     (n : Node) → length (n .service .settings .reporting) ≡ 16
