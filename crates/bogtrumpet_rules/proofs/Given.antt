@@ -1,4 +1,4 @@
--- A plain answer read back has document 01's number and values. Assumes nothing.
+-- A plain answer read back has the writer's number and values (R1.17). Assumes nothing.
 use mathlib.Core.Path.{_≡_, refl}
 use mathlib.Core.List.{[], _∷_}
 use Rattle.header.specs.Wrap.{writtenGiven}

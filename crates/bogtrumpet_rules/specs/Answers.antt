@@ -23,7 +23,7 @@ abbrev pub plainWritten : wrap.Written → Written
 plainWritten (Length n) = record { number = 0; length = n }
 plainWritten (Refused refusal) = record { number = numberOf refusal; length = 0 }
 
--- document 01's number and values of it
+-- number and values (R1.17) of a writer's plain answer
 abbrev pub writtenBack : Written → Given
 writtenBack a = readBack (a .number) (a .length ∷ [])
 
@@ -43,10 +43,10 @@ abbrev pub plainEmbedded : address.Embedded → Embedded
 plainEmbedded (Ipv4 a) = record { found = true; address = a }
 plainEmbedded Nothing = record { found = false; address = 0 }
 
--- document 01, "Receiving": "An ISATAP address has an on-link prefix, then 00 or 02, 00, 5E, FE, then the IPv4 address"
+-- an ISATAP address has an on-link prefix, then 00 or 02, 00, 5E, FE, then the IPv4 address (R6.1)
 unfoldable pub isatapIn : Prefixes → Address → Embedded
 isatapIn prefixes a = plainEmbedded (embeddedIn (rowsOf (prefixes .bytes)) (prefixes .count) (a .bytes))
 
--- document 01, "Receiving": "Those we form have 00"
+-- those we form have 00 (R6.3)
 unfoldable pub linkLocalIn : ℕ → Address
 linkLocalIn a = record { bytes = linkLocalOf a }

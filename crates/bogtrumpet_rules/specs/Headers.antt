@@ -1,4 +1,4 @@
--- Headers read and judged, for C (document 01, "Receiving"): the number, 0 where nothing is refused, and what was read.
+-- Headers read and judged, for C (R5): the number, 0 where nothing is refused, and what was read.
 use Prim.Native.Nat.{ℕ}
 use mathlib.Core.Bool.{cond}
 use mathlib.Core.List.{List}

@@ -1,5 +1,5 @@
--- Demand 1 (document 01, "Numbers given back"), of every call: "After any of them the state is as before but for the latest
--- time, and the lent output is untouched; 14 alone may write. Bytes behind the written length stay."
+-- Demand 1 (R12.1), of every call: after any of them the state is as before but for the latest time, and the lent output is untouched; 14
+-- alone may write. Bytes behind the written length stay (R1.14 to R1.16).
 use Prim.Native.Nat.{ℕ}
 use mathlib.Core.Path.{_≡_}
 use mathlib.Core.List.{List, [], _∷_}

@@ -1,4 +1,4 @@
--- Which packets draw an ICMPv6 error message (document 01, "Sending"; RFC 4443, 2.4 (e)), said in plain facts.
+-- Which packets draw an ICMPv6 error message (R8.2; RFC 4443, 2.4 (e)), said in plain facts.
 use Prim.Native.Nat.{ℕ, _<_}
 use mathlib.Core.Path.{_≡_}
 use mathlib.Core.Logic.{_⊎_}

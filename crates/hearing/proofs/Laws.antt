@@ -165,7 +165,7 @@ module _ (s : Settings) (routers : RouterList) (now : ℕ) (p : List ℕ) where
         inList = decides-listed router (live routers) .holds (g .2);
       }
 
-  -- and whenever they hold
+  -- an advertisement is accepted whenever its rules hold
   accepted-if : (router : ℕ) → ValidAdvertisement s routers p router → heardOf s routers now p .answer ≡ Router router
   unfolding heardOf heardFrom
   accepted-if router a =

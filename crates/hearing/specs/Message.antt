@@ -1,4 +1,4 @@
--- A neighbour discovery message that is valid (document 01, "Routers"; RFC 4861, 6.1): p is its IPv6 packet, no byte behind it, and
+-- A neighbour discovery message that is valid (R15.3; RFC 4861, 6.1): p is its IPv6 packet, no byte behind it, and
 -- i are the fields of the packet's header.
 use Prim.Native.Nat.{ℕ}
 use mathlib.Core.Bool.{Bool, _&&_}

@@ -37,7 +37,7 @@ pub struct Heard {
 }
 
 impl HeardAnswer {
-    // Document 01's number, 0 where the advertisement is accepted.
+    // The number (R4), 0 where the advertisement is accepted.
     pub fn number(self) -> u8
         ensures { λ r. ⌜ r ≡ heardGiven self .number ⌝ }
     {

@@ -48,7 +48,7 @@ left-most (suc most) bs s = go (eqb (optionSize bs) 0) (left-most most (drop (op
     go true h = omega arith
     go false h = omega (arith, length-drop (optionSize bs) bs)
 
--- and where there is an option a smaller one
+-- where there is an option, a walk leaves fewer bytes
 pub left-falls : (most : ℕ) (bs : List ℕ) (s : Smallest) → (optionSize bs ≡ 0 → ⊥) → walkedOf (suc most) bs s .left < length bs
 unfolding walkedOf
 left-falls most bs s good =

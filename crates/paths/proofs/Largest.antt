@@ -69,7 +69,7 @@ from-all : (n p : ℕ) (ps : List ℕ) → AllFrom n ps → List·Memᴰ p ps �
 from-all n p [] a m = absurd (List·Memᴰ·not-nil m)
 from-all n p (q ∷ ps) a m = ⊎-elim (λ e. omega (arith, a .0)) (λ k. from-all n p ps (a .1) k) (List·Memᴰ·cases-cons m)
 
--- and the largest plateau below n is found
+-- the largest plateau below n is found
 largest-found : (n p : ℕ) → LargestBelow n p plateaus → plateauBelow n ≡ Size p
 unfolding plateauBelow
 largest-found n p l = go (plateauBelow n) refl
@@ -93,7 +93,7 @@ module _ (reported total : ℕ) where
       go false true e f h = let z : _≡_ {A = ℕ} 0 1 = cc in absurd (omega arith)
       go false false e f h = let same : reported ≡ c = cc in inl (same, omega (arith, ltb-false reported leastSize f))
 
-  -- and the candidate is found
+  -- what is the candidate is found
   pub is-candidate : (c : ℕ) → CandidateIs reported total c → candidateOf reported total ≡ Size c
   unfolding candidateOf
   is-candidate c =

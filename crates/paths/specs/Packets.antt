@@ -1,4 +1,4 @@
--- Document 01, "Sending": what a path of size P lets through.
+-- R7.6, R7.11: what a path of size P lets through.
 use Prim.Native.Nat.{ℕ, _+_, _-_, _≤_, max}
 use mathlib.Core.Path.{_≡_}
 use mathlib.Core.Logic.{_⊎_}

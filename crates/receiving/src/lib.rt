@@ -23,7 +23,7 @@ pub enum Received {
 }
 
 impl Received {
-    // Document 01's number, 0 where the datagram is delivered.
+    // The number (R4), 0 where the datagram is delivered.
     pub fn number(self) -> u8
         ensures { λ r. ⌜ r ≡ receivedGiven self .number ⌝ }
     {

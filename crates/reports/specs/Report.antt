@@ -1,4 +1,4 @@
--- Size reports (document 01, "Path size"): 16, 17 and 18 by the settings and the bytes alone, then 19 by the size in force.
+-- Size reports (R9): 16, 17 and 18 by the settings and the bytes alone, then 19 by the size in force.
 use Prim.Native.Nat.{ℕ, _+_}
 use mathlib.Core.Bool.{Bool, cond, not, _||_}
 use mathlib.Core.List.{List, [], _∷_}

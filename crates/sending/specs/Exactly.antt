@@ -40,10 +40,10 @@ module _ (s : Settings) (i P : ℕ) (packet hop : List ℕ) (k : ℕ) (out : Lis
   pub record TooBigExactly : Type 0 where
     -- 14 is given only when its rules hold
     pub onlyIf : (M len : ℕ) → answer ≡ TooBig M len → Exceeds s P packet hop k M × Names packet (length out) len
-    -- and whenever they hold: with a message, which is written, and what stood behind it stays
+    -- whenever its rules hold and the packet draws a message: that is written, and what stood behind it stays
     pub told : (M : ℕ) → Exceeds s P packet hop k M → DrawsMessage packet → tooBigLength (length packet) ≤ length out
         → Gives (TooBig M (tooBigLength (length packet))) × (output ≡ written (tooBigOf (s .reporting) M packet) out)
-    -- or without one, and nothing is written
+    -- whenever its rules hold and the packet draws no message: nothing is written
     pub silent : (M : ℕ) → Exceeds s P packet hop k M → (DrawsMessage packet → ⊥) → Gives (TooBig M 0) × (output ≡ out)
 
   -- that refusal is given, and nothing is written

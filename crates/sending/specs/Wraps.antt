@@ -47,9 +47,9 @@ pub record Wraps (s : Settings) (P : ℕ) (packet hop : List ℕ) (k room a : �
 pub record WrappedExactly (s : Settings) (i P : ℕ) (packet hop : List ℕ) (k : ℕ) (out : List ℕ) (answer : SendAnswer) (next : ℕ) (output : List ℕ) : Type 0 where
   -- a packet is answered as wrapped only when the rules hold, and with its length and the header's
   pub onlyIf : (len : ℕ) → answer ≡ Wrapped len → (len ≡ outerHeader + length packet) × ((a : ℕ) × Wraps s P packet hop k (length out) a)
-  -- and whenever they hold; the identification goes on by one, from 65,535 to 0
+  -- whenever the rules hold it is wrapped; the identification goes on by one, from 65,535 to 0
   pub if : (a : ℕ) → Wraps s P packet hop k (length out) a → (answer ≡ Wrapped (outerHeader + length packet)) × (next ≡ (i + 1) % 65536)
-  -- then the output gets the header and the packet behind it, and what stood behind that stays; the flag is set exactly when P − 20 > 1,280
+  -- whenever the rules hold the output gets the header and the packet behind it, and what stood behind that stays; the flag is set exactly when P − 20 > 1,280
   pub bytes : (a : ℕ) (flag : Bool) → Wraps s P packet hop k (length out) a → (flag ≡ true) ↔ (outerHeader + leastMtu < P)
       → output
       ≡ written
