@@ -11,6 +11,7 @@ use Rattle.refusals.specs.Refusals.{firstOf, stopOr}
 use Rattle.refusals.specs.Given.{Given, answered, refused}
 use Rattle.refusals.specs.declared.Refusal.{Refusal}
 use Rattle.refusals.specs.declared.Refusal.the-variants.{OuterMalformed, OuterChecksum, OtherProtocol, Piece, NotForUs, OuterSourceForbidden, InnerMalformed, InnerSourceBad, OuterSourceWrong}
+use Rattle.header.specs.Numbers.{ipv6}
 use Rattle.header.specs.Outer.{outerOf, isOuterMalformed, isSumWrong, payloadOf}
 use Rattle.header.specs.Inner.{innerOf, isInnerMalformed}
 use Rattle.header.specs.declared.outer.Outer.{Outer}
@@ -40,7 +41,7 @@ abbrev pub receiveRows : Settings → List Router → ℕ → List ℕ → Outer
 receiveRows s routers interface d o n i =
     (isOuterMalformed (length d) o, OuterMalformed)
     ∷ (isSumWrong d o, OuterChecksum)
-    ∷ (not (eqb (o .protocol) 41), OtherProtocol)
+    ∷ (not (eqb (o .protocol) ipv6), OtherProtocol)
     ∷ (not (eqb (o .fragment) 0), Piece)
     ∷ (not (isOurLocator s (o .destination) interface), NotForUs)
     ∷ (forbiddenTo s (o .source), OuterSourceForbidden)
