@@ -5,7 +5,8 @@ use Rattle.header.specs.Wrap.{writtenGiven}
 use Rattle.header.specs.declared.wrap.Written.{Written}
 use Rattle.header.specs.declared.wrap.Written.the-variants.{Length, Refused}
 use Rattle.refusals.proofs.Numbers.{refused-back}
-use Rattle.bogtrumpet_rules.specs.Answers.{plainWritten, writtenBack}
+use Rattle.bogtrumpet_rules.specs.Answers.{plainWritten}
+use Rattle.bogtrumpet_rules.specs.Given.{writtenBack}
 
 pub written-given : (w : Written) → writtenBack (plainWritten w) ≡ writtenGiven w
 written-given (Length n) = refl

@@ -7,7 +7,6 @@ use Rattle.settings.specs.Settings.{areRoutersRight}
 use Rattle.routers.specs.Routers.{live}
 use Rattle.reports.proofs.AcceptsLaws.{reported-exactly}
 use Rattle.sending.proofs.ExactlyLaws.{sent-exactly}
-use Rattle.receiving.specs.Admitted.{DeliversExactly}
 use Rattle.receiving.proofs.Delivered.{delivers-exactly}
 use Rattle.asking.proofs.Laws.{asked-exactly}
 use Rattle.hearing.proofs.Laws.{heard-exactly}
@@ -30,7 +29,7 @@ relists n addresses count time =
     record { taken = λ right. rw (d .passes right); refused = λ wrong. rw (refutes (areRoutersRight s addresses count) d wrong) }
 
 pub demand-two : DemandTwo
-unfolding DemandTwo DeliversExactly receiveOf partIn sendOf sentBy sendOutput reportOf reportAnswerOf askOf askedBy askOutput hearOf heardBy
+unfolding DemandTwo receiveOf partIn sendOf sentBy sendOutput reportOf reportAnswerOf askOf askedBy askOutput hearOf heardBy
 demand-two n =
     let s = n .service .settings in
     let routers = n .service .routers in

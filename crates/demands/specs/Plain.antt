@@ -10,7 +10,7 @@ use Rattle.paths.specs.Kept.{Report, inForce}
 use Rattle.paths.specs.Record.{recordKept, recordAfter}
 use Rattle.sending.specs.Sending.{answerOf, sendGiven}
 use Rattle.sending.specs.declared.SendAnswer.{SendAnswer}
-use Rattle.reports.specs.Report.{judgedOf, neighbourIn, answerAt, reportGiven}
+use Rattle.reports.specs.Report.{answerToward, reportGiven}
 use Rattle.reports.specs.declared.ReportAnswer.{ReportAnswer}
 use Rattle.reports.specs.declared.ReportAnswer.the-variants.{Accepted, Refused}
 use Rattle.node.specs.declared.Node.{Node}
@@ -42,7 +42,7 @@ module _ (s : Settings) where
   -- the first of 16, 17, 18 that its bytes and the settings give, else 19 if its candidate is not below the record's size toward its
   -- neighbour (R11.4)
   abbrev pub plainReport : Plain → List ℕ → ReportAnswer
-  plainReport r m = answerAt (judgedOf s m) (plainSize r (neighbourIn (judgedOf s m)))
+  plainReport r m = answerToward s m (plainSize r)
 
   -- the rules of sending, for the record's size toward the tunnel end
   abbrev pub plainSend : Plain → List ℕ → List ℕ → ℕ → ℕ → SendAnswer

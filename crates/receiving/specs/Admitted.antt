@@ -52,7 +52,3 @@ module _ (s : Settings) (routers : List Router) (d : List ℕ) (interface : ℕ)
     pub if : Admits → delivered ≡ take (innerLength (behindHeader d)) (behindHeader d)
     -- the part of an admitted datagram has 40 bytes at least
     pub nonEmpty : Admits → 40 ≤ length delivered
-
--- demand 2 of receiving, for all settings, router lists, datagrams and interfaces
-unfoldable pub DeliversExactly : Type 0
-DeliversExactly = (s : Settings) (routers : List Router) (d : List ℕ) (interface : ℕ) → DeliveredExactly s routers d interface
