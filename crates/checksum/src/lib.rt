@@ -3,7 +3,7 @@ ghost use mathlib.Core.Path.{_≡_};
 ghost use Prim.Native.Nat.{_+_, _*_, _≤_, _<_, min};
 ghost use mathlib.Core.List.{[]};
 ghost use lib.ListN.{length, drop};
-ghost use Rattle.checksum.specs.Sum.{onesSum, onesSumFrom, onesComplement, isRight, isRightFrom};
+ghost use Rattle.checksum.specs.Sum.{onesSumFrom, onesComplement, isRight, isRightFrom};
 ghost use Rattle.checksum.specs.Folding.{wordSum, folded, chunk};
 
 // The bytes that are added up before the carries are brought back.
@@ -12,13 +12,6 @@ const CHUNK: usize = 65536;
 const CARRY: u64 = 65536;
 // Sixteen one bits.
 const ALL_ONES: u16 = 65535;
-
-// The one's complement sum of the words of s.
-pub fn sum(s: &[u8]) -> u16
-    ensures { λ r. ⌜ r ≡ onesSum (now (s .entry)) ⌝ }
-{
-    sum_from(0, s)
-}
 
 // The one's complement sum of the words of s, continued from a start value: the sum of what stands before s, or any words that belong to
 // it.

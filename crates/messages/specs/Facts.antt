@@ -1,6 +1,6 @@
 -- The Packet Too Big byte for byte (R8.1; RFC 4443, 3.2), as the demands state it.
 use Prim.Native.Nat.{ℕ, _+_}
-use mathlib.Core.List.{List, [], _∷_, _++_}
+use mathlib.Core.List.{List, _∷_, _++_}
 use lib.ListN.{length, take}
 use Rattle.checksum.specs.Sum.{onesSum, onesComplement}
 use Rattle.header.specs.Fields.{addressAt}
