@@ -1,6 +1,6 @@
 -- 14 is given exactly when the rules say, and so is every refusal. Assumes nothing.
 use Prim.Native.Nat.{ℕ, _≤_, _<_}
-use mathlib.Core.Path.{_≡_}
+use mathlib.Core.Path.{_≡_, ap, _∙_}
 use mathlib.Core.Logic.{⊎-elim, inl, inr}
 use mathlib.Core.Bool.{true}
 use mathlib.Core.List.{List, [], _∷_}
@@ -14,8 +14,9 @@ use Rattle.header.specs.Numbers.{innerHeader}
 use Rattle.header.specs.Wrap.{wrapCheck, wrapAnswer, wrapOutput}
 use Rattle.header.proofs.DrawsLaws.{decides-draws}
 use Rattle.header.proofs.WriterLaws.{wrap-too-long, wrap-short}
+use Rattle.lent.specs.Written.{written}
 use Rattle.lists.proofs.Decides.{fails, refutes}
-use Rattle.messages.specs.Icmp.{tooBigLength, tooBigCheck, tooBigAnswer, tooBigOutput}
+use Rattle.messages.specs.Icmp.{tooBigOf, tooBigLength, tooBigCheck, tooBigAnswer, tooBigOutput}
 use Rattle.messages.proofs.Facts.{too-big-bytes}
 use Rattle.messages.proofs.WriterLaws.{too-big-short, too-big-pass}
 use Rattle.paths.specs.Packets.{largestPacket}
@@ -87,7 +88,8 @@ module _ (s : Settings) (P : ℕ) (packet hop : List ℕ) (k : ℕ) where
     unfolding sentOf sentOutput tooBigAnswer tooBigOutput
     too-big-exactly = record {
       onlyIf = too-big-only;
-      told = λ M f d l. let p = exceeds-tell M f d in let c = too-big-pass (length packet) (length out) (headed M f) l in ((rw p (rw c), rw p (rw c)), rw (← too-big-bytes (s .reporting) M packet) (rw p (rw c)));
+      told = λ M f d l. let p = exceeds-tell M f d in let c = too-big-pass (length packet) (length out) (headed M f) l in let w : output ≡ written (tooBigOf (s .reporting) M packet) out = rw p (rw c) in
+          ((rw p (rw c), rw p (rw c)), w ∙ ap (λ (b : List ℕ). written b out) (too-big-bytes (s .reporting) M packet));
       silent = λ M f n. let p = exceeds-silent M f n in ((rw p, rw p), rw p);
     }
 
