@@ -1,5 +1,6 @@
 # libbogtrumpet.a: the node's calls and the rules without state as two objects of one archive, so that a program that calls only a rule
 # links none of the node. `rt staticlib` proves a crate once more before it compiles it: the archive is made anew only where a source is newer.
+# It writes the node's object alone under the archive's name, so that file goes before the rules are proved: what fails leaves no archive.
 PREFIX = /usr/local
 DESTDIR =
 AR = ar
@@ -22,9 +23,10 @@ $(LIBRARY): $(SOURCES)
 	rm -rf $(OBJECTS) && mkdir -p $(OBJECTS)/node $(OBJECTS)/rules
 	rt staticlib bogtrumpet
 	cd $(OBJECTS)/node && $(AR) x ../../libbogtrumpet.a
+	rm $@
 	rt staticlib bogtrumpet_rules
 	cd $(OBJECTS)/rules && $(AR) x ../../libbogtrumpet_rules.a
-	rm -f $@ target/staticlib/libbogtrumpet_rules.a
+	rm target/staticlib/libbogtrumpet_rules.a
 	$(AR) rcsD $@ $(OBJECTS)/node/*.o $(OBJECTS)/rules/*.o
 
 bogtrumpet.pc: Makefile $(HEADER)
@@ -42,4 +44,5 @@ install: $(LIBRARY) bogtrumpet.pc
 clean:
 	rm -rf target/staticlib target/bogtrumpet.pc
 
+.DELETE_ON_ERROR:
 .PHONY: all install clean bogtrumpet.pc

@@ -4,14 +4,15 @@
  *     cc -I include program.c target/staticlib/libbogtrumpet.a -o program
  *
  * The archive has two objects, the node's calls and the rules without state; a program that calls only a rule links none of the node.
- * It needs nothing but memcpy, memmove and memset. x86-64 and ELF alone.
+ * It needs nothing but memcpy, memmove and memset. x86-64 and ELF alone; C99 or later, or C++.
  *
  * Values. No function allocates, keeps a pointer, blocks, or fails in another way than by its number. None has a precondition on values:
  * any struct, number and bytes may be handed over, a node of arbitrary bytes too.
  * IPv4 addresses are numbers, 10.0.0.1 is 0x0A000001; IPv6 addresses and packets are bytes in the order of the network.
  *
  * Memory. Lent bytes are (pointer, length). A pointer is valid for its length, or null where the length is 0. One to a node is valid,
- * aligned to 8 bytes and not null; bytes need no alignment. An output overlaps neither an input nor the node.
+ * aligned to 8 bytes and not null; bytes need no alignment. What a call may write, an output or a node that is not const, overlaps
+ * nothing else that it is lent.
  *
  * Threads. There is no shared state: calls on different nodes, and the rules, may be made at once. On one node bogtrumpet_receive and
  * bogtrumpet_path_size, which only read it, may be made at once; any other call on it is made alone.
@@ -20,20 +21,21 @@
  *
  * Answers. A call that can be refused gives a number of enum bogtrumpet_number, 0 where it is not. Where several apply, the first in the
  * order that stands at the call is given. Fields of an answer that do not apply are 0. After a refusal the lent output is untouched and
- * the node as before but for the latest time; 14 alone may write. Bytes of an output behind the written length stay as they were.
+ * the node as before but for the latest time; 14 alone may write, and bogtrumpet_new always fills its node. Bytes of an output behind the
+ * written length stay as they were.
  *
  * Time is a count of seconds that the caller hands over; one earlier than the latest is read as the latest.
  */
 #ifndef BOGTRUMPET_H
 #define BOGTRUMPET_H
 
-#include <stdbool.h>
-#include <stddef.h>
-#include <stdint.h>
-
 #if !defined(__x86_64__) || !defined(__LP64__) || !defined(__ELF__)
 #error "libbogtrumpet.a is machine code for x86-64 with 64-bit longs and pointers in ELF objects (System V calls)"
 #endif
+
+#include <stdbool.h>
+#include <stddef.h>
+#include <stdint.h>
 
 #define BOGTRUMPET_VERSION "0.2.0"
 #define BOGTRUMPET_VERSION_MAJOR 0
@@ -236,8 +238,8 @@ struct bogtrumpet_heard {
    the link-local address of locator 0 (R2.10). Never refused: bogtrumpet_new judges them. */
 BOGTRUMPET_CHECKED struct bogtrumpet_settings bogtrumpet_defaults(struct bogtrumpet_settings settings);
 
-/* Fills the node, whatever stood there: a node with all routers due at time 0. The number: 0, or 1, and then the node is the one of
-   empty settings, all values 0; it delivers nothing (6) and sends and asks nothing (11). */
+/* Fills the node, whatever stood there: a node with all routers due at time 0 (R2.12). The number: 0, or 1, and then the node is the
+   one of empty settings, all values 0; it delivers nothing (6 at the latest) and sends and asks nothing (11 at the latest) (R2.11). */
 BOGTRUMPET_CHECKED uint8_t bogtrumpet_new(struct bogtrumpet_node *node, struct bogtrumpet_settings settings);
 
 /* Where the inner packet stands in a datagram that arrived on the interface (R5). The node stays as it is.
@@ -317,7 +319,7 @@ struct bogtrumpet_written {
 /* The RFC 1071 sum of the bytes, continued from the two words of start: the sum itself, not its complement (R1.5). */
 BOGTRUMPET_CHECKED uint16_t bogtrumpet_checksum(uint32_t start, const uint8_t *bytes, size_t length);
 
-/* Whether the sum that includes the checksum field is FFFF. */
+/* Whether the sum that includes the checksum field is FFFF (R1.5). */
 BOGTRUMPET_CHECKED bool bogtrumpet_checksum_right(const uint8_t *bytes, size_t length);
 
 /* 0.0.0.0, 127.0.0.0/8, 224.0.0.0/4 and 255.255.255.255 (R3). */
@@ -333,18 +335,18 @@ BOGTRUMPET_CHECKED struct bogtrumpet_address bogtrumpet_link_local(uint32_t addr
 /* Whether an inner source is bad (number 9): ff00::/8, ::, ::1, or 96 zero bits and a forbidden IPv4 address (R5.11). */
 BOGTRUMPET_CHECKED bool bogtrumpet_bad_source(struct bogtrumpet_address address);
 
-/* Numbers, in this order: 2, 3, 4, 5. */
+/* Reads the outer header of a datagram, whatever its addresses are (R5.2 to R5.6). Numbers, in this order: 2, 3, 4, 5. */
 BOGTRUMPET_CHECKED struct bogtrumpet_outer_read bogtrumpet_read_outer(const uint8_t *datagram, size_t length);
 
-/* Where the inner packet stands, whatever the addresses are. Numbers, in this order: 2, 3, 4, 5, 8. */
+/* Where the inner packet stands, whatever the addresses are (R5.9, R5.10). Numbers, in this order: 2, 3, 4, 5, 8. */
 BOGTRUMPET_CHECKED struct bogtrumpet_received bogtrumpet_unwrap(const uint8_t *datagram, size_t length);
 
 /* Writes the packet, any bytes, behind its outer header (R7.10). Numbers, in this order: 23, 15. */
 BOGTRUMPET_CHECKED struct bogtrumpet_written bogtrumpet_wrap(struct bogtrumpet_outer outer, const uint8_t *packet,
                                                              size_t length, uint8_t *out, size_t room);
 
-/* Writes an ICMPv6 Packet Too Big about the packet, to its source, whoever that is (R8.1): 48 bytes and the first 1,232 of the packet.
-   Numbers, in this order: 8 (the packet is under 40 bytes), 15. */
+/* Writes an ICMPv6 Packet Too Big about the packet, to its source, whoever that is (R8.1): 48 bytes, then the packet's first 1,232, or
+   all where it has fewer. Numbers, in this order: 8 (the packet is under 40 bytes), 15. */
 BOGTRUMPET_CHECKED struct bogtrumpet_written bogtrumpet_too_big(struct bogtrumpet_address reporting, uint16_t size,
                                                                 const uint8_t *packet, size_t length, uint8_t *out,
                                                                 size_t room);

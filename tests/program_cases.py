@@ -1,6 +1,6 @@
 #!/usr/bin/env python3
 """program_cases.py FOLDER: writes the inputs of the program test_tunnel to FOLDER/data, one file a case, and to FOLDER/stdout what
-the program of document 01 must print for each, by the model."""
+the program (R17) must print for each, by the model."""
 import sys
 from pathlib import Path
 

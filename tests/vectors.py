@@ -1,6 +1,6 @@
 #!/usr/bin/env python3
 """Writes the cases of the program `test_vectors`, crates/test_vectors/stdin, and the lines that it must print, crates/test_vectors/stdout.
-The lines are computed from document 01 and the RFCs with struct and ipaddress alone."""
+The lines are computed from docs/RULES.md and the RFCs with struct and ipaddress alone."""
 import sys
 from pathlib import Path
 

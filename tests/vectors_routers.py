@@ -1,11 +1,11 @@
-"""Cases of the router list and of an advertisement's lifetimes, by document 01, RFC 4861 and RFC 4191."""
+"""Cases of the router list and of an advertisement's lifetimes, by R13 to R16, RFC 4861 and RFC 4191."""
 import ipaddress
 import struct
 
 from vectors_cases import case, dice, some, v4, yes
 
 
-# The router list, by document 01: due times by address, the list in order.
+# The router list, by R13: due times by address, the list in order.
 ONE, TWO, THREE, FOUR = (v4(f"10.0.0.{i}") for i in (1, 2, 3, 4))
 LAST = 0xffffffff
 
@@ -145,7 +145,7 @@ def many_routers():
             r.asked(f"{i}: asking at {now}", now)
 
 
-# Lifetimes: document 01, "Routers"; RFC 4861, 4.6, and RFC 4191, 2.3.
+# Lifetimes: R16; RFC 4861, 4.6, and RFC 4191, 2.3.
 def walked(options):
     """The options up to the exact end or to the first that breaks the rules, and whether the end was reached."""
     found = []

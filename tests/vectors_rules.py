@@ -1,4 +1,4 @@
-"""Cases of the rules without state, by document 01 and the RFCs that it names."""
+"""Cases of the rules without state, by docs/RULES.md and the RFCs that it names."""
 import ipaddress
 import struct
 
@@ -73,7 +73,7 @@ assert outer(60).hex() == "4500003c00010000402966960a0000020a000001"
 
 
 def read(d):
-    """Document 01, "Receiving", 2 to 5: the number, 0 where none is given."""
+    """R5.2 to R5.6: the number, 0 where none is given."""
     if len(d) < 20 or d[0] >> 4 != 4 or d[0] & 15 < 5 or len(d) < 4 * (d[0] & 15):
         return 2
     h, n = 4 * (d[0] & 15), struct.unpack(">H", d[2:4])[0]
@@ -100,7 +100,7 @@ def show(name, d):
 
 
 def outer_headers():
-    written("wrap", "header of document 01", fields() + PACKET, WHOLE, 60, shown=(0, 20))
+    written("wrap", "header of the worked input", fields() + PACKET, WHOLE, 60, shown=(0, 20))
     show("read back", WHOLE)
     show("no byte", b"")
     show("19 bytes", WHOLE[:19])
@@ -147,7 +147,7 @@ def deliver(name, d):
 
 def received():
     more = b"\xee" * 4
-    deliver("packet of document 01", WHOLE)
+    deliver("packet of the worked input", WHOLE)
     deliver("four bytes of padding", outer(60) + PACKET + more)
     deliver("four bytes behind the packet", outer(64) + PACKET + more)
     deliver("payload of four bytes", outer(64) + inner(4) + more)
@@ -322,7 +322,7 @@ def messages():
         too_big(f"Packet Too Big for packet {i}", inner() + noise(dice.randrange(30)), 128, dice.randrange(65536))
 
 
-# Path sizes: document 01, "Path size" and "Sending".
+# Path sizes: R7, R9, R10.
 PLATEAUS = (65535, 32000, 17914, 8166, 4352, 2002, 1492, 1006, 508, 296, 68)
 
 

@@ -10,6 +10,7 @@ macro_rules! refusals {
         /// 14, Too Big, is none of these: it carries values, and is [`Sent::TooBig`](crate::Sent::TooBig).
         #[derive(Clone, Copy, Debug, PartialEq, Eq, Hash, PartialOrd, Ord)]
         #[repr(u8)]
+        #[non_exhaustive]
         pub enum Refusal {
             $($(#[$doc])* $name = $number,)*
         }

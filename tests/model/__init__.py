@@ -1,20 +1,20 @@
-"""The independent model of the tunnel end, written from document 01 and docs/REPLAY.md alone, never from the Rattle source.
+"""The independent model of the tunnel end, written from the rules (docs/RULES.md) and docs/REPLAY.md alone, never from the Rattle source.
 
 Each module imports only those above it:
 
     octets          bytes, checksums, addresses
     rules           settings, and what a packet must be and how one is written
     node            the node: its calls, path sizes by the plain record
-    formats         the inputs and lines of `replay` and of the program of document 01
+    formats         the inputs and lines of `replay` and of the program (R17)
     builders        datagrams, packets, reports and advertisements from their fields
     faults          for each number the changes of fields that bring it about
     calls           lists of calls in the making
     scenarios       runs of calls that show one rule
-    generator       random lists, bad inputs, inputs of the program of document 01
+    generator       random lists, bad inputs, inputs of the program (R17)
     double_faults   calls with two faults, also as tests/double_faults.txt
     named           the named set, the fixed batches, the stored list
-    checked_values  the values that document 01 states; how often each answer occurs
+    checked_values  the checked values (R18); how often each answer occurs
     wrong           wrong models, and what tells them apart
 
-Comments in quotation marks are sentences of document 01.
+Numbers like R5.3 are rules of docs/RULES.md.
 """

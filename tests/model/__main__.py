@@ -1,16 +1,16 @@
 """The commands of the model.
 
     python3 tests/model run < INPUT               the lines that `replay` must print
-    python3 tests/model program < INPUT           the lines that the program of document 01 must print
+    python3 tests/model program < INPUT           the lines that the program (R17) must print
     python3 tests/model stored                    the list of calls that stands in crates/replay/stdin
     python3 tests/model double-faults             the calls with two faults that stand in tests/double_faults.txt
     python3 tests/model inputs DIR                the named set and the fixed batches, with their expected lines
     python3 tests/model generate SEED COUNT       a replay input of about COUNT calls
     python3 tests/model bad SEED                  a replay input that is bad
     python3 tests/model longest                   a good replay input of the greatest length
-    python3 tests/model generate-program SEED     an input of the program of document 01
+    python3 tests/model generate-program SEED     an input of the program (R17)
     python3 tests/model coverage FILES..          how often each answer occurs in expected lines of `replay`
-    python3 tests/model self-test                 the checked values of document 01
+    python3 tests/model self-test                 the checked values (R18)
 """
 import sys
 from pathlib import Path

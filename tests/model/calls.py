@@ -1,4 +1,4 @@
-"""Replay inputs in the making: calls are steered into a case of document 01 while the model answers them.
+"""Replay inputs in the making: calls are steered into a case of the rules while the model answers them.
 
 Where the answer is known from the faults alone it is compared with the model's, so that the model is not the only one to
 say it.
@@ -153,7 +153,7 @@ class Calls:
         return data
 
     def send_want(self, numbers, n, largest, written, room):
-        """"Order 8, 11, 12, 13, 14, 23, 15"."""
+        """Order 8, 11, 12, 13, 14, 23, 15 (R7.1)."""
         early = [fault for fault in numbers if 0 < fault < 14]
         if early:
             return f"refuse {min(early)}"

@@ -1,4 +1,4 @@
-"""Checks of the model: the values that document 01 states, and how often each answer occurs in expected lines."""
+"""Checks of the model: the checked values (R18), and how often each answer occurs in expected lines."""
 from collections import Counter
 from pathlib import Path
 
@@ -45,7 +45,7 @@ def coverage(*files):
     return 1 if wrong else 0
 
 
-# ---- The values that document 01 states
+# ---- The checked values (R18)
 
 def node(link=1500, routers=(ROUTER,)):
     return Node(Settings([(OWN, 0)], [], list(routers), link))
@@ -182,7 +182,7 @@ CHECKS = (size_checks, report_checks, neighbour_checks, receive_checks, program_
 
 
 def checked():
-    """Text of each value, what the model gives, and what document 01 states."""
+    """Text of each value, what the model gives, and what the rules state (R18)."""
     for checks in CHECKS:
         yield from checks()
 

@@ -1,4 +1,4 @@
-"""The faults of calls: for each number of document 01 the changes that bring it about in a call that would else pass.
+"""The faults of calls: for each number of R4 the changes that bring it about in a call that would else pass.
 
 A call is built from named fields. A fault is a number with changes to fields; a variation changes fields and keeps the
 call accepted.
@@ -11,7 +11,7 @@ NEARLY_FORBIDDEN = [bytes(parts) for parts in ((0, 0, 0, 1), (126, 255, 255, 255
                                                (240, 0, 0, 0), (255, 255, 255, 254))]
 MULTICAST = bytes.fromhex("ff02") + bytes(13) + b"\1"
 GLOBAL = bytes.fromhex("20010db8000000000000000000000007")
-# Quoted total length and the plateau below it, by hand from the list of document 01
+# Quoted total length and the plateau below it, by hand from the list of R9.7
 PLATEAU_BELOW = {69: 68, 296: 68, 297: 296, 508: 296, 509: 508, 1006: 508, 1007: 1006, 1492: 1006, 1493: 1492, 1500: 1492,
                  2002: 1492, 2003: 2002, 4352: 2002, 4353: 4352, 8166: 4352, 8167: 8166, 17914: 8166}
 

@@ -1,4 +1,4 @@
-"""The inputs and lines of `replay` (docs/REPLAY.md) and of the program of document 01."""
+"""The inputs and lines of `replay` (docs/REPLAY.md) and of the program (R17)."""
 from .node import Node
 from .octets import number, u16, u32
 from .rules import Refused, Settings
@@ -138,7 +138,7 @@ def replay(data):
 
 
 def program(data):
-    """All lines of "The program"."""
+    """All lines of the program (R17)."""
     try:
         if len(data) > PROGRAM_LIMIT:
             raise BadInput

@@ -1,4 +1,4 @@
-"""Whole inputs by chance: lists of calls, bad inputs, inputs of the program of document 01."""
+"""Whole inputs by chance: lists of calls, bad inputs, inputs of the program (R17)."""
 import random
 
 from .calls import Calls
@@ -128,7 +128,7 @@ def bad(seed):
     return data
 
 
-# ---- Inputs of the program of document 01
+# ---- Inputs of the program (R17)
 
 def program_input(seed):
     """Lists of the settings and datagrams; one in eight is cut, has a byte too many or refused settings."""

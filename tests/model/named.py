@@ -172,7 +172,7 @@ def scenario_bytes(name, changes, scenario):
 
 
 def program_inputs():
-    """Inputs of the program of document 01 that each show what their name says."""
+    """Inputs of the program (R17) that each show what their name says."""
     own, peer, other, router = (bytes((10, 0, 0, last)) for last in (1, 2, 3, 9))
     example = [(0, datagram(packet(link_local(source), link_local(own)), peer, own)) for source in (peer, other)]
     start = encode_lists(Settings([(own, 0)], [], []))

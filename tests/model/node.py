@@ -10,11 +10,11 @@ class Node:
         self.settings = settings
         self.latest = 0
         self.record = []                                      # (neighbour, candidate, latest time)
-        self.routers = [(router, 0) for router in settings.routers]  # "At setup all are due at time 0"
+        self.routers = [(router, 0) for router in settings.routers]  # At setup all are due at time 0 (R2.12)
         self.identification = settings.identification
 
     def raise_time(self, time):
-        """"an earlier one is read as the latest"."""
+        """An earlier one is read as the latest (R1.10)."""
         self.latest = max(self.latest, time)
 
     def listed(self, address):
@@ -25,7 +25,7 @@ class Node:
         return self.settings.locators[index][0]
 
     def size(self, neighbour):
-        """"under 600 s old and fewer than 64 other neighbours have had an accepted report since; otherwise L"."""
+        """Under 600 s old and fewer than 64 other neighbours have had an accepted report since; otherwise L (R10.1)."""
         others = set()
         for reporter, candidate, time in reversed(self.record):
             if reporter == neighbour:
@@ -34,7 +34,7 @@ class Node:
         return self.settings.link
 
     def receive(self, interface, datagram):
-        """"Order 2 to 10"; where the inner packet starts, and its length."""
+        """Order 2 to 10 (R5.1); where the inner packet starts, and its length."""
         header, total = outer_header(datagram)
         need(checksum_right(datagram[:header]), 3)
         need(datagram[9] == 41, 4)
@@ -50,7 +50,7 @@ class Node:
         return f"deliver {header} {length}"
 
     def send(self, index, time, next_hop, output, packet):
-        """"Order 8, 11, 12, 13, 14, 23, 15"; writes into `output`."""
+        """Order 8, 11, 12, 13, 14, 23, 15 (R7.1); writes into `output`."""
         self.raise_time(time)
         need(inner_length(packet) == len(packet), 8)
         source = self.locator(index)
@@ -69,14 +69,14 @@ class Node:
         return f"wrapped {20 + len(packet)}"
 
     def too_big(self, packet, largest, output):
-        """"Too little room for the message gives 15"."""
+        """Too little room for the message gives 15 (R8.3)."""
         message = b"" if gets_no_message(packet) else too_big_message(self.settings.reporting, packet, largest)
         need(len(message) <= len(output), 15)
         output[:len(message)] = message
         return f"too-big {largest} {len(message)}"
 
     def report(self, time, message):
-        """"Order 16, 17, 18, 19"; an accepted report is "the new last entry" of the record."""
+        """Order 16, 17, 18, 19 (R9.1); an accepted report is the new last entry (R11.5) of the record."""
         self.raise_time(time)
         need(len(message) >= 28, 16)
         need(checksum_right(message), 16)
@@ -97,7 +97,7 @@ class Node:
         return f"accepted {dotted(neighbour)} {candidate}"
 
     def replace_routers(self, time, routers):
-        """"a router in both lists keeps its due time, a new one is due now"."""
+        """A router in both lists keeps its due time, a new one is due now (R2.13)."""
         self.raise_time(time)
         self.settings.check_routers(routers)
         due = dict(self.routers)
@@ -108,7 +108,7 @@ class Node:
         self.routers = [(other, time if other == router else due) for other, due in self.routers]
 
     def ask(self, index, time, output):
-        """"Order 11, 22, 15: the router with the earliest due time that is not in the future, lowest place on a tie"."""
+        """Order 11, 22, 15: the router with the earliest due time that is not in the future, lowest place on a tie (R13.1, R13.3)."""
         self.raise_time(time)
         source = self.locator(index)
         router, due = min(self.routers, key=lambda entry: entry[1], default=(None, None))
@@ -119,7 +119,7 @@ class Node:
         return dotted(router)
 
     def advertisement(self, time, packet):
-        """"order 8 as in receiving, 20, 21"; the router's next due time follows from the smallest lifetime."""
+        """Order 8 as in receiving, 20, 21 (R15.1); the router's next due time follows from the smallest lifetime."""
         self.raise_time(time)
         packet = packet[:inner_length(packet)]
         source, message = packet[8:24], packet[40:]

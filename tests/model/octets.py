@@ -27,12 +27,12 @@ def checksum_sum(data):
 
 
 def checksum_right(data):
-    """"right when the RFC 1071 sum that includes it is FFFF"."""
+    """Right when the RFC 1071 sum that includes it is FFFF (R1.5)."""
     return checksum_sum(data) == 0xffff
 
 
 def checksum_field(data):
-    """"the complement of the sum taken with that field 0"."""
+    """The complement of the sum taken with that field 0 (R1.6)."""
     return u16(0xffff - checksum_sum(data))
 
 
@@ -41,7 +41,7 @@ def pseudo_header(source, destination, length):
 
 
 def forbidden(address):
-    """"0.0.0.0, 127.0.0.0/8, 224.0.0.0/4, 255.255.255.255"."""
+    """0.0.0.0, 127.0.0.0/8, 224.0.0.0/4, 255.255.255.255 (R3.1)."""
     return address in (bytes(4), b"\xff" * 4) or address[0] == 127 or 224 <= address[0] <= 239
 
 
@@ -51,7 +51,7 @@ def isatap_address(prefix, identifier, address):
 
 
 def link_local(address):
-    """"Those we form have 00"."""
+    """Those we form have 00 (R6.3)."""
     return isatap_address(LINK_LOCAL, "00005efe", address)
 
 

@@ -5,7 +5,7 @@ PLATEAUS = (65535, 32000, 17914, 8166, 4352, 2002, 1492, 1006, 508, 296, 68)
 
 
 class Refused(Exception):
-    """A call was given one of the "Numbers given back"."""
+    """A call was given one of the numbers of R4."""
 
     def __init__(self, number):
         super().__init__(number)
@@ -18,7 +18,7 @@ def need(holds, number):
 
 
 class Settings:
-    """Locators are pairs (address, interface). Defaults as document 01 states them."""
+    """Locators are pairs (address, interface). Defaults as R2.10 states them."""
 
     def __init__(self, locators, prefixes, routers, link=1500, ttl=64, interval=120, identification=1, reporting=None):
         self.locators, self.prefixes, self.routers = locators, prefixes, routers
@@ -30,7 +30,7 @@ class Settings:
         return address in [locator for locator, _ in self.locators]
 
     def check(self):
-        """The rules under "Settings"; 1 where they are broken."""
+        """The rules of settings (R2); 1 where they are broken."""
         need(1 <= len(self.locators) <= 8, 1)
         need(len(set(self.locators)) == len(self.locators), 1)
         need(not any(forbidden(locator) for locator, _ in self.locators), 1)
@@ -45,7 +45,7 @@ class Settings:
         need(self.reporting != UNSPECIFIED, 1)
 
     def check_routers(self, routers):
-        """"Routers 0 to 16, distinct"; none forbidden, none a locator address."""
+        """Routers 0 to 16, distinct (R2.4); none forbidden, none a locator address."""
         need(len(routers) <= 16, 1)
         need(len(set(routers)) == len(routers), 1)
         need(not any(forbidden(router) for router in routers), 1)
@@ -55,7 +55,7 @@ class Settings:
         return prefix == LINK_LOCAL or prefix in self.prefixes
 
     def isatap(self, address):
-        """"an on-link prefix, then 00 or 02, 00, 5E, FE, then the IPv4 address"."""
+        """An on-link prefix, then 00 or 02, 00, 5E, FE, then the IPv4 address (R6.1)."""
         return self.on_link(address[:8]) and address[8] in (0, 2) and address[9:12] == b"\0\x5e\xfe"
 
 
@@ -81,14 +81,14 @@ def inner_length(packet):
 
 
 def inner_source_bad(source):
-    """"ff00::/8, `::`, `::1`, or 96 zero bits followed by a forbidden IPv4 address"."""
+    """ff00::/8, `::`, `::1`, or 96 zero bits followed by a forbidden IPv4 address (R5.11)."""
     if source[0] == 0xff or source in (UNSPECIFIED, LOOPBACK):
         return True
     return source[:12] == bytes(12) and forbidden(source[12:])
 
 
 def gets_no_message(packet):
-    """"source is multicast or `::`, or its first next header is 58 with payload and the type is below 128 or is 137"."""
+    """Source is multicast or `::`, or its first next header is 58 with payload and the type is below 128 or is 137 (R8.2)."""
     source, payload = packet[8:24], packet[40:]
     if source[0] == 0xff or source == UNSPECIFIED:
         return True
@@ -103,12 +103,12 @@ def icmpv6_packet(source, destination, hop_limit, message):
 
 
 def too_big_message(reporting, packet, size):
-    """"reporting address to the packet's source, hop limit 64, type 2, code 0, M, then the first min(n, 1,232) bytes"."""
+    """Reporting address to the packet's source, hop limit 64, type 2, code 0, M, then the first min(n, 1,232) bytes (R8.1)."""
     return icmpv6_packet(reporting, packet[8:24], 64, bytes([2, 0, 0, 0]) + u32(size) + packet[:1232])
 
 
 def solicitation(source, router):
-    """"our link-local address to the router's, hop limit 255, type 133, code 0, no options"."""
+    """Our link-local address to the router's, hop limit 255, type 133, code 0, no options (R14.1)."""
     return icmpv6_packet(link_local(source), link_local(router), 255, bytes([133, 0, 0, 0]) + bytes(4))
 
 
@@ -134,6 +134,6 @@ def smallest_lifetime(message):
 
 
 def reported_candidate(message, quoted):
-    """"bytes 6 and 7; if 0, the largest plateau below the quoted total length"; 0 if there is none."""
+    """Bytes 6 and 7; if 0, the largest plateau below the quoted total length (R9.6); 0 if there is none."""
     below = [plateau for plateau in PLATEAUS if plateau < number(quoted[2:4])]
     return number(message[6:8]) or max(below, default=0)

@@ -158,7 +158,7 @@ def times_going_back(calls):
 
 
 def neighbours(calls, count=None, again=None):
-    """"the 63rd other neighbour leaves a size, the 64th removes it"; a repeated or refused report counts no more."""
+    """The 63rd other neighbour leaves a size, the 64th removes it (R18.10); a repeated or refused report counts no more."""
     count = count or calls.random.choice((62, 63, 64, 65))
     again = calls.random.random() < 0.5 if again is None else again
     first, now, others = calls.fresh(), calls.node.latest, []
@@ -228,7 +228,7 @@ def ask_when_due(calls, router, due):
 
 
 def waits(interval):
-    """Router lifetime, options and the wait after them, by hand from "Routers"."""
+    """Router lifetime, options and the wait after them, by hand from R16."""
     longer, many = 2 * interval + 3, 0xffffffff
     return [(0, [], 3600), (1, [], interval), (2 * interval, [], interval), (2 * interval + 1, [], interval),
             (2 * interval + 2, [], interval + 1), (65535, [], max(interval, 32767)), (0, [prefix_option(4, many)], 3600),

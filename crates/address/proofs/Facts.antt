@@ -149,7 +149,7 @@ module _ (a : List ℕ) where
         go true d h = let f = d .holds refl in record { onLink = f .0; identifier = f .1; embedded = cc }
         go false d h = let z : _≡_ {A = ℕ} 0 1 = cc in absurd (omega arith)
 
-    -- and the address that is embedded is found
+    -- the IPv4 address that an ISATAP address embeds is found
     pub isatap-embedded : (v : ℕ) → Isatap prefixes count a v → embeddedIn prefixes count a ≡ Ipv4 v
     unfolding embeddedIn lastQuad EndsWith
     isatap-embedded v f = rw (both .passes (f .onLink, f .identifier), f .embedded)

@@ -48,6 +48,6 @@ module _ (a : List ℕ) (v : ℕ) (h : isLinkLocalIsatap a v ≡ true) where
   link-local-isatap-embeds ps count =
       link-local-embeds ps count a (link-local-parts .0) (link-local-parts .1) ∙ ap Ipv4 (link-local-parts .2)
 
-  -- and is no bad source
+  -- a link-local ISATAP address is no bad source
   pub link-local-isatap-good : (forbidden : Bool) → isBadSourceWith forbidden a ≡ false
   link-local-isatap-good forbidden = link-local-good forbidden a (link-local-parts .0)

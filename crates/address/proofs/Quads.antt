@@ -39,7 +39,7 @@ module _ (a b c d e f g h : ℕ) (b-byte : b < 256) (c-byte : c < 256) (d-byte :
           let d-same = eqb-true d h (and-right (eqb a e && eqb b f && eqb c g) (eqb d h) q) in
           eq-eqb (quadOf a b c d) (quadOf e f g h) (omega arith)
 
--- the same for two halves of 32 bits
+-- two numbers of two halves of 32 bits are the same exactly if the halves are
 pub wide-same : (a b c d : ℕ) → b < 4294967296 → d < 4294967296 → eqb (wideOf a b) (wideOf c d) ≡ (eqb a c && eqb b d)
 wide-same a b c d h k = alike _ _ halves number
   where

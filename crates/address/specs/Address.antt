@@ -16,7 +16,7 @@ quadOf a b c d = a * 16777216 + b * 65536 + c * 256 + d
 abbrev pub isWithin : ℕ → ℕ → ℕ → Bool
 isWithin low high a = leb low a && leb a high
 
--- document 01, "Settings": 0.0.0.0, 127.0.0.0/8, 224.0.0.0/4, 255.255.255.255
+-- R3.1: 0.0.0.0, 127.0.0.0/8, 224.0.0.0/4, 255.255.255.255
 unfoldable pub isForbidden : ℕ → Bool
 isForbidden a =
     eqb a (quadOf 0 0 0 0)
@@ -45,28 +45,28 @@ isUnder a p = agree 8 p a
 abbrev pub linkLocalPrefix : List ℕ
 linkLocalPrefix = 0xFE ∷ 0x80 ∷ 0 ∷ 0 ∷ 0 ∷ 0 ∷ 0 ∷ 0 ∷ []
 
--- document 01, "Routers": link-local (fe80::/64)
+-- R15.3: link-local (fe80::/64)
 abbrev pub isLinkLocal : List ℕ → Bool
 isLinkLocal a = isUnder a linkLocalPrefix
 
--- document 01, "Settings": up to 8 on-link prefixes, beside fe80::/64 which always counts
+-- R2.3: up to 8 on-link prefixes, beside fe80::/64 which always counts
 unfoldable pub isOnLink : List (List ℕ) → ℕ → List ℕ → Bool
 isOnLink prefixes count a = isLinkLocal a || anyOf (isUnder a) (take count prefixes)
 
--- document 01, "Receiving": behind the prefix 00 or 02, 00, 5E, FE
+-- R6.1: behind the prefix 00 or 02, 00, 5E, FE
 unfoldable pub isIdentifier : List ℕ → Bool
 isIdentifier a =
     (eqb (getD a 8 0) 0x00 || eqb (getD a 8 0) 0x02) && eqb (getD a 9 0) 0x00 && eqb (getD a 10 0) 0x5E && eqb (getD a 11 0) 0xFE
 
--- document 01, "Receiving": an ISATAP address has an on-link prefix, the identifier, and then the IPv4 address
+-- R6.1: an ISATAP address has an on-link prefix, the identifier, and then the IPv4 address
 unfoldable pub embeddedIn : List (List ℕ) → ℕ → List ℕ → Embedded
 embeddedIn prefixes count a = cond (isOnLink prefixes count a && isIdentifier a) (Ipv4 (lastQuad a)) Nothing
 
--- document 01, "Receiving": an ISATAP address with the link-local prefix, which embeds v
+-- R6.1, R6.2: an ISATAP address with the link-local prefix, which embeds v
 unfoldable pub isLinkLocalIsatap : List ℕ → ℕ → Bool
 isLinkLocalIsatap a v = isLinkLocal a && (isIdentifier a && eqb (lastQuad a) v)
 
--- document 01, "Receiving": those we form have 00
+-- R6.3: those we form have 00
 abbrev pub firstIdentifierByte : ℕ
 firstIdentifierByte = 0
 
@@ -85,16 +85,16 @@ areZero (suc n) a = areZero n a && eqb (getD a n 0) 0
 abbrev pub isMulticast : List ℕ → Bool
 isMulticast a = eqb (getD a 0 0) 0xFF
 
--- document 01, "Sending" and "Settings": multicast, or `::`
+-- R2.9, R8.2: multicast, or `::`
 unfoldable pub isMulticastOrUnspecified : List ℕ → Bool
 isMulticastOrUnspecified a = isMulticast a || areZero 12 a && eqb (lastQuad a) 0
 
--- document 01, "Receiving", bad inner source: ff00::/8, `::`, `::1`, or 96 zero bits followed by a forbidden IPv4 address,
+-- R5.11, bad inner source: ff00::/8, `::`, `::1`, or 96 zero bits followed by a forbidden IPv4 address,
 -- where `forbidden` says whether the last 32 bits are one
 unfoldable pub isBadSourceWith : Bool → List ℕ → Bool
 isBadSourceWith forbidden a =
     isMulticastOrUnspecified a || areZero 12 a && eqb (lastQuad a) 1 || areZero 12 a && forbidden
 
--- a bad inner source, where document 01's addresses are forbidden and no more
+-- a bad inner source (R5.11), where the addresses of R3.1 are forbidden and no more
 abbrev pub isBadSource : List ℕ → Bool
 isBadSource a = isBadSourceWith (isForbidden (lastQuad a)) a

@@ -12,7 +12,7 @@ use Rattle.address.specs.Address.{quadOf, linkLocalPrefix}
 abbrev pub Within : ℕ → ℕ → ℕ → Type 0
 Within low high a = (low ≤ a) × (a ≤ high)
 
--- document 01, "Settings": 0.0.0.0, 127.0.0.0/8, 224.0.0.0/4, 255.255.255.255
+-- R3.1: 0.0.0.0, 127.0.0.0/8, 224.0.0.0/4, 255.255.255.255
 unfoldable pub Forbidden : ℕ → Type 0
 Forbidden a =
     (a ≡ quadOf 0 0 0 0)
@@ -24,15 +24,15 @@ Forbidden a =
 unfoldable pub Under : List ℕ → List ℕ → Type 0
 Under a prefix = (i : ℕ) → i < 8 → getD a i 0 ≡ getD prefix i 0
 
--- document 01, "Routers": link-local (fe80::/64)
+-- R15.3: link-local (fe80::/64)
 abbrev pub LinkLocal : List ℕ → Type 0
 LinkLocal a = Under a linkLocalPrefix
 
--- document 01, "Settings": under fe80::/64, or under one of the first `count` prefixes
+-- R2.3, R6.2: under fe80::/64, or under one of the first `count` prefixes
 abbrev pub OnLink : List (List ℕ) → ℕ → List ℕ → Type 0
 OnLink prefixes count a = Some (Under a) (linkLocalPrefix ∷ take count prefixes)
 
--- document 01, "Receiving": behind the prefix 00 or 02, 00, 5E, FE
+-- R6.1: behind the prefix 00 or 02, 00, 5E, FE
 unfoldable pub Identifier : List ℕ → Type 0
 Identifier a =
     ((getD a 8 0 ≡ 0x00) ⊎ (getD a 8 0 ≡ 0x02)) × (getD a 9 0 ≡ 0x00) × (getD a 10 0 ≡ 0x5E) × (getD a 11 0 ≡ 0xFE)
@@ -41,7 +41,7 @@ Identifier a =
 unfoldable pub EndsWith : List ℕ → ℕ → Type 0
 EndsWith a v = quadOf (getD a 12 0) (getD a 13 0) (getD a 14 0) (getD a 15 0) ≡ v
 
--- document 01, "Receiving": an ISATAP address has an on-link prefix, the identifier, and then the IPv4 address v
+-- R6.1: an ISATAP address has an on-link prefix, the identifier, and then the IPv4 address v
 pub record Isatap (prefixes : List (List ℕ)) (count : ℕ) (a : List ℕ) (v : ℕ) : Type 0 where
   pub onLink : OnLink prefixes count a
   pub identifier : Identifier a
@@ -67,6 +67,6 @@ Loopback a = ZeroBefore 15 a × (getD a 15 0 ≡ 1)
 abbrev pub ZeroThen : (ℕ → Type 0) → List ℕ → Type 0
 ZeroThen forbidden a = ZeroBefore 12 a × ((v : ℕ) × EndsWith a v × forbidden v)
 
--- document 01, "Receiving", bad inner source: ff00::/8, `::`, `::1`, or 96 zero bits followed by a forbidden IPv4 address
+-- R5.11, bad inner source: ff00::/8, `::`, `::1`, or 96 zero bits followed by a forbidden IPv4 address
 unfoldable pub BadSource : (ℕ → Type 0) → List ℕ → Type 0
 BadSource forbidden a = Multicast a ⊎ (Unspecified a ⊎ (Loopback a ⊎ ZeroThen forbidden a))

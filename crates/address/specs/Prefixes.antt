@@ -1,4 +1,4 @@
--- Prefixes as the on-link test takes them (document 01, "Settings": "up to 8 on-link prefixes of 64 bits").
+-- Prefixes as the on-link test takes them (R2.3).
 use Prim.Native.Nat.{ℕ, _+_}
 use mathlib.Core.List.{List, [], _∷_}
 use lib.ListN.{getD}

@@ -1,4 +1,4 @@
--- Asking (document 01, "Routers"): the order 11, 22, 15, the solicitation, and the router's next due time.
+-- Asking (R13): the order 11, 22, 15, the solicitation, and the router's next due time.
 use Prim.Native.Nat.{ℕ, _+_}
 use mathlib.Core.Bool.{cond}
 use mathlib.Core.List.{List, [], _∷_}
@@ -51,7 +51,7 @@ askedOf s routers now locator room = carriedOut (askPlan s routers now locator r
 unfoldable pub askedOutput : Settings → RouterList → ℕ → ℕ → List ℕ → List ℕ
 askedOutput s routers now locator out = plannedOutput (askPlan s routers now locator (length out)) out
 
--- document 01's number and values: the router's IPv4 address
+-- number and values (R1.17): the router's IPv4 address
 abbrev pub askGiven : AskAnswer → Given
 askGiven (Router a) = answered (a ∷ [])
 askGiven (Refused refusal) = refused refusal

@@ -29,7 +29,7 @@ enum Plan {
 }
 
 impl AskAnswer {
-    // Document 01's number, 0 where a router is asked.
+    // The number (R4), 0 where a router is asked.
     pub fn number(self) -> u8
         ensures { λ r. ⌜ r ≡ askGiven self .number ⌝ }
     {

@@ -69,7 +69,7 @@ module _ (node : Node) (all : List ℕ) (size : ℕ) (hop : List ℕ) (k time : 
 abbrev pub neighbourAt : ℕ → ℕ → ℕ
 neighbourAt first i = (first + i) % 2 ^ 32
 
--- the sum of the sizes in force toward the first n of them
+-- the sum of the sizes in force toward n neighbours from `first` on
 abbrev pub sizesToward : PathTable → ℕ → ℕ → ℕ → ℕ → ℕ
 sizesToward table link first now zero = 0
 sizesToward table link first now (suc n) = sizesToward table link first now n + inForce link (keptIn table (neighbourAt first n) now)

@@ -1,4 +1,4 @@
--- A plain answer read back has document 01's number and values. Assumes nothing.
+-- A plain answer read back has the call's number and values (R1.17). Assumes nothing.
 use mathlib.Core.Path.{_≡_, refl, ap, _∙_}
 use mathlib.Core.Bool.{Bool, cond}
 use mathlib.Core.List.{[], _∷_}

@@ -271,7 +271,7 @@ module _ {M : Type 1} (𝓤 : URA M) (H : Heap 𝓤) (A : Atoms 𝓤) (looker ca
             keep ! (0 ∷ 1 ∷ 2 ∷ 3 ∷ []) $ by ! (exits (ws .0) (final s ws) r u l (so s ν sized r (ws .0) (final s ws)
             (e .0, e .1, subst (λ (f : Outs (κ, κs) output (yes, tt)). now (f .0) ≡ written (κ, κs) h s x) (sym (outs-last (κ, κs) ps output (yes, tt) x (final s ws, tt))) (e .2)))))))))))))))))))))))
 
--- it meets its contract
+-- the function meets its contract
 module _ {M : Type 1} (𝓤 : URA M) (H : Heap 𝓤) (𝓜 : Model 𝓤 H) (𝓖 : GhostRules 𝓤 H) (𝓡 : Running 𝓤 H 𝓜) (env : Env) (key looker callee : Name) (m j : ℕ) (ok : AllWithin (suc m) (j ∷ [])) (args : List (Arg 𝓤 H (𝓖 .A) (suc m))) (w : Width) (R : RattleType) (ρ : Ty)
     (found : (κ₁ : Lfts 1) → Node → Denots (typesAt (slotsOf (chosenOf args) []) κ₁) → ℕ) (answer : (κs : Lfts (suc m)) → Node → ℕ → Denots (rest 𝓤 H (𝓖 .A) looker callee m j ok args w R ρ κs) → R .Denot)
     (next : (κs : Lfts (suc m)) → Node → ℕ → Denots (rest 𝓤 H (𝓖 .A) looker callee m j ok args w R ρ κs) → Node) (written : (κs : Lfts (suc m)) → Node → ℕ → Denots (rest 𝓤 H (𝓖 .A) looker callee m j ok args w R ρ κs) → List ℕ)

@@ -72,7 +72,7 @@ module _ {M : Type 1} (𝓤 : URA M) (H : Heap 𝓤) (A : Atoms 𝓤) (W : Given
 abbrev pub row-of : Row → Node → (b o : ℕ) → GName → RefT (List ℕ)
 row-of r h b o γ = record { ptr = (b, o + table-at + r .at); name = γ; now = r .numbers (h .paths) }
 
--- its machine value
+-- the machine value of a reference to a row of the node at (b, o)
 abbrev pub row-val : Row → (b o : ℕ) → Val
 row-val r b o = sliceVal (b, o + table-at + r .at) mostNeighbours
 

@@ -1,4 +1,4 @@
--- Document 01's number and values ("Numbers given back") of a plain answer, as a caller reads them.
+-- Number and values (R4, R1.17) of a plain answer, as a caller reads them.
 use mathlib.Core.Bool.{cond}
 use mathlib.Core.List.{[], _∷_}
 use lib.Dec.{eqb}

@@ -35,18 +35,18 @@ nodeAfter node step = record {
   latest = step .latest;
 }
 
--- of a size report
+-- of a size report: the plain answer, and the next node
 unfoldable pub reportedStep : Reported → ReportedStep
 reportedStep s = record { answer = plainReported (s .answer); node = s .node }
 
--- of a new router list
+-- of a new router list: 1, or 0, and the next node
 unfoldable pub replacedStep : Replaced → NumberStep
 replacedStep s = record { answer = listGiven (s .answer) .number; node = s .node }
 
--- of asking
+-- of asking: the plain answer, and the next node
 unfoldable pub askedStep : Asked → AskedStep
 askedStep s = record { answer = plainAsked (s .answer); node = s .node }
 
--- of an advertisement
+-- of an advertisement: the plain answer, and the next node
 unfoldable pub heardStep : Heard → HeardStep
 heardStep s = record { answer = plainHeard (s .answer); node = s .node }

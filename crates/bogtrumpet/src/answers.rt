@@ -1,4 +1,4 @@
-// Each call's answer as a struct of C: document 01's number, 0 where the call was not refused, and the values that go with it. A value
+// Each call's answer as a struct of C: the number (R4), 0 where the call was not refused, and the values that go with it. A value
 // that an answer does not have is 0.
 use asking::AskAnswer;
 use hearing::HeardAnswer;

@@ -1,7 +1,6 @@
 -- Answers as plain numbers and structs, for C. What an answer does not have is 0.
 use Prim.Native.Nat.{ℕ}
 use mathlib.Core.Bool.{true, false}
-use mathlib.Core.List.{[], _∷_}
 use lib.Dec.{ltb}
 use Rattle.address.specs.Address.{embeddedIn, linkLocalOf}
 use Rattle.address.specs.Prefixes.{rowsOf}
@@ -10,7 +9,6 @@ use Rattle.address.specs.declared.Embedded.the-variants.{Ipv4, Nothing}
 use Rattle.header.specs.declared.wrap.OuterFields.{OuterFields}
 use Rattle.header.specs.declared.wrap.Written as wrap
 use Rattle.header.specs.declared.wrap.Written.the-variants.{Length, Refused}
-use Rattle.refusals.specs.Given.{Given, readBack}
 use Rattle.refusals.specs.Refusals.{numberOf}
 use Rattle.bogtrumpet_rules.specs.declared.addresses.Address.{Address}
 use Rattle.bogtrumpet_rules.specs.declared.addresses.Prefixes.{Prefixes}
@@ -22,10 +20,6 @@ use Rattle.bogtrumpet_rules.specs.declared.writers.Outer.{Outer}
 abbrev pub plainWritten : wrap.Written → Written
 plainWritten (Length n) = record { number = 0; length = n }
 plainWritten (Refused refusal) = record { number = numberOf refusal; length = 0 }
-
--- document 01's number and values of it
-abbrev pub writtenBack : Written → Given
-writtenBack a = readBack (a .number) (a .length ∷ [])
 
 -- the fields of an outer header: any don't-fragment byte but 0 sets the flag
 abbrev pub fieldsIn : Outer → OuterFields
@@ -43,10 +37,10 @@ abbrev pub plainEmbedded : address.Embedded → Embedded
 plainEmbedded (Ipv4 a) = record { found = true; address = a }
 plainEmbedded Nothing = record { found = false; address = 0 }
 
--- document 01, "Receiving": "An ISATAP address has an on-link prefix, then 00 or 02, 00, 5E, FE, then the IPv4 address"
+-- an ISATAP address has an on-link prefix, then 00 or 02, 00, 5E, FE, then the IPv4 address (R6.1)
 unfoldable pub isatapIn : Prefixes → Address → Embedded
 isatapIn prefixes a = plainEmbedded (embeddedIn (rowsOf (prefixes .bytes)) (prefixes .count) (a .bytes))
 
--- document 01, "Receiving": "Those we form have 00"
+-- the link-local ISATAP address of an IPv4 address, with 00 (R6.3)
 unfoldable pub linkLocalIn : ℕ → Address
 linkLocalIn a = record { bytes = linkLocalOf a }

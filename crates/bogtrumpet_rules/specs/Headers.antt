@@ -1,4 +1,4 @@
--- Headers read and judged, for C (document 01, "Receiving"): the number, 0 where nothing is refused, and what was read.
+-- Headers read and judged, for C (R5): the number, 0 where nothing is refused, and what was read.
 use Prim.Native.Nat.{ℕ}
 use mathlib.Core.Bool.{cond}
 use mathlib.Core.List.{List}
@@ -34,7 +34,7 @@ openedIn d o =
     let p : List ℕ = payloadOf d o in
     cond (isInnerMalformed (length p) (innerOf p)) (refusedIn InnerMalformed) (record { number = 0; offset = o .header; length = innerOf p .length })
 
--- 2 to 5 before it
+-- 2 to 5, then 8, else the inner packet
 abbrev pub unwrappedAs : outer.OuterRead → List ℕ → Received
 unwrappedAs (Header o) d = openedIn d o
 unwrappedAs (Refused r) d = refusedIn r

@@ -1,4 +1,4 @@
-// Headers, read and judged: document 01's number, 0 where nothing is refused, and what was read. A field that does not apply is 0.
+// Headers, read and judged: the number (R4), 0 where nothing is refused, and what was read. A field that does not apply is 0.
 use header::fields;
 use header::inner;
 use header::outer;

@@ -1,4 +1,4 @@
-// What is written into lent bytes: the answer is document 01's number, and with 0 the length written. A refusal writes nothing.
+// What is written into lent bytes: the answer is the number (R4), and with 0 the length written. A refusal writes nothing.
 use crate::addresses::Address;
 use header::wrap;
 use header::wrap::OuterFields;

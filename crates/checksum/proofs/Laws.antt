@@ -89,15 +89,6 @@ sum-moved start a t b ea et fits ba bt bb =
     ∙ sym (sum-folded (start + wordSum t) (a ++ b) fits (bytes-append a b ba bb))
 
 module _ (start : ℕ) (a b : List ℕ) (even : length a % 2 ≡ 0) (fits : start < 2 ^ 32) (ba : Bytes a) (bb : Bytes b) where
-  -- of two parts, the second is summed from the sum of the first
-  pub sum-append : onesSumFrom start (a ++ b) ≡ onesSumFrom (onesSumFrom start a) b
-  sum-append =
-      sum-folded start (a ++ b) fits (bytes-append a b ba bb)
-      ∙ ap folded (omega (arith, wordSum-append a b even))
-      ∙ sym (folded-folded (start + wordSum a) (wordSum b))
-      ∙ ap (λ (x : ℕ). folded (x + wordSum b)) (sym (sum-folded start a fits ba))
-      ∙ sym (sum-folded (onesSumFrom start a) b (omega (arith, sum-word start a fits ba)) bb)
-
   pub sum-withWord : (x : ℕ) → x ≤ allOnes → onesSumFrom start (withWord a x b) ≡ folded (start + wordSum a + wordSum b + x)
   unfolding wordSum
   sum-withWord x h =

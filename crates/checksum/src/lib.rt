@@ -3,7 +3,7 @@ ghost use mathlib.Core.Path.{_≡_};
 ghost use Prim.Native.Nat.{_+_, _*_, _≤_, _<_, min};
 ghost use mathlib.Core.List.{[]};
 ghost use lib.ListN.{length, drop};
-ghost use Rattle.checksum.specs.Sum.{onesSum, onesSumFrom, onesComplement, isRight, isRightFrom};
+ghost use Rattle.checksum.specs.Sum.{onesSumFrom, onesComplement, isRight, isRightFrom};
 ghost use Rattle.checksum.specs.Folding.{wordSum, folded, chunk};
 
 // The bytes that are added up before the carries are brought back.
@@ -13,14 +13,8 @@ const CARRY: u64 = 65536;
 // Sixteen one bits.
 const ALL_ONES: u16 = 65535;
 
-// The one's complement sum of the words of s.
-pub fn sum(s: &[u8]) -> u16
-    ensures { λ r. ⌜ r ≡ onesSum (now (s .entry)) ⌝ }
-{
-    sum_from(0, s)
-}
-
-// The same, continued from a start value: the sum of what stands before s, or any words that belong to it.
+// The one's complement sum of the words of s, continued from a start value: the sum of what stands before s, or any words that belong to
+// it.
 pub fn sum_from(start: u32, s: &[u8]) -> u16
     ensures { λ r. ⌜ r ≡ onesSumFrom start (now (s .entry)) ⌝ }
 {
@@ -58,7 +52,7 @@ pub fn right(s: &[u8]) -> bool
     right_from(0, s)
 }
 
-// The same, continued from a start value.
+// Whether the checksum that s holds is right, the sum continued from a start value.
 pub fn right_from(start: u32, s: &[u8]) -> bool
     ensures { λ r. ⌜ r ≡ isRightFrom start (now (s .entry)) ⌝ }
 {
@@ -115,7 +109,7 @@ fn words(s: &[u8]) -> u32
     sum + last_words(&s[i..])
 }
 
-// The same of fewer than 16 bytes: one word a turn, then an odd last byte, padded with a zero byte.
+// The exact sum of the words of fewer than 16 bytes: one word a turn, then an odd last byte, padded with a zero byte.
 fn last_words(s: &[u8]) -> u32
     requires { ⌜ length (now s) < 16 ⌝ }
     ensures { λ r. ⌜ (r ≡ wordSum (now (s .entry))) × (r ≤ 65535 * 8) ⌝ }
@@ -148,7 +142,7 @@ fn eight_words(s: &[u8], i: usize) -> u32
         + word_at(s, i + 14)
 }
 
-// The same of sixteen words.
+// The exact sum of the sixteen words from i on: what it takes off the sum of what is left.
 fn sixteen_words(s: &[u8], i: usize) -> u32
     requires { ⌜ i + 31 < length (now s) ⌝ }
     ensures { λ r. ⌜ (wordSum (drop i (now (s .entry))) ≡ r + wordSum (drop (i + 32) (now (s .entry)))) × (r ≤ 65535 * 16) ⌝ }

@@ -7,7 +7,6 @@ use Rattle.settings.specs.Settings.{areRoutersRight}
 use Rattle.routers.specs.Routers.{live}
 use Rattle.reports.proofs.AcceptsLaws.{reported-exactly}
 use Rattle.sending.proofs.ExactlyLaws.{sent-exactly}
-use Rattle.receiving.specs.Admitted.{DeliversExactly}
 use Rattle.receiving.proofs.Delivered.{delivers-exactly}
 use Rattle.asking.proofs.Laws.{asked-exactly}
 use Rattle.hearing.proofs.Laws.{heard-exactly}
@@ -36,7 +35,7 @@ relists n addresses count time =
     }
 
 exactly : (n : Node) → Exactly n
-unfolding DeliversExactly receiveOf partIn sendOf sentBy sendOutput reportOf reportAnswerOf askOf askedBy askOutput hearOf heardBy
+unfolding receiveOf partIn sendOf sentBy sendOutput reportOf reportAnswerOf askOf askedBy askOutput hearOf heardBy
 exactly n =
     let s = n .service .settings in
     let routers = n .service .routers in

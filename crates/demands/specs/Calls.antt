@@ -33,7 +33,7 @@ pub data NodeCall : Type 0 where
   -- an advertisement: inner packet, time
   hearing : List ℕ → ℕ → NodeCall
 
--- what comes of a call: document 01's number and values, the next node, and what then stands in the lent output, no byte where none is lent
+-- what comes of a call: number and values (R1.17), the next node, and what then stands in the lent output, no byte where none is lent
 pub record Outcome : Type 0 where
   pub given : Given
   pub node : Node

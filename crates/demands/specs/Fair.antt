@@ -1,5 +1,5 @@
--- The fairness law of document 01, "Routers", of lists of calls on a node: "With the list unchanged and no advertisement of its
--- own accepted meanwhile, a due router is served within as many answered askings as there are routers."
+-- The fairness law of lists of calls on a node: with the list unchanged and no advertisement of its own accepted meanwhile, a due router is
+-- served within as many answered askings as there are routers (R13.6).
 use Prim.Native.Nat.{ℕ, _≤_, max}
 use mathlib.Core.Path.{_≡_}
 use mathlib.Core.Bool.{true}

@@ -1,5 +1,5 @@
--- Demand 1 (document 01, "Numbers given back"), of every call: "After any of them the state is as before but for the latest
--- time, and the lent output is untouched; 14 alone may write. Bytes behind the written length stay."
+-- Demand 1 (R12.1), of every call: after any of them the state is as before but for the latest time, and the lent output is untouched; 14
+-- alone may write. Bytes behind the written length stay (R1.14 to R1.16).
 use Prim.Native.Nat.{ℕ}
 use mathlib.Core.Path.{_≡_}
 use mathlib.Core.List.{List, [], _∷_}
@@ -21,7 +21,8 @@ pub record Refusing (n : Node) (time : ℕ) (lent : List ℕ) (o : Outcome) : Ty
   pub output : (o .given .number ≡ 0 → ⊥) → (o .given .number ≡ 14 → ⊥) → o .output ≡ lent
   pub tooBig : (size len : ℕ) → o .given ≡ record { number = 14; values = size ∷ len ∷ [] } → Message lent (o .output) len
 
--- of every node and every call; that a reporting address has 16 bytes is its type: the contract of `node::Node::put_back` has it of every node
+-- demand 1, of every node and every call; that a reporting address has 16 bytes is its type: the contract of `node::Node::put_back` has
+-- it of every node
 unfoldable pub DemandOne : Type 0
 DemandOne =
     (n : Node) → length (n .service .settings .reporting) ≡ 16

@@ -1,4 +1,4 @@
--- The plain record of demand 3 (document 01, "The record of demand 3"): fed the settings and the calls, and no answers.
+-- The plain record of demand 3 (R11): fed the settings and the calls, and no answers.
 use Prim.Native.Nat.{ℕ, max}
 use mathlib.Core.List.{List, [], _∷_}
 use mathlib.Core.Option.{Option, none, some}
@@ -10,13 +10,13 @@ use Rattle.paths.specs.Kept.{Report, inForce}
 use Rattle.paths.specs.Record.{recordKept, recordAfter}
 use Rattle.sending.specs.Sending.{answerOf, sendGiven}
 use Rattle.sending.specs.declared.SendAnswer.{SendAnswer}
-use Rattle.reports.specs.Report.{judgedOf, neighbourIn, answerAt, reportGiven}
+use Rattle.reports.specs.Report.{answerToward, reportGiven}
 use Rattle.reports.specs.declared.ReportAnswer.{ReportAnswer}
 use Rattle.reports.specs.declared.ReportAnswer.the-variants.{Accepted, Refused}
 use Rattle.node.specs.declared.Node.{Node}
 use Rattle.demands.specs.Calls.{NodeCall, outcomeOf, OfSizes, aSending, aReport, noSize, viewOf}
 
--- "It has a latest time, at first 0, and entries, at first none"
+-- the record has a latest time, at first 0, and entries, at first none (R11.2)
 pub record Plain : Type 0 where
   pub latest : ℕ
   pub entries : List Report
@@ -25,11 +25,11 @@ pub record Plain : Type 0 where
 abbrev pub freshPlain : Plain
 freshPlain = record { latest = 0; entries = [] }
 
--- "A call with a time, refused or not, first raises the latest time to that if it is later"
+-- a call with a time, refused or not, first raises the latest time to that if it is later (R11.3)
 abbrev pub raised : Plain → ℕ → Plain
 raised r time = record { latest = max (r .latest) time; entries = r .entries }
 
--- "neighbour and candidate are its answer and, with the latest time, the new last entry. Nothing else changes the record"
+-- neighbour and candidate are its answer and, with the latest time, the new last entry. Nothing else changes the record (R11.5, R11.6)
 abbrev pub entered : Plain → ReportAnswer → Plain
 entered r (Accepted v c) = record { latest = r .latest; entries = recordAfter (r .entries) v c (r .latest) }
 entered r (Refused n) = r
@@ -39,10 +39,10 @@ module _ (s : Settings) where
   abbrev pub plainSize : Plain → ℕ → ℕ
   plainSize r v = inForce (s .«link_size») (recordKept (r .entries) v (r .latest))
 
-  -- "the first of 16, 17, 18 that its bytes and the settings give, else 19 if its candidate is not below the record's size
-  -- toward its neighbour"
+  -- the first of 16, 17, 18 that its bytes and the settings give, else 19 if its candidate is not below the record's size toward its
+  -- neighbour (R11.4)
   abbrev pub plainReport : Plain → List ℕ → ReportAnswer
-  plainReport r m = answerAt (judgedOf s m) (plainSize r (neighbourIn (judgedOf s m)))
+  plainReport r m = answerToward s m (plainSize r)
 
   -- the rules of sending, for the record's size toward the tunnel end
   abbrev pub plainSend : Plain → List ℕ → List ℕ → ℕ → ℕ → SendAnswer

@@ -15,7 +15,7 @@ use Rattle.node.specs.Report.{reportOf}
 use Rattle.node.specs.declared.Node.{Node}
 use Rattle.demands.specs.Calls.{NodeCall, outcomeOf, OfSizes, aSending, aReport, noSize, viewOf}
 
--- "Each offers n bytes; its Too Big answers are its 14s, with a message or without"
+-- each offers n bytes; its Too Big answers are its 14s, with a message or without (R12.6)
 abbrev pub sentEvent : ℕ → SendAnswer → Event
 sentEvent n (TooBig size written) = told n size
 sentEvent n (Wrapped written) = passed n

@@ -1,4 +1,4 @@
--- The starred values of document 01, "Checked values", in one statement: a node of the program's example, L 1,500, with one
+-- The starred values (R18.1 to R18.9) in one statement: a node of the program's example, L 1,500, with one
 -- neighbour 10.0.0.2.
 use Prim.Native.Nat.{ℕ, _-_}
 use mathlib.Core.Path.{_≡_}

@@ -156,7 +156,7 @@ module _ (n : Node) where
     pub asks : (k time : ℕ) (out : List ℕ) → Asks k time out
     pub hears : (packet : List ℕ) (time : ℕ) → Hears packet time
 
--- of all settings, and of every node
+-- demand 2, of all settings and of every node
 pub record DemandTwo : Type 0 where
   pub sets : (s : Settings) → Sets s
   pub calls : (n : Node) → Exactly n

@@ -1,1 +1,1 @@
-// The demands of document 01 as statements about the node, with their proofs: no function.
+// The demands (R12) as statements about the node, with their proofs: no function.

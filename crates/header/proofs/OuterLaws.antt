@@ -1,13 +1,21 @@
 -- What an outer header that is not malformed has. Assumes nothing.
-use Prim.Native.Nat.{ℕ}
+use Prim.Native.Nat.{ℕ, _≤_}
 use mathlib.Core.Path.{_≡_}
 use mathlib.Core.Bool.{false, not}
 use borrow.Author.Tests.{ltb-false, eqb-true, not-false, le-ltb, eq-eqb}
 use lib.Dec.{eqb, ltb}
 use Rattle.lists.proofs.Tests.{or-six}
 use Rattle.header.specs.Outer.{isOuterMalformed}
-use Rattle.header.specs.Whole.{WholeOuter}
 use Rattle.header.specs.declared.outer.Outer.{Outer}
+
+-- a whole IPv4 header, in a datagram of n bytes that is all there
+pub record WholeOuter (n : ℕ) (o : Outer) : Type 0 where
+  pub some : 20 ≤ n
+  pub version : o .version ≡ 4
+  pub words : 20 ≤ o .header
+  pub whole : o .header ≤ n
+  pub inside : o .header ≤ o .total
+  pub all : o .total ≤ n
 
 module _ (n : ℕ) (o : Outer) where
   pub outer-whole : isOuterMalformed n o ≡ false → WholeOuter n o

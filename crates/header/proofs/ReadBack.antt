@@ -62,12 +62,12 @@ module _ (h : OuterFields) (packet padding : List ℕ) (f : Fits h) (most : 20 +
       let n = 20 + length packet in
       rw (append-assoc (outerBytes n h) packet padding, take-at (outerBytes n h) (packet ++ padding) 20 (length-outerBytes n h), outer-right n h (omega arith) f)
 
-  -- its header passes 2 to 5
+  -- the header of a wrapped packet passes 2 to 5
   pub wrapped-passes : h .protocol ≡ 41 → outerCheck (length (wrapped h packet ++ padding)) (wrapped h packet ++ padding) (outerOf (wrapped h packet ++ padding)) ≡ Pass
   unfolding outerCheck
   wrapped-passes p = rw wrapped-fields (simp (wrapped-malformed, wrapped-sum, eq-eqb (h .protocol) 41 p))
 
-  -- and the part behind it is the packet
+  -- the part behind the header of a wrapped packet is the packet
   pub wrapped-payload : payloadOf (wrapped h packet ++ padding) (outerOf (wrapped h packet ++ padding)) ≡ packet
   unfolding payloadOf wrapped
   wrapped-payload =

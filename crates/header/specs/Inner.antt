@@ -1,4 +1,4 @@
--- The inner header (document 01, "Receiving" and "Sending"; RFC 2460, 3): its fields, and the rules of number 8.
+-- The inner header (R5.10, R7.2; RFC 2460, 3): its fields, and the rules of number 8.
 use Prim.Native.Nat.{ℕ, _+_, _/_}
 use mathlib.Core.Bool.{Bool, cond, not, _&&_, _||_}
 use mathlib.Core.List.{List, []}
@@ -25,7 +25,7 @@ isPacketMalformed n i = ltb n innerHeader || not (eqb (i .version) 6) || not (eq
 unfoldable pub innerPacketOf : List ℕ → List ℕ
 innerPacketOf p = cond (isInnerMalformed (length p) (innerOf p)) [] (take (innerOf p .length) p)
 
--- document 01, "Sending" (RFC 4443, 2.4 (e)): the first next header is 58 with payload, and the type is below 128 or is 137
+-- R8.2 (RFC 4443, 2.4 (e)): the first next header is 58 with payload, and the type is below 128 or is 137
 abbrev pub isErrorOrRedirect : List ℕ → Bool
 isErrorOrRedirect p = eqb (getD p 6 0) icmpv6 && ltb innerHeader (length p) && (ltb (getD p innerHeader 0) 128 || eqb (getD p innerHeader 0) 137)
 

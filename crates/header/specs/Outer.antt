@@ -1,4 +1,4 @@
--- The outer header (document 01, "Receiving"; RFC 791, 3.1): its fields, and the rules of numbers 2 to 5.
+-- The outer header (R5; RFC 791, 3.1): its fields, and the rules of numbers 2 to 5.
 use Prim.Native.Nat.{ℕ, _*_, _/_, _%_}
 use mathlib.Core.Bool.{Bool, not, _||_}
 use mathlib.Core.List.{List, [], _∷_, _++_}
@@ -59,7 +59,7 @@ pieceRows o = (not (eqb (o .fragment) 0), Piece) ∷ []
 unfoldable pub outerCheck : ℕ → List ℕ → Outer → Check
 outerCheck n d o = firstOf (headerRows n d o ++ (protocolRows o ++ pieceRows o))
 
--- document 01's number and values: the fields of a header that passes
+-- number and values (R1.17): the fields of a header that passes
 abbrev pub outerGiven : OuterRead → Given
 outerGiven (Header o) = answered (o .header ∷ o .total ∷ o .source ∷ o .destination ∷ o .protocol ∷ o .fragment ∷ [])
 outerGiven (Refused refusal) = refused refusal
@@ -72,14 +72,14 @@ readWith check o = stopOr Refused check (Header o)
 unfoldable pub outerReadOf : List ℕ → OuterRead
 outerReadOf d = readWith (outerCheck (length d) d (outerOf d)) (outerOf d)
 
--- "Bytes after the total length are padding. The inner packet starts after the header, options included."
+-- bytes after the total length are padding. The inner packet starts after the header, options included (R5.3, R5.9).
 unfoldable pub payloadOf : List ℕ → Outer → List ℕ
 payloadOf d o = drop (o .header) (take (o .total) d)
 
--- document 01, "Path size" (RFC 792): a quote stands behind the first 8 bytes of an ICMPv4 message
+-- R9.2 (RFC 792): a quote stands behind the first 8 bytes of an ICMPv4 message
 abbrev pub quoteOf : List ℕ → List ℕ
 quoteOf m = drop 8 m
 
--- document 01, "Path size", of 16: the quoted header not version 4, under 5 words or cut off
+-- R9.2, of 16: the quoted header not version 4, under 5 words or cut off
 unfoldable pub isQuoteMalformed : ℕ → Outer → Bool
 isQuoteMalformed n o = not (eqb (o .version) 4) || ltb (o .header) outerHeader || ltb n (o .header)

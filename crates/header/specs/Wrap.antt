@@ -1,4 +1,4 @@
--- The outer header that we write (document 01, "Sending"), and a packet wrapped in it.
+-- The outer header that we write (R7.10), and a packet wrapped in it.
 use Prim.Native.Nat.{ℕ, _+_, _/_, _%_}
 use mathlib.Core.Bool.{cond}
 use mathlib.Core.List.{List, [], _∷_, _++_}
@@ -37,7 +37,7 @@ outerBack h = be32 (h .source) (be32 (h .destination) [])
 abbrev pub outerWith : ℕ → OuterFields → ℕ → List ℕ
 outerWith total h sum = outerFront total h ++ be16 sum (outerBack h)
 
--- "we write the complement of the sum taken with that field 0"
+-- we write the complement of the sum taken with that field 0 (R1.6)
 unfoldable pub outerBytes : ℕ → OuterFields → List ℕ
 outerBytes total h = outerWith total h (onesComplement (onesSum (outerWith total h 0)))
 
@@ -53,7 +53,7 @@ longestTotal = 65535
 unfoldable pub wrapCheck : ℕ → ℕ → Check
 wrapCheck n room = firstOf ((ltb longestTotal (outerHeader + n), WrappedTooLong) ∷ ((ltb room (outerHeader + n), OutputShort) ∷ []))
 
--- document 01's number and values: the length written
+-- number and values (R1.17): the length written
 abbrev pub writtenGiven : Written → Given
 writtenGiven (Length n) = answered (n ∷ [])
 writtenGiven (Refused refusal) = refused refusal
@@ -62,7 +62,7 @@ writtenGiven (Refused refusal) = refused refusal
 abbrev pub writerAnswer : Check → ℕ → Written
 writerAnswer check n = stopOr Refused check (Length n)
 
--- what a writer leaves in the output that would write w: "the lent output is untouched" after a refusal
+-- what a writer leaves in the output that would write w: the lent output is untouched (R1.15) after a refusal
 abbrev pub writerOutput : Check → List ℕ → List ℕ → List ℕ
 writerOutput check w out = stopOr (λ refusal. out) check (written w out)
 

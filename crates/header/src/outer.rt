@@ -28,7 +28,7 @@ pub enum OuterRead {
 }
 
 impl OuterRead {
-    // Document 01's number, 0 for a header that passes 2 to 5.
+    // The number (R4), 0 for a header that passes 2 to 5.
     pub fn number(self) -> u8
         ensures { λ r. ⌜ r ≡ outerGiven self .number ⌝ }
     {

@@ -31,7 +31,7 @@ pub enum Written {
 }
 
 impl Written {
-    // Document 01's number, 0 where something is written.
+    // The number (R4), 0 where something is written.
     pub fn number(self) -> u8
         ensures { λ r. ⌜ r ≡ writtenGiven self .number ⌝ }
     {

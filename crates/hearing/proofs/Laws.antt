@@ -68,8 +68,7 @@ module _ (routers : RouterList) (due : ℕ) where
   router-unknown (Ipv4 b) r h = unknown (listed b (live routers)) b (rescheduledOf b due routers) r h
   router-unknown Nothing r h = refl
 
--- the stages before it
-
+-- what is answered with a router has passed the stages before the router is looked up
 passed : (c : Check) (routers : RouterList) (x : Heard) (a : ℕ) → stopOr (λ r. refusedBy r routers) c x .answer ≡ Router a
     → (c ≡ Pass) × (x ≡ stopOr (λ r. refusedBy r routers) c x)
 passed c routers x a h =
@@ -166,7 +165,7 @@ module _ (s : Settings) (routers : RouterList) (now : ℕ) (p : List ℕ) where
         inList = decides-listed router (live routers) .holds (g .2);
       }
 
-  -- and whenever they hold
+  -- an advertisement is accepted whenever its rules hold
   accepted-if : (router : ℕ) → ValidAdvertisement s routers p router → heardOf s routers now p .answer ≡ Router router
   unfolding heardOf heardFrom innerOf
   accepted-if router a =

@@ -59,7 +59,7 @@ module _ (s : Settings) (routers : RouterList) (now : ℕ) (p : List ℕ) (right
       let o = optionsIn (take (innerOf p .length) p) in
       rw (right, whole-last, a) (stage routers (heardFrom s routers now (innerOf p .source) (o .smallest)) (o .whole))
 
-  -- and any other packet is refused
+  -- a packet that is no advertisement is refused
   pub no-message : isAdvertisement (innerOf p) (take (innerOf p .length) p) ≡ false → refusedBy AdvertisementInvalid routers ≡ heardOf s routers now p
   unfolding heardOf
   no-message a = rw (right, whole-last, a)

@@ -1,4 +1,4 @@
--- Advertisements (document 01, "Routers"): the order 8, 20, 21, and the router's next due time.
+-- Advertisements (R15): the order 8, 20, 21, and the router's next due time.
 use Prim.Native.Nat.{ℕ}
 use mathlib.Core.Bool.{Bool, cond, not, _&&_}
 use mathlib.Core.List.{List, [], _∷_}
@@ -77,7 +77,7 @@ heardOf s routers now p =
     stopOr (λ r. refusedBy r routers) (firstOf (heardRows p))
     (heardFrom s routers now (innerOf p .source) (optionsIn (take (innerOf p .length) p) .smallest))
 
--- document 01's number and values: the router's IPv4 address
+-- number and values (R1.17): the router's IPv4 address
 abbrev pub heardGiven : HeardAnswer → Given
 heardGiven (Router a) = answered (a ∷ [])
 heardGiven (Refused refusal) = refused refusal

@@ -1,4 +1,4 @@
--- A neighbour discovery message that is valid (document 01, "Routers"; RFC 4861, 6.1): p is its IPv6 packet, no byte behind it, and
+-- A neighbour discovery message that is valid (R15.3; RFC 4861, 6.1): p is its IPv6 packet, no byte behind it, and
 -- i are the fields of the packet's header.
 use Prim.Native.Nat.{ℕ}
 use mathlib.Core.Bool.{Bool, _&&_}
@@ -6,13 +6,10 @@ use mathlib.Core.List.{List}
 use lib.ListN.{length, take, drop, getD}
 use lib.Dec.{eqb, leb}
 use Rattle.checksum.specs.Sum.{allOnes}
+use Rattle.header.specs.Numbers.{innerHeader, icmpv6}
 use Rattle.header.specs.declared.inner.Inner.{Inner}
 use Rattle.messages.specs.Icmp.{icmpSum}
 use Rattle.lifetimes.specs.Options.{areOptionsWhole}
-
--- next header 58
-abbrev pub icmp : ℕ
-icmp = 58
 
 -- hop limit 255
 abbrev pub hopLimit : ℕ
@@ -24,7 +21,7 @@ addressesOf p = take 32 (drop 8 p)
 
 -- the ICMPv6 message behind the IPv6 header
 abbrev pub messageOf : List ℕ → List ℕ
-messageOf p = drop 40 p
+messageOf p = drop innerHeader p
 
 -- checksum right (RFC 4443, 2.3): the sum of the message and its pseudo header is FFFF
 unfoldable pub isSumRight : List ℕ → Bool
@@ -33,7 +30,7 @@ isSumRight p = eqb (icmpSum (addressesOf p) (messageOf p)) allOnes
 -- the fields of a message of the type `kind`: next header 58, hop limit 255, the type, code 0, ICMPv6 length at least `least`
 unfoldable pub hasFields : ℕ → ℕ → Inner → List ℕ → Bool
 hasFields kind least i p =
-    eqb (i .next) icmp
+    eqb (i .next) icmpv6
     && eqb (i .hop) hopLimit
     && eqb (getD (messageOf p) 0 0) kind
     && eqb (getD (messageOf p) 1 0) 0

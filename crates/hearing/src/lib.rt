@@ -1,6 +1,8 @@
 // Router advertisements: whether one is valid and its router listed, and when that router is due again.
 use address::Embedded;
 use address::prefixes;
+use header::ICMPV6;
+use header::INNER_HEADER;
 use header::fields;
 use header::inner;
 use header::inner::Inner;
@@ -13,9 +15,6 @@ ghost use Prim.Native.Nat.{_≤_};
 ghost use lib.ListN.{length};
 ghost use Rattle.hearing.specs.Message.{isSumRight, hasFields};
 ghost use Rattle.hearing.specs.Heard.{isAdvertisement, refusedBy, heardFrom, heardMessage, heardOf, heardGiven};
-
-// ICMPv6 (RFC 4443, 2.1).
-const ICMP: u8 = 58;
 
 // The hop limit of a packet that no router has passed on (RFC 4861, 6.1).
 const HOP_LIMIT: u8 = 255;
@@ -38,7 +37,7 @@ pub struct Heard {
 }
 
 impl HeardAnswer {
-    // Document 01's number, 0 where the advertisement is accepted.
+    // The number (R4), 0 where the advertisement is accepted.
     pub fn number(self) -> u8
         ensures { λ r. ⌜ r ≡ heardGiven self .number ⌝ }
     {
@@ -55,15 +54,15 @@ fn sum_right(p: &[u8]) -> bool
     requires { ⌜ (40 ≤ length (now p)) × (length (now p) ≤ 65575) ⌝ }
     ensures { λ r. ⌜ r ≡ isSumRight (now (p .entry)) ⌝ }
 {
-    checksum::right_from((p.len() - 40 + ICMP as usize) as u32, &p[8..])
+    checksum::right_from((p.len() - INNER_HEADER + ICMPV6 as usize) as u32, &p[8..])
 }
 
 // Whether a packet with the header i has the fields of a neighbour discovery message of that type, with options from `least` on.
 fn fields_right(kind: u8, least: usize, i: Inner, p: &[u8]) -> bool
     ensures { λ r. ⌜ r ≡ hasFields kind least i (now (p .entry)) ⌝ }
 {
-    let message = fields::tail(p, 40);
-    (i.next == ICMP)
+    let message = fields::tail(p, INNER_HEADER);
+    (i.next == ICMPV6)
         & (i.hop == HOP_LIMIT)
         & (fields::byte(message, 0) == kind)
         & (fields::byte(message, 1) == 0)
@@ -131,7 +130,7 @@ fn hear_message(
 ) -> Heard
     ensures { λ r. ⌜ r ≡ heardMessage settings routers time source (now (p .entry)) ⌝ }
 {
-    let message = fields::tail(p, 40);
+    let message = fields::tail(p, INNER_HEADER);
     let options = fields::tail(message, OPTIONS);
     let read = lifetimes::options_read(fields::word(message, 6), options);
     let smallest = read.smallest;

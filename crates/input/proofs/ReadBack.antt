@@ -1,4 +1,4 @@
--- What is written as document 01 describes it is read so. Assumes nothing.
+-- What is written as R17.2 describes it is read so. Assumes nothing.
 use Prim.Native.Nat.{ℕ, suc, _+_, _*_, _≤_}
 use mathlib.Core.Path.{_≡_, refl, _∙_}
 use mathlib.Core.Bool.{true}
@@ -114,7 +114,7 @@ module _ {s : List ℕ} {ls ps rs : List (List ℕ)} {ds : List Datagram} (i : I
     rw datagrams-at (recording-back ds .0),
   )
 
-  -- and what is not too long is well-formed
+  -- what has the form and is not too long is well-formed
   pub form-taken : length s ≤ inputLimit → isWellFormed s ≡ true
   unfolding encoded areSectionsWhole isWellFormed
   form-taken h =

@@ -1,4 +1,4 @@
--- A well-formed input is what document 01 describes: its sections written out, and nothing else. Assumes nothing.
+-- A well-formed input is what R17.2 describes: its sections written out, and nothing else. Assumes nothing.
 use Prim.Native.Nat.{ℕ, zero, suc, _+_, _*_, _/_, _%_, _≤_, _<_}
 use mathlib.Core.Path.{_≡_, refl, sym, ap, _∙_}
 use mathlib.Core.Bool.{true, _&&_}
@@ -89,7 +89,7 @@ recording-written r b h =
     count-written r b (leb-true 2 (length r) (g .0))
     ∙ rw n (ap (λ (l : List ℕ). twoBytes (countOf r) ++ l) (datagrams-written (countOf r) (firstDatagram r) (bytes-drop 2 r b) (g .1)))
 
--- a well-formed input has the form that document 01 describes, with what is read from it
+-- a well-formed input has the form that R17.2 describes, with what is read from it
 pub taken-form : (s : List ℕ) → Bytes s → isWellFormed s ≡ true
     → IsInput s (recordsOf locatorBytes s) (recordsOf prefixBytes (prefixSection s)) (recordsOf routerBytes (routerSection s)) (datagramsOf (behindSettings s))
 unfolding isWellFormed areSectionsWhole prefixSection routerSection behindSettings encoded

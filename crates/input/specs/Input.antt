@@ -1,5 +1,5 @@
--- The program's input (document 01, "The program"): "locators (4 + 1 bytes), prefixes (8), routers (4), datagrams (..), in that
--- order, each section after its two-byte count; other settings default".
+-- The program's input (R17.2, R17.3): locators (4 + 1 bytes), prefixes (8), routers (4), datagrams, in that order, each section after its
+-- two-byte count; other settings default.
 use Prim.Native.Nat.{ℕ}
 use mathlib.Core.Bool.{Bool, _&&_}
 use mathlib.Core.List.{List}

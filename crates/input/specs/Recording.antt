@@ -1,4 +1,4 @@
--- A section of datagrams (document 01, "The program": "datagrams (interface 1, length 2, bytes)"), which may stand alone.
+-- A section of datagrams (R17.2), which may stand alone.
 use Prim.Native.Nat.{ℕ, zero, suc, _+_}
 use mathlib.Core.Bool.{Bool, _&&_}
 use mathlib.Core.List.{List, [], _∷_}

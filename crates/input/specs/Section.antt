@@ -1,4 +1,4 @@
--- A section of records of one size (document 01, "The program": "each section after its two-byte count"). A byte past the end
+-- A section of records of one size (R17.2). A byte past the end
 -- reads as 0, and a record past the end as an empty one.
 use Prim.Native.Nat.{ℕ, zero, suc, _+_, _*_}
 use mathlib.Core.Bool.{Bool}

@@ -37,7 +37,7 @@ pub writtenAt-more : (at : ℕ) (w p d : List ℕ) {d₁ d₂ : List ℕ} → le
 writtenAt-more at w p d l h e f =
     f ∙ rw (e, ← l) (writtenAt-fits (length w) p (written w d) (rw (length-written w d (omega arith)) (omega arith)) ∙ over-next w p d)
 
--- so does one inside of it
+-- a write inside of a list leaves its length
 pub length-over : (at : ℕ) (p w : List ℕ) → at + length p ≤ length w → length (over at p w) ≡ length w
 length-over at p w h = simp (length-append, length-take, length-drop) (omega arith)
 

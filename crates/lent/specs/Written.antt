@@ -1,4 +1,4 @@
--- What writing into a lent slice leaves there (document 01: "Bytes behind the written length stay").
+-- What writing into a lent slice leaves there (R1.16: bytes behind the written length stay).
 use Prim.Native.Nat.{ℕ, _+_}
 use mathlib.Core.Bool.{cond}
 use mathlib.Core.List.{List, _++_}
@@ -13,6 +13,6 @@ written w d = w ++ drop (length w) d
 abbrev pub over : ℕ → List ℕ → List ℕ → List ℕ
 over at p d = take at d ++ (p ++ drop (at + length p) d)
 
--- the same, and nothing written where it does not fit
+-- d with p written over it from the index at on, or d itself where p does not fit
 unfoldable pub writtenAt : ℕ → List ℕ → List ℕ → List ℕ
 writtenAt at p d = cond (ltb (length d) (at + length p)) d (over at p d)

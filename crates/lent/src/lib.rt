@@ -32,7 +32,7 @@ fn write(src: &[u8], dst: &mut [u8])
     write_blocks(src, dst);
 }
 
-// The same, block after block.
+// Writes src over the front of dst, block after block.
 fn write_blocks(src: &[u8], dst: &mut [u8])
     requires { ⌜ length (now src) ≤ length (now dst) ⌝ }
     ensures { λ _. ⌜ now (dst .exit) ≡ written (now (src .entry)) (now (dst .entry)) ⌝ }
@@ -45,8 +45,8 @@ fn write_blocks(src: &[u8], dst: &mut [u8])
     }
 }
 
-// The same of one block. It goes by way of an array, which neither slice overlaps: so the compiler sees that both loops are
-// moves of memory, and makes one of them.
+// Writes src, one block at most, over the front of dst. It goes by way of an array, which neither slice overlaps: so the compiler sees that
+// both loops are moves of memory, and makes one of them.
 fn write_block(src: &[u8], dst: &mut [u8])
     requires { ⌜ length (now src) ≤ 65536 ⌝ }
     requires { ⌜ length (now src) ≤ length (now dst) ⌝ }

@@ -48,7 +48,7 @@ left-most (suc most) bs s = go (eqb (optionSize bs) 0) (left-most most (drop (op
     go true h = omega arith
     go false h = omega (arith, length-drop (optionSize bs) bs)
 
--- and where there is an option a smaller one
+-- where there is an option, a walk leaves fewer bytes
 pub left-falls : (most : ℕ) (bs : List ℕ) (s : Smallest) → (optionSize bs ≡ 0 → ⊥) → walkedOf (suc most) bs s .left < length bs
 unfolding walkedOf
 left-falls most bs s good =
@@ -105,7 +105,7 @@ read-none bs s none = go (eqb (length bs) 0) refl
     go true e = read-end bs s (eqb-true _ _ e)
     go false e = read-bad bs s (eqb-false _ _ e) none
 
--- that is told by the place that the walks came to
+-- whether the options are whole is told by the place that the walks came to
 pub read-at : (at : ℕ) (bs : List ℕ) (s : Smallest) → at ≤ length bs → optionSize (drop at bs) ≡ 0
     → _≡_ {A = Options} (record { whole = eqb at (length bs); smallest = s }) (readOf (drop at bs) s)
 read-at at bs s within none = rw same (read-none (drop at bs) s none)

@@ -1,4 +1,4 @@
--- Document 01, "Routers": the lifetimes of a router advertisement and the due time that they give, said over its options and their bytes.
+-- R16: the lifetimes of a router advertisement and the due time that they give, said over its options and their bytes.
 use Prim.Native.Nat.{ℕ, _+_, _/_, _≤_, max}
 use mathlib.Core.Path.{_≡_}
 use mathlib.Core.Logic.{_⊎_}

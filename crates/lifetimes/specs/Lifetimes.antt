@@ -1,4 +1,4 @@
--- Document 01, "Routers": the lifetimes of a router advertisement, and when its router is due again.
+-- R16: the lifetimes of a router advertisement, and when its router is due again.
 use Prim.Native.Nat.{ℕ, _+_, _/_, min, max}
 use mathlib.Core.List.{List, [], _∷_, map}
 use mathlib.Core.Bool.{Bool, cond, not, _&&_, _||_}
@@ -10,11 +10,11 @@ use Rattle.lifetimes.specs.declared.Smallest.the-variants.{Seconds, None
 use Rattle.lifetimes.specs.declared.Options.{Options}
 use Rattle.lifetimes.specs.Options.{optionsOf, areOptionsWhole}
 
--- "Routers": prefix options (type 3, length 4)
+-- R16.1: prefix options (type 3, length 4)
 abbrev pub isPrefix : ℕ → ℕ → Bool
 isPrefix kind units = eqb kind 3 && eqb units 4
 
--- "Routers": route options (type 24, length 1 to 3)
+-- R16.1: route options (type 24, length 1 to 3)
 abbrev pub isRoute : ℕ → ℕ → Bool
 isRoute kind units = eqb kind 24 && leb 1 units && leb units 3
 
@@ -23,7 +23,7 @@ isRoute kind units = eqb kind 24 && leb 1 units && leb units 3
 unfoldable pub lifetimeOf : List ℕ → ℕ
 lifetimeOf o = cond (isPrefix (getD o 0 0) (getD o 1 0) || isRoute (getD o 0 0) (getD o 1 0)) (quadOf (getD o 4 0) (getD o 5 0) (getD o 6 0) (getD o 7 0)) 0
 
--- "Routers": the router's lifetime and those of the options
+-- R16.1: the router's lifetime and those of the options
 abbrev pub lifetimesOf : ℕ → List ℕ → List ℕ
 lifetimesOf router bs = router ∷ map lifetimeOf (optionsOf bs)
 
@@ -31,7 +31,7 @@ lifetimesOf router bs = router ∷ map lifetimeOf (optionsOf bs)
 abbrev pub infinite : ℕ
 infinite = 0xffff_ffff
 
--- "Routers": zero and 0xffffffff don't count
+-- R16.2: zero and 0xffffffff don't count
 abbrev pub isCounted : ℕ → Bool
 isCounted l = not (eqb l 0) && not (eqb l infinite)
 
@@ -45,7 +45,7 @@ unfoldable pub leastOf : ℕ → List ℕ → ℕ
 leastOf l [] = l
 leastOf l (k ∷ ks) = leastOf (min l k) ks
 
--- "Routers": the smallest lifetime, if there is one
+-- R16.3: the smallest lifetime, if there is one
 abbrev pub smallestOf : List ℕ → Smallest
 smallestOf [] = NoneCounts
 smallestOf (l ∷ ls) = Seconds (leastOf l ls)
@@ -54,15 +54,15 @@ smallestOf (l ∷ ls) = Seconds (leastOf l ls)
 abbrev pub optionsReadOf : ℕ → List ℕ → Options
 optionsReadOf router bs = record { whole = areOptionsWhole bs; smallest = smallestOf (counted (lifetimesOf router bs)) }
 
--- "Routers": 3,600 if none counts
+-- R16.4: 3,600 if none counts
 abbrev pub withoutLifetime : ℕ
 withoutLifetime = 3600
 
--- "Routers": the larger of the interval and half the smallest lifetime, rounded down; 3,600 if none counts
+-- R16.3, R16.4: the larger of the interval and half the smallest lifetime, rounded down; 3,600 if none counts
 unfoldable pub delayOf : ℕ → Smallest → ℕ
 delayOf interval (Seconds s) = max interval (s / 2)
 delayOf interval NoneCounts = withoutLifetime
 
--- "Routers": due becomes now + that
+-- R16.3: due becomes now + that
 abbrev pub dueAfter : ℕ → ℕ → Smallest → ℕ
 dueAfter now interval smallest = now + delayOf interval smallest

@@ -1,4 +1,4 @@
--- RFC 4861, 4.6, and document 01, "Routers": the options of a neighbour discovery message.
+-- RFC 4861, 4.6, and R15.4: the options of a neighbour discovery message.
 use Prim.Native.Nat.{ℕ, zero, suc, _*_, _<_, pred}
 use mathlib.Core.Path.{_≡_}
 use mathlib.Core.List.{List, [], _∷_, flatten}
@@ -36,6 +36,6 @@ optionsFrom zero (b ∷ bs) =
 abbrev pub optionsOf : List ℕ → List (List ℕ)
 optionsOf bs = optionsFrom 0 bs
 
--- document 01, "Routers": options walked one after another to the exact end, none of length 0
+-- R15.4: options walked one after another to the exact end, none of length 0
 unfoldable pub areOptionsWhole : List ℕ → Bool
 areOptionsWhole bs = eqb (length (flatten (optionsOf bs))) (length bs)

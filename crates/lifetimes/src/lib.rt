@@ -159,7 +159,7 @@ pub fn options_whole(options: &[u8]) -> bool
     all.whole
 }
 
-// Whether they are, and the smallest of the router's own lifetime and those of the options.
+// Whether the options are whole, and the smallest of the router's own lifetime and theirs.
 pub fn options_read(router: u16, options: &[u8]) -> Options
     ensures { λ r. ⌜ r ≡ optionsReadOf router (now (options .entry)) ⌝ }
 {

@@ -43,7 +43,7 @@ module _ {A : Type 0} where
     pub any-later : (p : A → Bool) → p (getD xs i d) ≡ false → anyOf p (drop i (take n xs)) ≡ anyOf p (drop (i + 1) (take n xs))
     any-later p h = rw (front-from, h)
 
-    -- the same as `any-turn` for two elements
+    -- a turn of a loop that asks whether some element is the same as a later one
     pub twice-turn : (same : A → A → Bool) (found : Bool)
         → (found || anyOf (same (getD xs i d)) (drop (i + 1) (take n xs)) || twice same (drop (i + 1) (take n xs)))
         ≡ (found || twice same (drop i (take n xs)))

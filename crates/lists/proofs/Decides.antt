@@ -20,7 +20,7 @@ module _ {F : Type 0} where
   pub fails : (t : Bool) → Decides t F → t ≡ false → F → ⊥
   fails t d h f = true≢false (sym (d .passes f) ∙ h)
 
-  -- and where the fact does not hold, the test fails
+  -- where the fact does not hold, the test fails
   pub refutes : (t : Bool) → Decides t F → (F → ⊥) → t ≡ false
   refutes true d n = absurd (n (d .holds refl))
   refutes false d n = refl

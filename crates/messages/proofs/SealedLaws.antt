@@ -77,7 +77,7 @@ be32-small x s h =
     let e₃ : x / 256 % 256 ≡ x / 256 = omega arith in
     rw (e₁, e₂, e₃)
 
--- the same of the Packet Too Big that quotes q
+-- sealing a Packet Too Big that quotes q gives the packet that the specification asks for
 pub sealed-too-big : (from to : List ℕ) (size : ℕ) (q : List ℕ) → length from ≡ 16 → length to ≡ 16 → size ≤ 65535
     → sealed (ipv6Header (8 + length q) 64 from to ++ (2 ∷ (0 ∷ (0 ∷ (0 ∷ (0 ∷ (0 ∷ be16 size q))))))) ≡ icmpPacket 64 from to 2 0 (be32 size q)
 sealed-too-big from to size q lf lt h =

@@ -1,5 +1,4 @@
--- The ICMPv6 messages that we write: Packet Too Big (document 01, "Sending"; RFC 4443, 3.2) and the router solicitation
--- (document 01, "Routers"; RFC 4861, 4.1).
+-- The ICMPv6 messages that we write: Packet Too Big (R8.1; RFC 4443, 3.2) and the router solicitation (R14.1; RFC 4861, 4.1).
 use Prim.Native.Nat.{ℕ, _+_, min}
 use mathlib.Core.List.{List, [], _∷_, _++_}
 use lib.ListN.{length, take}
@@ -33,7 +32,7 @@ icmpSum addresses message = onesSum (addresses ++ (pseudoTail (length message) +
 abbrev pub icmpWith : ℕ → ℕ → ℕ → List ℕ → List ℕ
 icmpWith kind code sum body = kind ∷ (code ∷ be16 sum body)
 
--- "we write the complement of the sum taken with that field 0"
+-- we write the complement of the sum taken with that field 0 (R1.6)
 unfoldable pub icmpMessage : List ℕ → ℕ → ℕ → List ℕ → List ℕ
 icmpMessage addresses kind code body = icmpWith kind code (onesComplement (icmpSum addresses (icmpWith kind code 0 body))) body
 
@@ -41,7 +40,7 @@ icmpMessage addresses kind code body = icmpWith kind code (onesComplement (icmpS
 unfoldable pub icmpPacket : ℕ → List ℕ → List ℕ → ℕ → ℕ → List ℕ → List ℕ
 icmpPacket hop from to kind code body = ipv6Header (4 + length body) hop from to ++ icmpMessage (from ++ to) kind code body
 
--- "the first min(n, 1,232) bytes of the packet" are quoted
+-- the first min(n, 1,232) bytes of the packet (R8.1) are quoted
 abbrev pub mostQuoted : ℕ
 mostQuoted = 1232
 
@@ -70,7 +69,7 @@ tooBigOutput reporting size packet out =
 unfoldable pub solicitationOf : List ℕ → List ℕ → List ℕ
 solicitationOf from to = icmpPacket 255 from to 133 0 (0 ∷ (0 ∷ (0 ∷ (0 ∷ []))))
 
--- "a solicitation of 48 bytes": nothing stands behind its headers
+-- a solicitation of 48 bytes (R14.1): nothing stands behind its headers
 abbrev pub solicitationLength : ℕ
 solicitationLength = messageHeaders
 

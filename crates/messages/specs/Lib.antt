@@ -1,2 +1,3 @@
 pub mod Icmp
 pub mod Sealed
+pub mod Facts

@@ -1,4 +1,4 @@
--- Asking on a node (document 01, "Routers"): answer, next node and output.
+-- Asking on a node (R13): answer, next node and output.
 use Prim.Native.Nat.{ℕ, max}
 use mathlib.Core.List.{List}
 use Rattle.asking.specs.Ask.{askedOf, askedOutput}

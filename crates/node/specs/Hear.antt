@@ -1,4 +1,4 @@
--- A router advertisement on a node (document 01, "Routers"): answer and next node.
+-- A router advertisement on a node (R15): answer and next node.
 use Prim.Native.Nat.{ℕ, max}
 use mathlib.Core.List.{List}
 use Rattle.hearing.specs.Heard.{heardOf}

@@ -18,7 +18,7 @@ use Rattle.node.specs.declared.Setup.{Setup}
 use Rattle.node.specs.declared.SetupAnswer.{SetupAnswer}
 use Rattle.node.specs.declared.SetupAnswer.the-variants.{Made, Refused}
 
--- document 01, "Settings": at setup all routers are due at time 0; "The node keeps the latest time seen, 0 at setup"
+-- R2.12: at setup all routers are due at time 0; the node keeps the latest time seen, 0 at setup (R1.10)
 unfoldable pub nodeOf : Settings → Node
 nodeOf s = record {
   service = record { settings = s; routers = newOf (s .routers) (s .«router_count»); identification = s .identification };
@@ -42,7 +42,7 @@ noSettings = record {
   reporting = replicate 16 0;
 }
 
--- document 01's number: a node that is made has no values
+-- the number (R4): a node that is made has no values
 abbrev pub setupGiven : SetupAnswer → Given
 setupGiven Made = answered []
 setupGiven (Refused r) = refused r
@@ -52,8 +52,8 @@ unfoldable pub setupOf : Settings → Setup
 setupOf s =
     cond (isAccepted s) (record { answer = Made; node = nodeOf s }) (record { answer = Refused refusal.Settings; node = nodeOf noSettings })
 
--- the next node of a call with a time: the service and the path sizes that the call leaves, and the latest time raised; "an earlier one
--- is read as the latest"
+-- the next node of a call with a time: the service and the path sizes that the call leaves, and the latest time raised; an earlier one is
+-- read as the latest (R1.10)
 abbrev pub nodeWith : Node → Service → PathTable → ℕ → Node
 nodeWith node service paths time = record { service = service; paths = paths; latest = max (node .latest) time }
 

@@ -1,4 +1,4 @@
--- Receiving on a node (document 01, "Receiving"): with the settings and the router list that are now in force.
+-- Receiving on a node (R5): with the settings and the router list that are now in force.
 use Prim.Native.Nat.{ℕ}
 use mathlib.Core.List.{List}
 use Rattle.routers.specs.Routers.{live}

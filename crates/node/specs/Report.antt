@@ -1,4 +1,4 @@
--- The call with a size report (document 01, "Path size"): answer and next node.
+-- The call with a size report (R9): answer and next node.
 use Prim.Native.Nat.{ℕ, max}
 use mathlib.Core.List.{List}
 use Rattle.paths.specs.Table.{tableAfter}

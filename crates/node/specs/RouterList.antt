@@ -1,4 +1,4 @@
--- The call with a new router list (document 01, "Settings"): answer and next node.
+-- The call with a new router list (R2.13): answer and next node.
 use Prim.Native.Nat.{ℕ, max}
 use mathlib.Core.Bool.{cond}
 use mathlib.Core.List.{List, []}
@@ -14,7 +14,7 @@ use Rattle.node.specs.declared.router_list.ListAnswer.{ListAnswer}
 use Rattle.node.specs.declared.router_list.ListAnswer.the-variants.{Replaced, Refused}
 use Rattle.node.specs.declared.router_list.Replaced as replaced
 
--- document 01's number: a list that is taken has no values
+-- the number (R4): a list that is taken has no values
 abbrev pub listGiven : ListAnswer → Given
 listGiven Replaced = answered []
 listGiven (Refused r) = refused r

@@ -1,4 +1,4 @@
--- Sending on a node (document 01, "Sending"): answer, next node and output, by the path size in force toward the tunnel end.
+-- Sending on a node (R7): answer, next node and output, by the path size in force toward the tunnel end.
 use Prim.Native.Nat.{ℕ, max}
 use mathlib.Core.List.{List}
 use Rattle.address.specs.Address.{lastQuad}

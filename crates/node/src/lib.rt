@@ -44,7 +44,7 @@ pub struct Setup {
 }
 
 impl SetupAnswer {
-    // Document 01's number, 0 where a node is made.
+    // The number (R4), 0 where a node is made.
     pub fn number(self) -> u8
         ensures { λ r. ⌜ r ≡ setupGiven self .number ⌝ }
     {

@@ -16,7 +16,7 @@ pub struct Replaced {
 }
 
 impl ListAnswer {
-    // Document 01's number, 0 for a list that is taken.
+    // The number (R4), 0 for a list that is taken.
     pub fn number(self) -> u8
         ensures { λ r. ⌜ r ≡ listGiven self .number ⌝ }
     {

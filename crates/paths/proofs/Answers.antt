@@ -12,7 +12,7 @@ use Rattle.paths.proofs.Same.{kept-same, tableOf-keeps}
 pub same-kept : SameKept
 same-kept es v now = kept-same (tableOf es) es (tableOf-keeps es) v now
 
--- and so the same size is in force over every link
+-- table and record give the same size in force over every link
 pub same-in-force : (es : List Report) (v now link : ℕ) → inForce link (keptIn (tableOf es) v now) ≡ inForce link (recordKept es v now)
 same-in-force es v now link = ap (inForce link) (same-kept es v now)
 

@@ -85,7 +85,7 @@ module _ {M : Type 0} (K : Memory M) (limit : ℕ → ℕ) (link : ℕ) where
   keptAfter m now [] v = K .kept m v now
   keptAfter m now (x ∷ xs) v = keptAfter (remembered K m now (answer m now x)) (latest now x) xs v
 
-  -- the same for a list of calls that starts on a fresh node: nothing is remembered, and the latest time is 0
+  -- each call of a list that starts on a fresh node, with its answer: nothing is remembered, and the latest time is 0
   abbrev pub historyOf : List PathCall → List (PathCall × Answer)
   historyOf calls = history (K .fresh) 0 calls
 

@@ -1,6 +1,6 @@
 -- The first of a descending list that is below n is the largest below n.
 use mathlib.Core.Path.{_≡_, refl, sym, ap, _∙_}
-use mathlib.Core.Logic.{⊎-elim, inl, inr}
+use mathlib.Core.Logic.{_↔_, ⊎-elim, inl, inr}
 use mathlib.Core.Bool.{Bool, true, false, cond}
 use mathlib.Core.List.{List, [], _∷_, List·Memᴰ, List·Memᴰ·head, List·Memᴰ·tail, List·Memᴰ·cases-cons, List·Memᴰ·not-nil}
 use Prim.Native.Nat.{ℕ, _≤_}
@@ -8,7 +8,7 @@ use native.Mathlib.Omega.{arith}
 use borrow.Author.Tests.{le-ltb, ltb-true, ltb-false, eqb-true, eq-eqb, ne-eqb}
 use lib.Dec.{eqb, ltb}
 use Rattle.paths.specs.Candidate.{leastSize, plateaus, firstBelow, plateauBelow, candidateOf}
-use Rattle.paths.specs.Largest.{LargestBelow, CandidateIs, PlateauRule}
+use Rattle.paths.specs.Largest.{LargestBelow, CandidateIs}
 use Rattle.paths.specs.declared.Candidate.{Candidate}
 use Rattle.paths.specs.declared.Candidate.the-variants.{Size, Unusable}
 use Rattle.paths.proofs.Reports.{tested}
@@ -57,6 +57,11 @@ module _ (n : ℕ) where
   all-from (p ∷ ps) h =
       ⊎-elim (λ t. let z : _≡_ {A = ℕ} 0 1 = cc in absurd (omega arith)) (λ t. (ltb-false p n t, all-from ps (rw t at h))) (tested (ltb p n))
 
+-- what is found is the largest plateau below n, and none is found exactly when n is at most 68
+pub record PlateauRule (n : ℕ) : Type 0 where
+  pub found : (p : ℕ) → plateauBelow n ≡ Size p → LargestBelow n p plateaus
+  pub missing : (plateauBelow n ≡ Unusable) ↔ (n ≤ leastSize)
+
 pub plateau-rule : (n : ℕ) → PlateauRule n
 unfolding plateauBelow
 plateau-rule n =
@@ -69,7 +74,7 @@ from-all : (n p : ℕ) (ps : List ℕ) → AllFrom n ps → List·Memᴰ p ps �
 from-all n p [] a m = absurd (List·Memᴰ·not-nil m)
 from-all n p (q ∷ ps) a m = ⊎-elim (λ e. omega (arith, a .0)) (λ k. from-all n p ps (a .1) k) (List·Memᴰ·cases-cons m)
 
--- and the largest plateau below n is found
+-- the largest plateau below n is found
 largest-found : (n p : ℕ) → LargestBelow n p plateaus → plateauBelow n ≡ Size p
 unfolding plateauBelow
 largest-found n p l = go (plateauBelow n) refl
@@ -93,7 +98,7 @@ module _ (reported total : ℕ) where
       go false true e f h = let z : _≡_ {A = ℕ} 0 1 = cc in absurd (omega arith)
       go false false e f h = let same : reported ≡ c = cc in inl (same, omega (arith, ltb-false reported leastSize f))
 
-  -- and the candidate is found
+  -- what is the candidate is found
   pub is-candidate : (c : ℕ) → CandidateIs reported total c → candidateOf reported total ≡ Size c
   unfolding candidateOf
   is-candidate c =

@@ -20,7 +20,7 @@ module _ (P : ℕ) where
       go true e = let l = ltb-true leastMtu (P - outerHeader) e in inr (omega arith)
       go false e = let l = ltb-false leastMtu (P - outerHeader) e in inl (omega arith)
 
-  -- and nothing else is
+  -- nothing but the largest packet is the larger of both
   pub larger-is : (M : ℕ) → LargerOfBoth P M → M ≡ largestPacket P
   unfolding largestPacket
   larger-is M f = ⊎-elim (λ e. omega (arith, f .least, f .whole)) (λ e. omega (arith, f .least, f .whole)) (f .one)

@@ -50,7 +50,7 @@ pub among-four : (v : ℕ) (xs : List ℕ) (i : ℕ) → i + half ≤ length xs
     → ((eqb (getD xs i 0) v || eqb (getD xs (i + 1) 0) v) || (eqb (getD xs (i + 2) 0) v || eqb (getD xs (i + 3) 0) v)) ≡ isAmong v (take half (drop i xs))
 among-four v xs i h = rw (four xs i h) (joined (eqb (getD xs i 0) v) (eqb (getD xs (i + 1) 0) v) (eqb (getD xs (i + 2) 0) v) (eqb (getD xs (i + 3) 0) v))
 
--- and eight
+-- a number is among two lists one after another exactly if it is among one of them: of eight numbers, four and four
 among-both : (v : ℕ) (xs ys : List ℕ) → (isAmong v xs || isAmong v ys) ≡ isAmong v (xs ++ ys)
 among-both v [] ys = refl
 among-both v (x ∷ xs) ys = or-assoc (eqb x v) (isAmong v xs) (isAmong v ys) ∙ ap (λ (e : Bool). eqb x v || e) (among-both v xs ys)

@@ -1,4 +1,4 @@
--- Values of document 01 that are not among the starred ones and go by path sizes alone: a link of 1,500 bytes, and neighbour 7.
+-- Values of R12.6, R18.10, R19.5 and R19.6 that go by path sizes alone and are not starred: a link of 1,500 bytes, and neighbour 7.
 use Prim.Native.Nat.{ℕ, zero, suc, _+_}
 use mathlib.Core.Path.{_≡_}
 use mathlib.Core.Bool.{true}

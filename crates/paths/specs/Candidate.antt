@@ -1,4 +1,4 @@
--- Document 01, "Path size": the size that a report asks for.
+-- R9.6: the size that a report asks for.
 use Prim.Native.Nat.{ℕ}
 use mathlib.Core.Bool.{Bool, cond}
 use mathlib.Core.List.{List, [], _∷_}

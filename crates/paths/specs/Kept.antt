@@ -1,4 +1,4 @@
--- Document 01, "Path size": the size that is kept of a report, and the size in force. Table and record share these words.
+-- R10: the size that is kept of a report, and the size in force. Table and record share these words.
 use Prim.Native.Nat.{ℕ, _+_}
 use mathlib.Core.Bool.{cond}
 use mathlib.Core.List.{List, [], _∷_}

@@ -1,4 +1,4 @@
--- Document 01, "Sending": what a path of size P lets through.
+-- R7.6, R7.11: what a path of size P lets through.
 use Prim.Native.Nat.{ℕ, _+_, _-_, _≤_, max}
 use mathlib.Core.Path.{_≡_}
 use mathlib.Core.Logic.{_⊎_}
@@ -20,6 +20,6 @@ dontFragment P = ltb leastMtu (P - outerHeader)
 
 -- M is the larger of 1,280 and P − 20, said in plain facts: below neither of them, and one of them
 pub record LargerOfBoth (P M : ℕ) : Type 0 where
-  pub least : leastMtu ≤ M
-  pub whole : P ≤ outerHeader + M
-  pub one : (M ≡ leastMtu) ⊎ (outerHeader + M ≡ P)
+  pub least : 1280 ≤ M
+  pub whole : P ≤ 20 + M
+  pub one : (M ≡ 1280) ⊎ (20 + M ≡ P)

@@ -1,4 +1,4 @@
--- Document 01, "The record of demand 3": every accepted report, the newest first. Nothing is ever dropped from it.
+-- R11: every accepted report, the newest first. Nothing is ever dropped from it.
 use Prim.Native.Nat.{ℕ}
 use mathlib.Core.Bool.{cond}
 use mathlib.Core.List.{List, [], _∷_}

@@ -1,4 +1,4 @@
--- Document 01, "The record of demand 3": a sender is any choice of sendings with one neighbour. What it meets, and what it heeds.
+-- R12.6: a sender is any choice of sendings with one neighbour. What it meets, and what it heeds.
 use Prim.Native.Nat.{ℕ, suc, _≤_}
 use mathlib.Core.List.{List, [], _∷_}
 
@@ -26,7 +26,7 @@ Heeds ms (passed n ∷ h) = AtMostAll n ms × Heeds ms h
 Heeds ms (lowered ∷ h) = Heeds ms h
 Heeds ms (nothing ∷ h) = Heeds ms h
 
--- its Too Big answers
+-- the Too Big answers of a sender
 abbrev pub tooBigs : List Event → ℕ
 tooBigs [] = 0
 tooBigs (told n m ∷ h) = suc (tooBigs h)

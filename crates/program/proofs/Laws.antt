@@ -13,22 +13,17 @@ use Rattle.lent.specs.Written.{written}
 use Rattle.lent.proofs.Laws.{writtenAt-first}
 use Rattle.program.proofs.TextLaws.{Wrote, behind-fits}
 use Rattle.settings.specs.Settings.{isAccepted}
-use Rattle.node.specs.Node.{nodeOf, setupOf}
+use Rattle.node.specs.Node.{setupOf}
 use Rattle.node.specs.declared.Node.{Node}
 use Rattle.input.specs.Section.{countOf}
-use Rattle.input.specs.Input.{behindSettings, settingsOf, isWellFormed}
+use Rattle.input.specs.Input.{settingsOf, isWellFormed}
 use Rattle.input.specs.Recording.{Datagram, interfaceOf, bytesOf, datagramsOf}
 use Rattle.input.proofs.Laws.{Walked, walked-datagram}
-use Rattle.program.specs.Lines.{textOf, badInput}
+use Rattle.program.specs.Lines.{badInput}
 use Rattle.program.specs.Program.{lineOn, lineFor, linesOf, takenText, textFor, outputRoom, IsFront, countGiven, bytesLeft}
 use Rattle.program.proofs.Lengths.{text-short}
 
--- a well-formed input with settings that the rules accept gets its lines, and any other the one line
-pub text-taken : (s : List ℕ) → isWellFormed s ≡ true → isAccepted (settingsOf s) ≡ true
-    → textFor s ≡ textOf (linesOf (nodeOf (settingsOf s)) (behindSettings s))
-unfolding textFor takenText setupOf
-text-taken s h a = rw (h, a)
-
+-- refused settings, and an input that is not well-formed, get the one line
 pub text-refused : (s : List ℕ) → isAccepted (settingsOf s) ≡ false → textFor s ≡ badInput
 unfolding textFor takenText setupOf
 text-refused s a = rw a (same (isWellFormed s))

@@ -1,4 +1,4 @@
--- Worked values: document 01's example ("The program"), and inputs at the edge of it. Assumes nothing.
+-- Worked values: the worked input (R17.6), and inputs at the edge of it. Assumes nothing.
 use Prim.Native.Nat.{ℕ}
 use mathlib.Core.Path.{_≡_, refl}
 use mathlib.Core.List.{List, [], _∷_, _++_}
@@ -21,11 +21,11 @@ use Rattle.program.specs.Text.{decimal}
 use Rattle.program.specs.Lines.{datagramsWord, deliverWord, refuseWord, badInput, entryOf, countLine, lineOf, linesFrom, textOf}
 use Rattle.program.specs.Program.{lineOn, linesOf, takenText, textFor}
 
--- "One locator 10.0.0.1 on 0, no prefix, no router, two datagrams"
+-- the worked input (R17.6) up to its datagrams: one locator 10.0.0.1 on 0, no prefix, no router, two datagrams
 abbrev settings : List ℕ
 settings = 0 ∷ 1 ∷ 10 ∷ 0 ∷ 0 ∷ 1 ∷ 0 ∷ 0 ∷ 0 ∷ 0 ∷ 0 ∷ 0 ∷ 2 ∷ []
 
--- "of 60 bytes arriving on 0, with outer header .., inner payload length 0"
+-- a datagram of it: 60 bytes that arrive on 0, from 10.0.0.2, whose inner source embeds 10.0.0.`last`; no payload
 abbrev datagramFrom : ℕ → List ℕ
 datagramFrom last =
     0 ∷ 0 ∷ 60
@@ -34,7 +34,7 @@ datagramFrom last =
     ∷ 254 ∷ 128 ∷ 0 ∷ 0 ∷ 0 ∷ 0 ∷ 0 ∷ 0 ∷ 0 ∷ 0 ∷ 94 ∷ 254 ∷ 10 ∷ 0 ∷ 0 ∷ last
     ∷ 254 ∷ 128 ∷ 0 ∷ 0 ∷ 0 ∷ 0 ∷ 0 ∷ 0 ∷ 0 ∷ 0 ∷ 94 ∷ 254 ∷ 10 ∷ 0 ∷ 0 ∷ 1 ∷ []
 
--- "inner sources fe80::5efe:10.0.0.2 and fe80::5efe:10.0.0.3"
+-- the worked input: inner sources fe80::5efe:10.0.0.2 and fe80::5efe:10.0.0.3 (R17.6)
 abbrev example : List ℕ
 example = settings ++ (datagramFrom 2 ++ datagramFrom 3)
 

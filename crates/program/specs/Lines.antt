@@ -1,4 +1,4 @@
--- The program's output (document 01, "The program"), from what it says of each datagram.
+-- The program's output (R17.4), from what it says of each datagram.
 use Prim.Native.Nat.{ℕ, suc, _<_, _^_}
 use mathlib.Core.List.{List, [], _∷_, _++_}
 use lib.ListN.{length, take}
@@ -18,7 +18,7 @@ deliverWord = 32 ∷ 100 ∷ 101 ∷ 108 ∷ 105 ∷ 118 ∷ 101 ∷ 114 ∷ 32 
 abbrev pub refuseWord : List ℕ
 refuseWord = 32 ∷ 114 ∷ 101 ∷ 102 ∷ 117 ∷ 115 ∷ 101 ∷ 32 ∷ []
 
--- "the one line `bad input`", with its line feed
+-- the one line `bad input` (R17.5), with its line feed
 abbrev pub badInput : List ℕ
 badInput = 98 ∷ 97 ∷ 100 ∷ 32 ∷ 105 ∷ 110 ∷ 112 ∷ 117 ∷ 116 ∷ 10 ∷ []
 

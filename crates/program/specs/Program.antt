@@ -1,4 +1,4 @@
--- The program (document 01, "The program"): the output for any input.
+-- The program (R17): the output for any input.
 use Prim.Native.Nat.{ℕ, _+_, _*_, _≤_}
 use mathlib.Core.Path.{_≡_}
 use mathlib.Core.Bool.{cond}
@@ -30,7 +30,7 @@ lineWith (Refused refusal) n = Refuse (numberOf refusal)
 unfoldable pub lineOn : Node → ℕ → List ℕ → Line
 lineOn node interface d = lineWith (receiveOf node d interface) (length (partIn node d interface))
 
--- that of a datagram of a section
+-- the line of a datagram of a section
 abbrev pub lineFor : Node → Datagram → Line
 lineFor node d = lineOn node (d .interface) (d .bytes)
 
@@ -47,7 +47,7 @@ setupText (setup.Refused refusal) node r = badInput
 unfoldable pub takenText : List ℕ → List ℕ
 takenText s = setupText (setupOf (settingsOf s) .answer) (setupOf (settingsOf s) .node) (behindSettings s)
 
--- "Longer or malformed input, trailing bytes or refused settings: the one line `bad input`"
+-- longer or malformed input, trailing bytes or refused settings: the one line `bad input` (R17.5)
 unfoldable pub textFor : List ℕ → List ℕ
 textFor s = cond (isWellFormed s) (takenText s) badInput
 

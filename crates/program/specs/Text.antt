@@ -1,4 +1,4 @@
--- Text as bytes, and the place behind it: document 01, "The program".
+-- Text as bytes, and the place behind it (R17.4).
 use Prim.Native.Nat.{ℕ, zero, suc, _+_, _/_, _%_}
 use mathlib.Core.Bool.{cond}
 use mathlib.Core.List.{List, [], _∷_, _++_}

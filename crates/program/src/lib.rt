@@ -1,4 +1,4 @@
-// Document 01's program: from the bytes of its input to the bytes of its output.
+// The program (R17): from the bytes of its input to the bytes of its output.
 mod lines;
 mod text;
 

@@ -24,7 +24,7 @@ use Rattle.settings.specs.declared.Settings.{Settings}
 use Rattle.routers.specs.declared.Router.{Router}
 use Rattle.receiving.specs.Receive.{receiveRows, receivedOf, partOf}
 use Rattle.receiving.specs.Facts.{headerLength, totalLength, behindHeader, encapsulated, innerLength, OuterWhole, InnerWhole, receiveFacts}
-use Rattle.receiving.specs.Admitted.{Admits, delivered, DeliversExactly}
+use Rattle.receiving.specs.Admitted.{Admits, delivered, DeliveredExactly}
 use Rattle.receiving.specs.declared.Received.{Received}
 use Rattle.receiving.specs.declared.Received.the-variants.{Delivered, Refused}
 use Rattle.receiving.proofs.Facts.{decides-source-right}
@@ -161,8 +161,8 @@ module _ (s : Settings) (routers : List Router) (d : List ℕ) (interface : ℕ)
   refused (Delivered offset size) e n = absurd (n (only-placed offset size e))
   refused (Refused q) e n = (q, e)
 
-pub delivers-exactly : DeliversExactly
-unfolding DeliversExactly
+-- receiving does exactly what the rules say, for all settings, router lists, datagrams and interfaces
+pub delivers-exactly : (s : Settings) (routers : List Router) (d : List ℕ) (interface : ℕ) → DeliveredExactly s routers d interface
 delivers-exactly s routers d interface = record {
   answers = first-fact s routers d interface;
   placedOnlyIf = only-placed s routers d interface;

@@ -40,19 +40,15 @@ module _ (s : Settings) (routers : List Router) (d : List ℕ) (interface : ℕ)
     pub answers : AnswersFirst Refused (receiveFacts s routers d interface (encapsulated d)) (Delivered (headerLength d) (innerLength (encapsulated d))) (receivedOf s routers d interface)
     -- it gives a place and a length only when the rules hold
     pub placedOnlyIf : (offset size : ℕ) → receivedOf s routers d interface ≡ Delivered offset size → Admits
-    -- and whenever they hold, the exact ones
+    -- whenever the rules hold, it gives the exact place and length
     pub placedIf : Admits → receivedOf s routers d interface ≡ Delivered (headerLength d) (innerLength (behindHeader d))
-    -- it gives a number only when they do not hold
+    -- it gives a number only when the rules do not hold
     pub refusedOnlyIf : (r : Refusal) → receivedOf s routers d interface ≡ Refused r → Admits → ⊥
-    -- and whenever they do not hold
+    -- whenever the rules do not hold, it gives a number
     pub refusedIf : (Admits → ⊥) → (r : Refusal) × (receivedOf s routers d interface ≡ Refused r)
     -- the part is non-empty only when the rules hold
     pub onlyIf : 0 < length delivered → Admits
-    -- and whenever they hold, it is the 40 + payload length bytes behind the outer header, options included
+    -- whenever the rules hold, the part is the 40 + payload length bytes behind the outer header, options included
     pub if : Admits → delivered ≡ take (innerLength (behindHeader d)) (behindHeader d)
-    -- which are 40 at least
+    -- the part of an admitted datagram has 40 bytes at least
     pub nonEmpty : Admits → 40 ≤ length delivered
-
--- demand 2 of receiving, for all settings, router lists, datagrams and interfaces
-unfoldable pub DeliversExactly : Type 0
-DeliversExactly = (s : Settings) (routers : List Router) (d : List ℕ) (interface : ℕ) → DeliveredExactly s routers d interface

@@ -77,7 +77,7 @@ InnerBad s p = BadSource (ForbiddenTo s) (addressAt p 8)
 abbrev pub SourceRight : Settings → List Router → List ℕ → List ℕ → Type 0
 SourceRight s routers d p = IsatapTo s (addressAt p 8) (quadAt d 12) ⊎ Listed (quadAt d 12) routers
 
--- document 01, "Numbers given back", in the order of receiving: what each number is given for, of a datagram d that encapsulates p
+-- R4, in the order of receiving: what each number is given for, of a datagram d that encapsulates p
 abbrev pub receiveFacts : Settings → List Router → List ℕ → ℕ → List ℕ → List (Type 0 × Refusal)
 receiveFacts s routers d interface p =
     (OuterWhole d → ⊥, OuterMalformed)

@@ -1,4 +1,4 @@
--- Receiving (document 01, "Receiving"): the order 2 to 10, and what comes of a datagram.
+-- Receiving (R5): the order 2 to 10, and what comes of a datagram.
 use Prim.Native.Nat.{ℕ}
 use mathlib.Core.Bool.{Bool, false, not, _||_}
 use mathlib.Core.List.{List, [], _∷_}
@@ -11,6 +11,7 @@ use Rattle.refusals.specs.Refusals.{firstOf, stopOr}
 use Rattle.refusals.specs.Given.{Given, answered, refused}
 use Rattle.refusals.specs.declared.Refusal.{Refusal}
 use Rattle.refusals.specs.declared.Refusal.the-variants.{OuterMalformed, OuterChecksum, OtherProtocol, Piece, NotForUs, OuterSourceForbidden, InnerMalformed, InnerSourceBad, OuterSourceWrong}
+use Rattle.header.specs.Numbers.{ipv6}
 use Rattle.header.specs.Outer.{outerOf, isOuterMalformed, isSumWrong, payloadOf}
 use Rattle.header.specs.Inner.{innerOf, isInnerMalformed}
 use Rattle.header.specs.declared.outer.Outer.{Outer}
@@ -40,7 +41,7 @@ abbrev pub receiveRows : Settings → List Router → ℕ → List ℕ → Outer
 receiveRows s routers interface d o n i =
     (isOuterMalformed (length d) o, OuterMalformed)
     ∷ (isSumWrong d o, OuterChecksum)
-    ∷ (not (eqb (o .protocol) 41), OtherProtocol)
+    ∷ (not (eqb (o .protocol) ipv6), OtherProtocol)
     ∷ (not (eqb (o .fragment) 0), Piece)
     ∷ (not (isOurLocator s (o .destination) interface), NotForUs)
     ∷ (forbiddenTo s (o .source), OuterSourceForbidden)
@@ -57,12 +58,12 @@ receivedOf s routers d interface =
     let i : Inner = innerOf p in
     stopOr Refused (firstOf (receiveRows s routers interface d o (length p) i)) (Delivered (o .header) (i .length))
 
--- "The answer is the part of the lent datagram that holds the 40 + payload length inner bytes; after a refusal that part is empty"
+-- the answer is the part of the lent datagram that holds the 40 + payload length inner bytes; after a refusal that part is empty (R5.13)
 abbrev pub partOf : Received → List ℕ → List ℕ
 partOf (Delivered offset size) d = take size (drop offset d)
 partOf (Refused refusal) d = []
 
--- document 01's number and values: where the inner packet stands, and its length
+-- number and values (R1.17): where the inner packet stands, and its length
 abbrev pub receivedGiven : Received → Given
 receivedGiven (Delivered offset size) = answered (offset ∷ (size ∷ []))
 receivedGiven (Refused refusal) = refused refusal

@@ -25,7 +25,7 @@ use Rattle.receiving.specs.declared.Received.the-variants.{Delivered, Re
 abbrev pub arrivalRows : Settings → ℕ → Outer → List (Bool × Refusal)
 arrivalRows s interface o = (not (isOurLocator s (o .destination) interface), NotForUs) ∷ (forbiddenTo s (o .source), OuterSourceForbidden) ∷ []
 
--- the first of them
+-- the first of 6 and 7
 unfoldable pub arrivalCheck : Settings → ℕ → Outer → Check
 arrivalCheck s interface o = firstOf (arrivalRows s interface o)
 
@@ -37,7 +37,7 @@ innerRows s isListed source n i =
     ∷ (not (isSourceRight s isListed source (i .source)), OuterSourceWrong)
     ∷ []
 
--- the first of them
+-- the first of 8, 9 and 10
 unfoldable pub innerCheck : Settings → Bool → ℕ → ℕ → Inner → Check
 innerCheck s isListed source n i = firstOf (innerRows s isListed source n i)
 
@@ -47,6 +47,6 @@ opened s routers d o =
     let p : List ℕ = payloadOf d o in
     stopOr Refused (innerCheck s (listed (o .source) routers) (o .source) (length p) (innerOf p)) (Delivered (o .header) (innerOf p .length))
 
--- 6 and 7 before them
+-- 6 and 7, then 8 to 10, and then the inner packet
 unfoldable pub arrived : Settings → List Router → List ℕ → ℕ → Outer → Received
 arrived s routers d interface o = stopOr Refused (arrivalCheck s interface o) (opened s routers d o)

@@ -1,5 +1,6 @@
 // Receiving: whether a datagram is delivered, and which part of it.
 use address::prefixes;
+use header::INNER_HEADER;
 use header::fields;
 use header::inner;
 use header::inner::Inner;
@@ -22,7 +23,7 @@ pub enum Received {
 }
 
 impl Received {
-    // Document 01's number, 0 where the datagram is delivered.
+    // The number (R4), 0 where the datagram is delivered.
     pub fn number(self) -> u8
         ensures { λ r. ⌜ r ≡ receivedGiven self .number ⌝ }
     {
@@ -99,7 +100,7 @@ fn open(settings: Settings, routers: RouterList, d: &[u8], o: Outer) -> Received
     ensures { λ r. ⌜ r ≡ opened settings (live routers) (now (d .entry)) o ⌝ }
 {
     let payload = outer::payload(d, o);
-    if payload.len() < 40 {
+    if payload.len() < INNER_HEADER {
         return Received::Refused(Refusal::InnerMalformed);
     }
     let i = inner::inner_header(payload);

@@ -1,5 +1,5 @@
--- What document 01's tables say of an answer: the number given back, 0 where the call is not refused, and the values that go
--- with it, in the order in which document 01 names them.
+-- What R4 says of an answer: the number given back, 0 where the call is not refused, and the values that go
+-- with it, in the order in which R1.17 names them.
 use Prim.Native.Nat.{ℕ}
 use mathlib.Core.Bool.{cond}
 use mathlib.Core.List.{List, []}

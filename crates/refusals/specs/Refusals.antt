@@ -1,4 +1,4 @@
--- The numbers given back (document 01, "Numbers given back"). 14, Too Big, stands in the answer of sending.
+-- The numbers given back (R4). 14, Too Big, stands in the answer of sending.
 use Prim.Native.Nat.{ℕ}
 use mathlib.Core.Path.{_≡_}
 use mathlib.Core.Logic.{_⊎_}
@@ -34,7 +34,7 @@ numberOf AdvertiserNotListed = 21
 numberOf NoRouterDue = 22
 numberOf WrappedTooLong = 23
 
--- "Where several apply, the first in the call's order is given"
+-- where several apply, the first in the call's order is given (R1.13)
 abbrev pub firstOf : List (Bool × Refusal) → Check
 firstOf [] = Pass
 firstOf (t ∷ ts) = cond (t .0) (Stop (t .1)) (firstOf ts)

@@ -1,4 +1,4 @@
-// The numbers given back: a name for each refusal of document 01's table, and the first of several tests that refuses.
+// The numbers given back: a name for each refusal of R4, and the first of several tests that refuses.
 ghost use mathlib.Core.Path.{_≡_};
 ghost use Rattle.refusals.specs.Refusals.{numberOf};
 
@@ -35,7 +35,7 @@ pub enum Check {
 }
 
 impl Refusal {
-    // Document 01's number.
+    // The number (R4).
     pub fn number(self) -> u8
         ensures { λ r. ⌜ r ≡ numberOf self ⌝ }
     {

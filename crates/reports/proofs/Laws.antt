@@ -32,7 +32,7 @@ module _ (s : Settings) (m : List ℕ) where
       let j = judged-size (candidateFor m) (neighbourOf m) v c (p .1) in
       (p .0, j .0, j .1)
 
-  -- and what passes 16 and 17 and has a candidate is such a report
+  -- what passes 16 and 17 and has a candidate is a report of it
   pub passed-judged : (v c : ℕ) → reportCheck s m (outerOf (quoteOf m)) ≡ Pass → neighbourOf m ≡ v → candidateFor m ≡ Size c → judgedOf s m ≡ judged.Report v c
   unfolding judgedOf
   passed-judged v c p n k = rw (p, k, n)

@@ -7,20 +7,18 @@ use mathlib.Core.List.{List}
 use lib.ListN.{length, getD}
 use Rattle.checksum.specs.Sum.{onesSum}
 use Rattle.header.specs.Fields.{wordAt, quadAt}
-use Rattle.header.specs.Numbers.{ipv6}
 use Rattle.header.specs.Outer.{quoteOf}
 use Rattle.paths.specs.Largest.{CandidateIs}
 use Rattle.refusals.specs.declared.Refusal.the-variants.{ReportMalformed, QuoteNotOurs, SizeUnusable, SizeNotBelow}
 use Rattle.settings.specs.Facts.{ForbiddenTo, Ours}
 use Rattle.settings.specs.declared.Settings.{Settings}
-use Rattle.reports.specs.Report.{leastMessage}
 use Rattle.reports.specs.declared.ReportAnswer.{ReportAnswer}
 use Rattle.reports.specs.declared.ReportAnswer.the-variants.{Accepted, Refused}
 
 -- 16 does not hold of a message m
 pub record WellFormed (m : List ℕ) : Type 0 where
   -- RFC 792: at least 8 bytes and an IPv4 header, with a checksum that is right
-  pub some : leastMessage ≤ length m
+  pub some : 28 ≤ length m
   pub checksumRight : onesSum m ≡ 0xFFFF
   -- RFC 1191, 4: destination unreachable, fragmentation needed
   pub kind : getD m 0 0 ≡ 3
@@ -32,7 +30,7 @@ pub record WellFormed (m : List ℕ) : Type 0 where
 
 -- 17 does not hold: the quoted datagram is of our sending, protocol 41, from a locator address to a tunnel end, the neighbour v
 pub record OfOurs (s : Settings) (m : List ℕ) (v : ℕ) : Type 0 where
-  pub protocol : getD (quoteOf m) 9 0 ≡ ipv6
+  pub protocol : getD (quoteOf m) 9 0 ≡ 41
   pub source : Ours s (quadAt (quoteOf m) 12)
   pub neighbour : quadAt (quoteOf m) 16 ≡ v
   pub allowed : ForbiddenTo s v → ⊥

@@ -1,4 +1,4 @@
--- Size reports (document 01, "Path size"): 16, 17 and 18 by the settings and the bytes alone, then 19 by the size in force.
+-- Size reports (R9): 16, 17 and 18 by the settings and the bytes alone, then 19 by the size in force.
 use Prim.Native.Nat.{ℕ, _+_}
 use mathlib.Core.Bool.{Bool, cond, not, _||_}
 use mathlib.Core.List.{List, [], _∷_}
@@ -46,7 +46,7 @@ isQuoteForeign s quoted =
 abbrev pub reportRows : Settings → List ℕ → Outer → List (Bool × Refusal)
 reportRows s m quoted = (isReportMalformed m quoted, ReportMalformed) ∷ (isQuoteForeign s quoted, QuoteNotOurs) ∷ []
 
--- the first of them that a message gets whose quoted header has these fields
+-- the first of 16 and 17 that a message gets whose quoted header has these fields
 unfoldable pub reportCheck : Settings → List ℕ → Outer → Check
 reportCheck s m quoted = firstOf (reportRows s m quoted)
 

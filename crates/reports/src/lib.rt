@@ -117,7 +117,7 @@ pub fn answer(judged: Judged, in_force: u16) -> ReportAnswer
 }
 
 impl ReportAnswer {
-    // Document 01's number, 0 for an accepted report.
+    // The number (R4), 0 for an accepted report.
     pub fn number(self) -> u8
         ensures { λ r. ⌜ r ≡ reportGiven self .number ⌝ }
     {

@@ -86,7 +86,7 @@ earliest-stands r (s ∷ rs) = go (earlierOf r s) (chosen r s) (earliest-stands 
         let v : Stands (s ∷ rs) (earliest c rs) = rw (← k .0) w in
         before r (earliest c rs) (s ∷ rs) (omega (arith, k .1, first (earliest c rs) v)) v
 
--- and a router that stands so is the earliest
+-- a router with no earlier one behind it is the earliest
 stands-kept : (e : Router) (back : List Router) → ((r : Router) → List·Memᴰ r back → e .due ≤ r .due) → earliest e back ≡ e
 unfolding earliest earlierOf
 stands-kept e [] higher = refl

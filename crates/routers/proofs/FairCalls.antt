@@ -1,4 +1,4 @@
--- Document 01, "Routers": which routers are served, over any list of calls that leaves the router list unchanged.
+-- R13.6: which routers are served, over any list of calls that leaves the router list unchanged.
 use Prim.Native.Nat.{ℕ, _+_, _≤_, max}
 use mathlib.Core.Path.{_≡_}
 use mathlib.Core.List.{List, [], _∷_, _++_, List·Memᴰ}

@@ -51,7 +51,7 @@ module _ (q : ℕ → Bool) (a d : ℕ) (out : q d ≡ false) where
   no-more [] = omega arith
   no-more (r ∷ rs) = omega (arith, not-made r, no-more rs)
 
-  -- and takes one away if a router of the address was of the kind
+  -- a new due time takes one away from the count if a router of the address was of the kind
   one-fewer : {rs : List Router} (e : Router) → e .address ≡ a → q (e .due) ≡ true → List·Memᴰ e rs → count q (rescheduled a d rs) < count q rs
   unfolding count one dueIf
   one-fewer e is was (List·Memᴰ·head {x} {xs} h) =

@@ -28,7 +28,7 @@ module _ {A : Type 0} (n i : ℕ) (xs : List A) where
       → (found || anyOf p (drop i (take n xs))) ≡ (found || p (getD xs i z) || anyOf p (drop (i + 1) (take n xs)))
   any-step z h p found = rw (rest z h, or-assoc)
 
-  -- the same for a loop that leaves at the first element that passes
+  -- a loop that leaves at the first element that passes knows that some element does
   pub any-here : (z : A) → i < length (take n xs) → (p : A → Bool) → p (getD xs i z) ≡ true → anyOf p (drop i (take n xs)) ≡ true
   any-here z h p e = rw (rest z h, e)
 

@@ -24,7 +24,7 @@ unfolding dueIf
 listed-rescheduled b a d [] = refl
 listed-rescheduled b a d (r ∷ rs) = ap (λ (q : Bool). eqb (r .address) b || q) (listed-rescheduled b a d rs)
 
--- and nothing changes for an address that is not listed
+-- a new due time of an address that is not listed changes nothing
 pub rescheduled-unlisted : (a d : ℕ) (rs : List Router) → listed a rs ≡ false → rescheduled a d rs ≡ rs
 unfolding dueIf
 rescheduled-unlisted a d [] h = refl

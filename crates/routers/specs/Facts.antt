@@ -7,11 +7,11 @@ use Rattle.lists.specs.Any.{Some}
 use Rattle.routers.specs.declared.Router.{Router}
 use Rattle.routers.specs.declared.RouterList.{RouterList}
 
--- "Receiving": some router of the list has the address
+-- R5.12, R15.5: some router of the list has the address
 unfoldable pub Listed : ℕ → List Router → Type 0
 Listed a rs = Some (λ (r : Router). r .address ≡ a) rs
 
--- "Routers": the router with the earliest due time that is not in the future, lowest place on a tie
+-- R13.3: the router with the earliest due time that is not in the future, lowest place on a tie
 pub record EarliestDue (now : ℕ) (rs : List Router) (a : ℕ) : Type 0 where
   pub front : List Router
   pub router : Router

@@ -1,4 +1,4 @@
--- Document 01, "Routers" and "Settings": what the calls of the router list give.
+-- R2.13, R13: what the calls of the router list give.
 use Prim.Native.Nat.{ℕ}
 use mathlib.Core.List.{List, [], _∷_, map}
 use mathlib.Core.Bool.{Bool, true, cond, not, _&&_}
@@ -10,32 +10,32 @@ use Rattle.routers.specs.declared.RouterList.{RouterList}
 use Rattle.routers.specs.declared.Next.{Next}
 use Rattle.routers.specs.declared.Next.the-variants.{Due, NoneDue}
 
--- "Settings": routers 0 to 16
+-- R2.4: routers 0 to 16
 abbrev pub places : ℕ
 places = 16
 
--- "Settings": the routers of a list are the first `count` of its places, all 16 if `count` is larger
+-- R2.4: the routers of a list are the first `count` of its places, all 16 if `count` is larger
 abbrev pub live : RouterList → List Router
 live l = take (l .count) (l .routers)
 
--- "Receiving": a listed router is one whose address is in the list
+-- R5.12: a listed router is one whose address is in the list
 abbrev pub listed : ℕ → List Router → Bool
 listed a rs = anyOf (λ r. eqb (r .address) a) rs
 
--- "Routers": of two routers the one with the earlier due time, the first on a tie
+-- R13.3: of two routers the one with the earlier due time, the first on a tie
 unfoldable pub earlierOf : Router → Router → Router
 earlierOf r s = cond (ltb (s .due) (r .due)) s r
 
--- "Routers": the router with the earliest due time, lowest place on a tie, of a list that begins with r
+-- R13.3: the router with the earliest due time, lowest place on a tie, of a list that begins with r
 unfoldable pub earliest : Router → List Router → Router
 earliest r [] = r
 earliest r (s ∷ rs) = earliest (earlierOf r s) rs
 
--- "Routers": a router is asked if its due time is not in the future
+-- R13.3: a router is asked if its due time is not in the future
 abbrev pub ifDue : ℕ → Router → Next
 ifDue now r = cond (leb (r .due) now) (Due (r .address)) NoneDue
 
--- "Routers": the router with the earliest due time that is not in the future, lowest place on a tie
+-- R13.3: the router with the earliest due time that is not in the future, lowest place on a tie
 unfoldable pub nextOf : ℕ → List Router → Next
 nextOf now [] = NoneDue
 nextOf now (r ∷ rs) = ifDue now (earliest r rs)
@@ -49,23 +49,23 @@ dueOr other a (r ∷ rs) = cond (eqb (r .address) a) (r .due) (dueOr other a rs)
 unfoldable pub dueIf : ℕ → ℕ → Router → Router
 dueIf a d r = record { address = r .address; due = cond (eqb (r .address) a) d (r .due) }
 
--- "Routers": the due time of the router of address a becomes d
+-- R13.5: the due time of the router of address a becomes d
 abbrev pub rescheduled : ℕ → ℕ → List Router → List Router
 rescheduled a d rs = map (dueIf a d) rs
 
--- the same at every place of a list, in force or behind the count
+-- R13.5: the due time becomes d at every place of a router list that has the address a, in force or behind the count
 abbrev pub rescheduledOf : ℕ → ℕ → RouterList → RouterList
 rescheduledOf a d l = record { routers = rescheduled a d (l .routers); count = l .count }
 
--- "Settings": a router in both lists keeps its due time, a new one is due now
+-- R2.13: a router in both lists keeps its due time, a new one is due now
 abbrev pub kept : ℕ → List Router → ℕ → Router
 kept now old a = record { address = a; due = dueOr now a old }
 
--- "Settings": the router list replaced, with a time; a count above 16 is read as 16, here as everywhere
+-- R2.13: the router list replaced, with a time; a count above 16 is read as 16, here as everywhere
 abbrev pub replacedOf : List ℕ → ℕ → ℕ → RouterList → RouterList
 replacedOf addresses n now l = record { routers = map (kept now (live l)) addresses; count = n }
 
--- "Settings": at setup all are due at time 0
+-- R2.12: at setup all are due at time 0
 abbrev pub newOf : List ℕ → ℕ → RouterList
 newOf addresses n = record { routers = map (λ a. record { address = a; due = 0 }) addresses; count = n }
 
@@ -73,7 +73,7 @@ newOf addresses n = record { routers = map (λ a. record { address = a; due = 0 
 abbrev pub among : ℕ → List ℕ → Bool
 among a bs = anyOf (λ b. eqb b a) bs
 
--- "Settings": routers are distinct
+-- R2.4: routers are distinct
 unfoldable pub areDistinct : List ℕ → Bool
 areDistinct [] = true
 areDistinct (a ∷ bs) = not (among a bs) && areDistinct bs

@@ -39,7 +39,7 @@ impl Router {
         }
     }
 
-    // The same router, due at `due` if it has that address.
+    // This router, due at `due` if it has that address, else as it is.
     fn rescheduled(self, address: u32, due: u64) -> Self
         ensures { λ r. ⌜ r ≡ dueIf address due self ⌝ }
     {

@@ -16,6 +16,7 @@ use Rattle.header.proofs.DrawsLaws.{decides-draws}
 use Rattle.header.proofs.WriterLaws.{wrap-too-long, wrap-short}
 use Rattle.lists.proofs.Decides.{fails, refutes}
 use Rattle.messages.specs.Icmp.{tooBigLength, tooBigCheck, tooBigAnswer, tooBigOutput}
+use Rattle.messages.proofs.Facts.{too-big-bytes}
 use Rattle.messages.proofs.WriterLaws.{too-big-short, too-big-pass}
 use Rattle.paths.specs.Packets.{largestPacket}
 use Rattle.paths.proofs.PacketsLaws.{larger-of-both, larger-is}
@@ -86,7 +87,7 @@ module _ (s : Settings) (P : ℕ) (packet hop : List ℕ) (k : ℕ) where
     unfolding sentOf sentOutput tooBigAnswer tooBigOutput
     too-big-exactly = record {
       onlyIf = too-big-only;
-      told = λ M f d l. let p = exceeds-tell M f d in let c = too-big-pass (length packet) (length out) (headed M f) l in ((rw p (rw c), rw p (rw c)), rw p (rw c));
+      told = λ M f d l. let p = exceeds-tell M f d in let c = too-big-pass (length packet) (length out) (headed M f) l in ((rw p (rw c), rw p (rw c)), rw (← too-big-bytes (s .reporting) M packet) (rw p (rw c)));
       silent = λ M f n. let p = exceeds-silent M f n in ((rw p, rw p), rw p);
     }
 

@@ -80,7 +80,7 @@ module _ (s : Settings) (packet hop : List ℕ) (k : ℕ) where
       let end = refutes (isBadEnd s (lastQuad hop)) (decides-bad-end s (lastQuad hop)) (⊎-elim (f .allowed) (f .foreign)) in
       all-pass (sendRows s packet hop k) (whole-passes (f .whole), (locator-passes a (f .locator), (isatap-passes (lastQuad hop) (f .isatap), (end, tt))))
 
-  -- and what passes has the facts
+  -- a packet that passes 8, 11, 12 and 13 has the facts
   pub check-passes : sendCheck s packet hop k ≡ Pass → Passes s packet hop k (addressOf (sourceOf s k))
   unfolding sendCheck sourceOf
   check-passes e =

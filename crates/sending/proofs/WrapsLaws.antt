@@ -58,7 +58,7 @@ module _ (s : Settings) (P : ℕ) (packet hop : List ℕ) (k : ℕ) where
         let f = wrap-fits n (length out) (c .0) in
         (c .1, (addressOf (sourceOf s k), record { passes = check-passes s packet hop k (p .0); path = takes P n (p .1); total = f .0; output = f .1 }))
 
-    -- and what keeps the rules is wrapped
+    -- what keeps the rules is wrapped
     module _ (a : ℕ) (w : Wraps s P packet hop k (length out) a) where
       wraps-check : wrapCheck (length packet) (length out) ≡ Pass
       wraps-check = wrap-pass (length packet) (length out) (w .total) (w .output)

@@ -1,15 +1,13 @@
 -- Demand 2 of sending, said in plain facts, for every number: when 14 is given and what is then written, and when each refusal is given.
-use Prim.Native.Nat.{ℕ, _+_, _≤_, _<_}
+use Prim.Native.Nat.{ℕ, _+_, _≤_, _<_, min}
 use mathlib.Core.Path.{_≡_}
 use mathlib.Core.Logic.{_⊎_}
 use mathlib.Core.List.{List}
 use lib.ListN.{length}
 use Rattle.address.specs.Address.{lastQuad}
 use Rattle.header.specs.Draws.{DrawsMessage}
-use Rattle.header.specs.Numbers.{outerHeader}
-use Rattle.header.specs.Wrap.{longestTotal}
 use Rattle.lent.specs.Written.{written}
-use Rattle.messages.specs.Icmp.{tooBigOf, tooBigLength}
+use Rattle.messages.specs.Facts.{tooBigBytes}
 use Rattle.paths.specs.Packets.{LargerOfBoth}
 use Rattle.refusals.specs.declared.Refusal.{Refusal}
 use Rattle.refusals.specs.declared.Refusal.the-variants.{InnerMalformed, NoLocator, NextHopNotIsatap, TunnelEndForbidden, OutputShort, WrappedTooLong}
@@ -25,14 +23,18 @@ pub record Exceeds (s : Settings) (P : ℕ) (packet hop : List ℕ) (k M : ℕ) 
   pub largest : LargerOfBoth P M
   pub longer : M < length packet
 
+-- the length of the message: 48 and the min(n, 1,232) bytes that it quotes
+abbrev pub messageLength : List ℕ → ℕ
+messageLength packet = 48 + min 1232 (length packet)
+
 -- 14 names the length of a message that the packet draws and the room takes, or 0 where it draws none
 abbrev pub Names : List ℕ → ℕ → ℕ → Type 0
 Names packet room len =
-    (DrawsMessage packet × (len ≡ tooBigLength (length packet)) × (len ≤ room)) ⊎ ((DrawsMessage packet → ⊥) × (len ≡ 0))
+    (DrawsMessage packet × (len ≡ messageLength packet) × (len ≤ room)) ⊎ ((DrawsMessage packet → ⊥) × (len ≡ 0))
 
 -- of a sending with identification i into the output `out`: its answer, the next identification, and the output afterwards
 module _ (s : Settings) (i P : ℕ) (packet hop : List ℕ) (k : ℕ) (out : List ℕ) (answer : SendAnswer) (next : ℕ) (output : List ℕ) where
-  -- that answer is given, and no identification is used
+  -- the answer a is given, and no identification is used
   abbrev pub Gives : SendAnswer → Type 0
   Gives a = (answer ≡ a) × (next ≡ i)
 
@@ -40,13 +42,13 @@ module _ (s : Settings) (i P : ℕ) (packet hop : List ℕ) (k : ℕ) (out : Lis
   pub record TooBigExactly : Type 0 where
     -- 14 is given only when its rules hold
     pub onlyIf : (M len : ℕ) → answer ≡ TooBig M len → Exceeds s P packet hop k M × Names packet (length out) len
-    -- and whenever they hold: with a message, which is written, and what stood behind it stays
-    pub told : (M : ℕ) → Exceeds s P packet hop k M → DrawsMessage packet → tooBigLength (length packet) ≤ length out
-        → Gives (TooBig M (tooBigLength (length packet))) × (output ≡ written (tooBigOf (s .reporting) M packet) out)
-    -- or without one, and nothing is written
+    -- whenever its rules hold and the packet draws a message: that is written, and what stood behind it stays
+    pub told : (M : ℕ) → Exceeds s P packet hop k M → DrawsMessage packet → messageLength packet ≤ length out
+        → Gives (TooBig M (messageLength packet)) × (output ≡ written (tooBigBytes (s .reporting) M packet) out)
+    -- whenever its rules hold and the packet draws no message: nothing is written
     pub silent : (M : ℕ) → Exceeds s P packet hop k M → (DrawsMessage packet → ⊥) → Gives (TooBig M 0) × (output ≡ out)
 
-  -- that refusal is given, and nothing is written
+  -- the refusal r is given, and nothing is written
   abbrev pub Refuses : Refusal → Type 0
   Refuses r = Gives (Refused r) × (output ≡ out)
 
@@ -57,12 +59,12 @@ module _ (s : Settings) (i P : ℕ) (packet hop : List ℕ) (k : ℕ) (out : Lis
     pub notIsatap : (a : ℕ) → Whole packet → LocatorAt s k a → ((v : ℕ) → IsatapTo s hop v → ⊥) → Refuses NextHopNotIsatap
     pub badEnd : (a : ℕ) → Whole packet → LocatorAt s k a → IsatapTo s hop (lastQuad hop) → BadEnd s (lastQuad hop) → Refuses TunnelEndForbidden
     -- too little room for the message of 14
-    pub messageShort : (M : ℕ) → Exceeds s P packet hop k M → DrawsMessage packet → length out < tooBigLength (length packet) → Refuses OutputShort
-    pub tooLong : (a : ℕ) → Passes s packet hop k a → PathTakes P (length packet) → longestTotal < outerHeader + length packet → Refuses WrappedTooLong
-    pub short : (a : ℕ) → Passes s packet hop k a → PathTakes P (length packet) → outerHeader + length packet ≤ longestTotal
-        → length out < outerHeader + length packet → Refuses OutputShort
+    pub messageShort : (M : ℕ) → Exceeds s P packet hop k M → DrawsMessage packet → length out < messageLength packet → Refuses OutputShort
+    pub tooLong : (a : ℕ) → Passes s packet hop k a → PathTakes P (length packet) → 65535 < 20 + length packet → Refuses WrappedTooLong
+    pub short : (a : ℕ) → Passes s packet hop k a → PathTakes P (length packet) → 20 + length packet ≤ 65535
+        → length out < 20 + length packet → Refuses OutputShort
 
-  -- all of it
+  -- a sending does exactly what the rules say: a packet wrapped, 14, and each refusal
   pub record SentExactly : Type 0 where
     pub wrapped : WrappedExactly s i P packet hop k out answer next output
     pub tooBig : TooBigExactly

@@ -1,4 +1,4 @@
--- What a sending comes to (document 01, "Sending"), before a byte is written: 8, 11, 12, 13, then 14. 23 and 15 are the writers'.
+-- What a sending comes to (R7), before a byte is written: 8, 11, 12, 13, then 14. 23 and 15 are the writers'.
 use Prim.Native.Nat.{ℕ}
 use mathlib.Core.Bool.{Bool, true, false, cond}
 use mathlib.Core.List.{List, [], _∷_}
@@ -25,7 +25,7 @@ use Rattle.sending.specs.declared.judging.Plan.the-variants.{Wrap, Tell,
 unfoldable pub sourceOf : Settings → ℕ → Found
 sourceOf s k = locatorFound (s .locators) (s .«locator_count») k
 
--- its address; 0 where there is none, and then 11 is given
+-- the address of a locator that was found; 0 where there is none, and then 11 is given
 abbrev pub addressOf : Found → ℕ
 addressOf (found.Address a) = a
 addressOf found.Nothing = 0
@@ -50,11 +50,11 @@ sendRows s packet hop k =
     ∷ (isBadEnd s (lastQuad hop), TunnelEndForbidden)
     ∷ []
 
--- the first of them that a packet to that next hop gets, from locator k
+-- the first of 8, 11, 12 and 13 that a packet to that next hop gets, from locator k
 unfoldable pub sendCheck : Settings → List ℕ → List ℕ → ℕ → Check
 sendCheck s packet hop k = firstOf (sendRows s packet hop k)
 
--- "If n > M: 14", with a message where the packet may draw one. "Otherwise the packet is wrapped", from the locator's address
+-- if n > M: 14 (R7.7), with a message where the packet may draw one. Otherwise the packet is wrapped (R7.10), from the locator's address
 unfoldable pub sizedPlan : ℕ → List ℕ → ℕ → Plan
 sizedPlan P packet source =
     let size : ℕ = largestPacket P in

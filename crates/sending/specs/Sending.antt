@@ -1,4 +1,4 @@
--- A sending (document 01, "Sending"): its answer, the next identification, and what it leaves in the output.
+-- A sending (R7): its answer, the next identification, and what it leaves in the output.
 use Prim.Native.Nat.{ℕ, _+_, _%_}
 use mathlib.Core.List.{List, [], _∷_}
 use lib.ListN.{length}
@@ -36,7 +36,7 @@ planAnswer (Tell size) n room = toldAs size (tooBigAnswer n room)
 planAnswer (Silent size) n room = TooBig size 0
 planAnswer (Refuse refusal) n room = Refused refusal
 
--- "The identification wraps from 65,535 to 0; only a wrapped packet uses one"
+-- the identification wraps from 65,535 to 0; only a wrapped packet uses one (R7.13)
 abbrev pub identificationAfter : SendAnswer → ℕ → ℕ
 identificationAfter (Wrapped n) identification = (identification + 1) % 65536
 identificationAfter (TooBig size n) identification = identification

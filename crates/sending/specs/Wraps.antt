@@ -7,10 +7,8 @@ use mathlib.Core.List.{List}
 use lib.ListN.{length, getD}
 use Rattle.address.specs.Address.{lastQuad}
 use Rattle.header.specs.Fields.{wordAt}
-use Rattle.header.specs.Numbers.{outerHeader, innerHeader, ipv6}
-use Rattle.header.specs.Wrap.{longestTotal, wrapped}
+use Rattle.header.specs.Wrap.{wrapped}
 use Rattle.lent.specs.Written.{written}
-use Rattle.paths.specs.Packets.{leastMtu}
 use Rattle.settings.specs.Facts.{ForbiddenTo, Ours, IsatapTo, LocatorAt}
 use Rattle.settings.specs.declared.Settings.{Settings}
 use Rattle.sending.specs.declared.SendAnswer.{SendAnswer}
@@ -18,7 +16,7 @@ use Rattle.sending.specs.declared.SendAnswer.the-variants.{Wrapped}
 
 -- an IPv6 packet, whose length is 40 + payload length
 abbrev pub Whole : List ℕ → Type 0
-Whole packet = (getD packet 0 0 / 16 ≡ 6) × (length packet ≡ innerHeader + wordAt packet 4)
+Whole packet = (getD packet 0 0 / 16 ≡ 6) × (length packet ≡ 40 + wordAt packet 4)
 
 -- 8, 11, 12 and 13 do not hold of a packet to a next hop, from locator k, whose address is a
 pub record Passes (s : Settings) (packet hop : List ℕ) (k a : ℕ) : Type 0 where
@@ -33,24 +31,24 @@ pub record Passes (s : Settings) (packet hop : List ℕ) (k a : ℕ) : Type 0 wh
 
 -- a packet of n bytes is no longer than M, the larger of 1,280 and P − 20: it is no longer than one of them
 abbrev pub PathTakes : ℕ → ℕ → Type 0
-PathTakes P n = (n ≤ leastMtu) ⊎ (outerHeader + n ≤ P)
+PathTakes P n = (n ≤ 1280) ⊎ (20 + n ≤ P)
 
 -- the rules of wrapping, over a path of size P with that much room in the output
 pub record Wraps (s : Settings) (P : ℕ) (packet hop : List ℕ) (k room a : ℕ) : Type 0 where
   pub passes : Passes s packet hop k a
   -- the packet is no longer than M, its header takes it, and so does the output
   pub path : PathTakes P (length packet)
-  pub total : outerHeader + length packet ≤ longestTotal
-  pub output : outerHeader + length packet ≤ room
+  pub total : 20 + length packet ≤ 65535
+  pub output : 20 + length packet ≤ room
 
 -- the claim, of a sending with identification i into the output `out`: its answer, the next identification, and the output afterwards
 pub record WrappedExactly (s : Settings) (i P : ℕ) (packet hop : List ℕ) (k : ℕ) (out : List ℕ) (answer : SendAnswer) (next : ℕ) (output : List ℕ) : Type 0 where
   -- a packet is answered as wrapped only when the rules hold, and with its length and the header's
-  pub onlyIf : (len : ℕ) → answer ≡ Wrapped len → (len ≡ outerHeader + length packet) × ((a : ℕ) × Wraps s P packet hop k (length out) a)
-  -- and whenever they hold; the identification goes on by one, from 65,535 to 0
-  pub if : (a : ℕ) → Wraps s P packet hop k (length out) a → (answer ≡ Wrapped (outerHeader + length packet)) × (next ≡ (i + 1) % 65536)
-  -- then the output gets the header and the packet behind it, and what stood behind that stays; the flag is set exactly when P − 20 > 1,280
-  pub bytes : (a : ℕ) (flag : Bool) → Wraps s P packet hop k (length out) a → (flag ≡ true) ↔ (outerHeader + leastMtu < P)
+  pub onlyIf : (len : ℕ) → answer ≡ Wrapped len → (len ≡ 20 + length packet) × ((a : ℕ) × Wraps s P packet hop k (length out) a)
+  -- whenever the rules hold it is wrapped; the identification goes on by one, from 65,535 to 0
+  pub if : (a : ℕ) → Wraps s P packet hop k (length out) a → (answer ≡ Wrapped (20 + length packet)) × (next ≡ (i + 1) % 65536)
+  -- whenever the rules hold the output gets the header and the packet behind it, and what stood behind that stays; the flag is set exactly when P − 20 > 1,280
+  pub bytes : (a : ℕ) (flag : Bool) → Wraps s P packet hop k (length out) a → (flag ≡ true) ↔ (20 + 1280 < P)
       → output
       ≡ written
-      (wrapped (record { identification = i; «dont_fragment» = flag; ttl = s .ttl; protocol = ipv6; source = a; destination = lastQuad hop }) packet) out
+      (wrapped (record { identification = i; «dont_fragment» = flag; ttl = s .ttl; protocol = 41; source = a; destination = lastQuad hop }) packet) out

@@ -44,7 +44,7 @@ fn source_of(settings: Settings, locator: usize) -> Found
     locators::locator_address(all, settings.locator_count, locator)
 }
 
-// Its address, 0 where there is none.
+// The address of a locator that was found, 0 where there is none.
 fn address_of(source: Found) -> u32
     ensures { λ r. ⌜ r ≡ addressOf source ⌝ }
 {

@@ -141,7 +141,7 @@ pub fn send(
 }
 
 impl SendAnswer {
-    // Document 01's number, 0 for a packet that was wrapped.
+    // The number (R4), 0 for a packet that was wrapped.
     pub fn number(self) -> u8
         ensures { λ r. ⌜ r ≡ sendGiven self .number ⌝ }
     {

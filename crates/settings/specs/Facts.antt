@@ -24,7 +24,7 @@ Ours s a = Some (λ (l : Locator). l .address ≡ a) (locatorsOf s)
 unfoldable pub OurLocator : Settings → ℕ → ℕ → Type 0
 OurLocator s a interface = Some (λ (l : Locator). (l .address ≡ a) × (l .interface ≡ interface)) (locatorsOf s)
 
--- document 01, "Sending": forbidden, or a locator address of our own
+-- R2.4, R7.5, R9.4: forbidden, or a locator address of our own
 abbrev pub BadEnd : Settings → ℕ → Type 0
 BadEnd s a = ForbiddenTo s a ⊎ Ours s a
 

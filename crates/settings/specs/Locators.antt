@@ -1,4 +1,4 @@
--- Locators (document 01, "Settings").
+-- Locators (R2).
 use Prim.Native.Nat.{ℕ, min}
 use mathlib.Core.Bool.{Bool, cond, _&&_}
 use mathlib.Core.List.{List}

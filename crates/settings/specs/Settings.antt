@@ -1,4 +1,4 @@
--- The settings: defaults and rules (document 01, "Settings").
+-- The settings: defaults and rules (R2).
 use Prim.Native.Nat.{ℕ}
 use mathlib.Core.Bool.{Bool, not, _&&_, _||_}
 use mathlib.Core.List.{List}

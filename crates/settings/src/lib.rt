@@ -71,7 +71,7 @@ impl Settings {
         address::forbidden(a)
     }
 
-    // Whether it is a locator's address.
+    // Whether the address is a locator's.
     pub fn ours(self, a: u32) -> bool
         ensures { λ r. ⌜ r ≡ isOurs self a ⌝ }
     {
@@ -87,7 +87,7 @@ impl Settings {
         locators::has_locator(all, 0, self.locator_count, a, interface)
     }
 
-    // Whether it can be no tunnel end and no router: forbidden, or our own.
+    // Whether the address can be no tunnel end and no router: forbidden, or our own.
     pub fn bad_end(self, a: u32) -> bool
         ensures { λ r. ⌜ r ≡ isBadEnd self a ⌝ }
     {

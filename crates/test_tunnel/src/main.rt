@@ -1,4 +1,4 @@
-// Runs document 01's program on the inputs in data/: for each its name, and then the output. The inputs and what is expected come
+// Runs the program (R17) on the inputs in data/: for each its name, and then the output. The inputs and what is expected come
 // from tests/program_cases.py.
 // Writes the output for what stands in the file.
 fn answer(file: i32) {

@@ -1,4 +1,4 @@
-// Document 01's program: reads settings and datagrams from standard input, and writes what receiving answers to each. Where a read or
+// The program (R17): reads settings and datagrams from standard input, and writes what receiving answers to each. Where a read or
 // a write fails it says so on standard error; input that was not read to its end gets no answer.
 fn main() {
     let mut bytes = program::input_room();

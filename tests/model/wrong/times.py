@@ -1,9 +1,8 @@
 """Wrong latest times and due times."""
 from .edits import ANSWERED, wrong
 
-START = {"send": "\"Order 8, 11, 12, 13, 14, 23, 15\"; writes into `output`.", "report": "is \"the new last entry\" of the record.",
-         "replace_routers": "a new one is due now\".", "ask": "lowest place on a tie\".",
-         "advertisement": "follows from the smallest lifetime."}
+START = {"send": "writes into `output`.", "report": "of the record.", "replace_routers": "a new one is due now (R2.13).",
+         "ask": "lowest place on a tie (R13.1, R13.3).", "advertisement": "follows from the smallest lifetime."}
 
 
 def unraised(name, condition):
