@@ -4,7 +4,6 @@ use mathlib.Core.Path.{_≡_}
 use mathlib.Core.List.{List, [], _∷_, _++_}
 use lib.ListN.{length}
 use Rattle.checksum.specs.Sum.{onesSum, onesComplement}
-use Rattle.address.specs.Address.{linkLocalOf}
 use Rattle.lent.specs.Written.{written}
 use Rattle.refusals.specs.declared.Refusal.the-variants.{NoLocator, OutputShort, NoRouterDue}
 use Rattle.routers.specs.Routers.{live}
@@ -24,6 +23,12 @@ pub record MayAsk (s : Settings) (routers : RouterList) (now number room : ℕ) 
   -- a solicitation fits
   pub long : 48 ≤ room
 
+-- the link-local ISATAP address that we form of an IPv4 address: fe80::/64, then 00, 00, 5E, FE, then its four bytes
+abbrev pub formed : ℕ → List ℕ
+formed a =
+    0xFE ∷ (0x80 ∷ (0 ∷ (0 ∷ (0 ∷ (0 ∷ (0 ∷ (0 ∷ (0x00 ∷ (0x00 ∷ (0x5E ∷ (0xFE
+    ∷ (a / 16777216 ∷ (a / 65536 % 256 ∷ (a / 256 % 256 ∷ (a % 256 ∷ [])))))))))))))))
+
 -- type 133, code 0, a checksum, reserved 0, no options (RFC 4861, 4.1)
 abbrev pub solicitationMessage : ℕ → List ℕ
 solicitationMessage sum = 133 ∷ (0 ∷ (sum / 256 ∷ (sum % 256 ∷ (0 ∷ (0 ∷ (0 ∷ (0 ∷ [])))))))
@@ -33,13 +38,13 @@ abbrev pub solicitationSum : ℕ → ℕ → ℕ
 solicitationSum from router =
     onesComplement
     (onesSum
-    ((linkLocalOf from ++ linkLocalOf router) ++ (0 ∷ (0 ∷ (0 ∷ (8 ∷ (0 ∷ (0 ∷ (0 ∷ (58 ∷ solicitationMessage 0))))))))))
+    ((formed from ++ formed router) ++ (0 ∷ (0 ∷ (0 ∷ (8 ∷ (0 ∷ (0 ∷ (0 ∷ (58 ∷ solicitationMessage 0))))))))))
 
 -- the 48 bytes of a solicitation: payload length 8, next header 58, hop limit 255, our link-local address to the router's
 abbrev pub solicitationBytes : ℕ → ℕ → List ℕ
 solicitationBytes from router =
     (0x60 ∷ (0 ∷ (0 ∷ (0 ∷ (0 ∷ (8 ∷ (58 ∷ (255 ∷ []))))))))
-    ++ ((linkLocalOf from ++ linkLocalOf router) ++ solicitationMessage (solicitationSum from router))
+    ++ ((formed from ++ formed router) ++ solicitationMessage (solicitationSum from router))
 
 -- an asking is answered exactly when a router may be asked; then the output gets the solicitation, and the due time of that router, and of
 -- no other, becomes now + interval

@@ -5,5 +5,7 @@ pub mod Three
 pub mod Starred
 pub mod One
 pub mod RightList
+pub mod NewList
+pub mod RightSettings
 pub mod Two
 pub mod Fair

@@ -18,19 +18,25 @@ use Rattle.node.specs.RouterList.{replaceOf}
 use Rattle.node.specs.declared.Node.{Node}
 use Rattle.node.specs.Ask.{askedBy, askOf, askOutput}
 use Rattle.node.specs.Hear.{heardBy, hearOf}
-use Rattle.demands.specs.Two.{Relists, DemandTwo}
+use Rattle.demands.specs.Two.{Relists, Exactly, DemandTwo}
 use Rattle.demands.proofs.RightList.{decides-right}
+use Rattle.demands.proofs.NewList.{replaced-list}
+use Rattle.demands.proofs.RightSettings.{sets}
 
 relists : (n : Node) (addresses : List ℕ) (count time : ℕ) → Relists n addresses count time
 unfolding replaceOf
 relists n addresses count time =
     let s = n .service .settings in
     let d = decides-right s addresses count in
-    record { taken = λ right. rw (d .passes right); refused = λ wrong. rw (refutes (areRoutersRight s addresses count) d wrong) }
+    record {
+      taken = λ right. rw (d .passes right);
+      replaced = λ right. rw (d .passes right) (replaced-list addresses count (max (n .latest) time) (n .service .routers));
+      refused = λ wrong. rw (refutes (areRoutersRight s addresses count) d wrong);
+    }
 
-pub demand-two : DemandTwo
-unfolding DemandTwo receiveOf partIn sendOf sentBy sendOutput reportOf reportAnswerOf askOf askedBy askOutput hearOf heardBy
-demand-two n =
+exactly : (n : Node) → Exactly n
+unfolding receiveOf partIn sendOf sentBy sendOutput reportOf reportAnswerOf askOf askedBy askOutput hearOf heardBy
+exactly n =
     let s = n .service .settings in
     let routers = n .service .routers in
     record {
@@ -44,3 +50,6 @@ demand-two n =
       asks = λ k time out. record { answer = refl; node = refl; output = refl; exactly = asked-exactly s routers (max (n .latest) time) k out };
       hears = λ packet time. record { answer = refl; node = refl; exactly = heard-exactly s routers (max (n .latest) time) packet };
     }
+
+pub demand-two : DemandTwo
+demand-two = record { sets = sets; calls = exactly }

@@ -1,13 +1,20 @@
 -- Demand 2 at the node: each call does exactly what the rules say, with the settings, the router list and the path size that are in force
 -- at the call's time. The rules stand as plain facts over bytes and members beside each call; here each call of the node is joined to them.
-use Prim.Native.Nat.{ℕ, _≤_, max}
+use Prim.Native.Nat.{ℕ, _≤_, _<_, max}
 use mathlib.Core.Path.{_≡_}
-use mathlib.Core.List.{List, [], _∷_, List·Memᴰ}
-use lib.ListN.{length, take}
+use mathlib.Core.List.{List, [], _∷_, _++_, List·Memᴰ}
+use lib.ListN.{length, getD, take}
 use Rattle.lists.specs.Any.{Some}
 use Rattle.refusals.specs.declared.Refusal.the-variants as refusal
+use Rattle.address.specs.Facts.{Within, Multicast, Unspecified}
+use Rattle.paths.specs.Table.{held}
 use Rattle.routers.specs.Routers.{live, replacedOf}
-use Rattle.settings.specs.Facts.{BadEnd}
+use Rattle.routers.specs.Facts.{Listed, noRouter}
+use Rattle.routers.specs.declared.Router.{Router}
+use Rattle.routers.specs.declared.RouterList.{RouterList}
+use Rattle.settings.specs.Facts.{ForbiddenTo, BadEnd}
+use Rattle.settings.specs.Settings.{locatorsOf}
+use Rattle.settings.specs.declared.locators.Locator.{Locator}
 use Rattle.settings.specs.declared.Settings.{Settings}
 use Rattle.reports.specs.Accepts.{ReportedExactly}
 use Rattle.sending.specs.Exactly.{SentExactly}
@@ -17,7 +24,7 @@ use Rattle.asking.specs.Ask.{askedOf, askedOutput}
 use Rattle.asking.specs.Facts.{AskedExactly}
 use Rattle.hearing.specs.Facts.{HeardExactly}
 use Rattle.hearing.specs.Heard.{heardOf}
-use Rattle.node.specs.Node.{nodeWith, raisedTo, pathSizeAt}
+use Rattle.node.specs.Node.{setupOf, nodeWith, raisedTo, pathSizeAt}
 use Rattle.node.specs.Receive.{receiveOf, partIn}
 use Rattle.node.specs.Send.{pathSizeToward, withIdentification, sendOf, sendOutput}
 use Rattle.node.specs.Report.{pathsAfter, reportOf}
@@ -25,6 +32,7 @@ use Rattle.node.specs.RouterList.{withRouters, replaceOf}
 use Rattle.node.specs.Ask.{askOf, askOutput}
 use Rattle.node.specs.Hear.{hearOf}
 use Rattle.node.specs.declared.Node.{Node}
+use Rattle.node.specs.declared.SetupAnswer.the-variants as setup
 use Rattle.node.specs.declared.router_list.ListAnswer.the-variants as list
 
 -- no address stands twice
@@ -37,6 +45,52 @@ pub record RightList (s : Settings) (addresses : List ℕ) (count : ℕ) : Type 
   pub few : count ≤ 16
   pub distinct : Distinct (take count addresses)
   pub allowed : Some (BadEnd s) (take count addresses) → ⊥
+
+-- r is the first router of the list that has the address a
+pub record FirstAt (a : ℕ) (rs : List Router) (r : Router) : Type 0 where
+  pub front : List Router
+  pub back : List Router
+  pub stands : rs ≡ front ++ r ∷ back
+  pub address : r .address ≡ a
+  pub before : (q : Router) → List·Memᴰ q front → q .address ≡ a → ⊥
+
+-- the list holds the first `count` of the addresses, place by place; a router of the old list keeps its due time, a new one is due now
+pub record NewList (now : ℕ) (old : List Router) (addresses : List ℕ) (count : ℕ) (after : RouterList) : Type 0 where
+  pub size : after .count ≡ count
+  pub places : length (after .routers) ≡ length addresses
+  pub address : (k : ℕ) → k < length addresses → getD (after .routers) k noRouter .address ≡ getD addresses k 0
+  pub kept : (k : ℕ) (r : Router) → k < length addresses → FirstAt (getD addresses k 0) old r → getD (after .routers) k noRouter .due ≡ r .due
+  pub new : (k : ℕ) → k < length addresses → (Listed (getD addresses k 0) old → ⊥) → getD (after .routers) k noRouter .due ≡ now
+
+-- no pair of address and interface stands twice
+abbrev pub DistinctPairs : List Locator → Type 0
+DistinctPairs [] = Unit {0}
+DistinctPairs (l ∷ ls) = (Some (λ (m : Locator). (m .address ≡ l .address) × (m .interface ≡ l .interface)) ls → ⊥) × DistinctPairs ls
+
+-- the settings keep the rules; that TTL and interfaces are at most 255, and the identification any number of 16 bits, is their type
+pub record RightSettings (s : Settings) : Type 0 where
+  pub some : 1 ≤ s .«locator_count»
+  pub few : s .«locator_count» ≤ 8
+  pub pairs : DistinctPairs (locatorsOf s)
+  pub allowed : Some (λ (l : Locator). ForbiddenTo s (l .address)) (locatorsOf s) → ⊥
+  pub routers : RightList s (s .routers) (s .«router_count»)
+  pub prefixes : s .«prefix_count» ≤ 8
+  pub linkSize : Within 576 9216 (s .«link_size»)
+  pub ttl : 1 ≤ s .ttl
+  pub interval : Within 1 3600 (s .interval)
+  pub unicast : Multicast (s .reporting) → ⊥
+  pub specified : Unspecified (s .reporting) → ⊥
+
+-- settings make a node exactly when they keep the rules; otherwise 1 is given. The node has them and the first identification, latest time 0, no
+-- report, and each router due at 0
+pub record Sets (s : Settings) : Type 0 where
+  pub made : RightSettings s → setupOf s .answer ≡ setup.Made
+  pub refused : (RightSettings s → ⊥) → setupOf s .answer ≡ setup.Refused refusal.Settings
+  pub settings : RightSettings s → setupOf s .node .service .settings ≡ s
+  pub identification : RightSettings s → setupOf s .node .service .identification ≡ s .identification
+  pub latest : RightSettings s → setupOf s .node .latest ≡ 0
+  pub noReport : RightSettings s → held (setupOf s .node .paths) ≡ []
+  pub routers : RightSettings s → NewList 0 [] (s .routers) (s .«router_count») (setupOf s .node .service .routers)
 
 module _ (n : Node) where
   -- a datagram is delivered exactly when the rules of 2 to 10 admit it, and then as the inner packet, unchanged; otherwise the first of the
@@ -88,6 +142,8 @@ module _ (n : Node) where
           answer = list.Replaced;
           node = nodeWith n (withRouters (n .service) (replacedOf addresses count (max (n .latest) time) (n .service .routers))) (n .paths) time;
         }
+    pub replaced : RightList (n .service .settings) addresses count
+        → NewList (max (n .latest) time) (live (n .service .routers)) addresses count (replaceOf n addresses count time .node .service .routers)
     pub refused : (RightList (n .service .settings) addresses count → ⊥)
         → replaceOf n addresses count time ≡ record { answer = list.Refused refusal.Settings; node = raisedTo n time }
 
@@ -100,6 +156,7 @@ module _ (n : Node) where
     pub asks : (k time : ℕ) (out : List ℕ) → Asks k time out
     pub hears : (packet : List ℕ) (time : ℕ) → Hears packet time
 
--- demand 2, of every node
-unfoldable pub DemandTwo : Type 0
-DemandTwo = (n : Node) → Exactly n
+-- demand 2, of all settings and of every node
+pub record DemandTwo : Type 0 where
+  pub sets : (s : Settings) → Sets s
+  pub calls : (n : Node) → Exactly n

@@ -39,7 +39,7 @@ use Rattle.settings.specs.Facts.{IsatapTo}
 use Rattle.settings.proofs.Facts.{embedded-to, isatap-to}
 use Rattle.hearing.specs.Message.{messageOf, isValidMessage}
 use Rattle.hearing.specs.Heard.{advertisementType, optionsStart, optionsIn, isValidAdvertisement, refusedBy, heardOfRouter, heardFrom, heardRows, heardOf}
-use Rattle.hearing.specs.Facts.{IsAdvertisement, ValidAdvertisement, routerLifetime, HeardExactly}
+use Rattle.hearing.specs.Facts.{fieldsOf, IsAdvertisement, ValidAdvertisement, routerLifetime, HeardExactly}
 use Rattle.hearing.proofs.MessageLaws.{message-rules, rules-message}
 use Rattle.hearing.specs.declared.HeardAnswer.the-variants.{Router, Refused}
 use Rattle.hearing.specs.declared.Heard.{Heard}
@@ -151,6 +151,7 @@ module _ (s : Settings) (routers : RouterList) (now : ℕ) (p : List ℕ) where
 
   -- an advertisement is accepted only if the rules hold
   accepted-only-if : (router : ℕ) → heardOf s routers now p .answer ≡ Router router → ValidAdvertisement s routers p router
+  unfolding innerOf
   accepted-only-if router h =
       let i = innerOf p in
       let q = take (i .length) p in
@@ -166,7 +167,7 @@ module _ (s : Settings) (routers : RouterList) (now : ℕ) (p : List ℕ) where
 
   -- an advertisement is accepted whenever its rules hold
   accepted-if : (router : ℕ) → ValidAdvertisement s routers p router → heardOf s routers now p .answer ≡ Router router
-  unfolding heardOf heardFrom
+  unfolding heardOf heardFrom innerOf
   accepted-if router a =
       let i = innerOf p in
       let q = take (i .length) p in
@@ -180,9 +181,9 @@ module _ (s : Settings) (routers : RouterList) (now : ℕ) (p : List ℕ) where
   -- its router, and no other, is then due when the lifetimes say
   accepted-due : (router : ℕ) (a : ValidAdvertisement s routers p router)
       → (due : ℕ)
-      × DueBy now (s .interval) (routerLifetime (take (innerOf p .length) p)) (a .options) due
+      × DueBy now (s .interval) (routerLifetime (take (fieldsOf p .length) p)) (a .options) due
       × OnlyDue routers router due (heardOf s routers now p .routers)
-  unfolding wordAt
+  unfolding wordAt innerOf
   accepted-due router a =
       let q = take (innerOf p .length) p in
       let bs = drop optionsStart (messageOf q) in
@@ -214,6 +215,7 @@ module _ (s : Settings) (routers : RouterList) (now : ℕ) (p : List ℕ) where
       (router-unlisted routers due (embeddedTo s (i .source)) (λ router e. n router (embedded-to s (i .source) router e)))
 
   pub heard-exactly : HeardExactly s routers now p
+  unfolding innerOf
   heard-exactly = record {
     onlyIf = accepted-only-if;
     whenever = accepted-if;
