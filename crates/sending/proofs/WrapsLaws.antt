@@ -8,8 +8,8 @@ use borrow.Author.Tests.{ltb-false, le-ltb}
 use lib.Dec.{ltb}
 use lib.ListN.{length}
 use Rattle.address.specs.Address.{lastQuad}
-use Rattle.header.specs.Numbers.{outerHeader, ipv6}
-use Rattle.header.specs.Wrap.{longestTotal, wrapped, wrapCheck, wrapAnswer, wrapOutput}
+use Rattle.header.specs.Numbers.{outerHeader}
+use Rattle.header.specs.Wrap.{longestTotal, wrapped, outerBytes, wrapCheck, wrapAnswer, wrapOutput}
 use Rattle.header.proofs.WriterLaws.{wrap-pass}
 use Rattle.lent.specs.Written.{written}
 use Rattle.lists.proofs.Decides.{Decides}
@@ -21,7 +21,7 @@ use Rattle.refusals.specs.declared.Check.the-variants.{Pass}
 use Rattle.settings.specs.declared.Settings.{Settings}
 use Rattle.sending.specs.Plan.{sourceOf, addressOf, planOf, sizedPlan}
 use Rattle.sending.specs.Sending.{fieldsFor, sentOf, sentOutput}
-use Rattle.sending.specs.Wraps.{Passes, PathTakes, Wraps, WrappedExactly}
+use Rattle.sending.specs.Wraps.{Passes, PathTakes, Wraps, wrappedBytes, WrappedExactly}
 use Rattle.sending.proofs.Cases.{writer-passed, wrapped-plan, plan-wrap}
 use Rattle.sending.proofs.Judged.{located-at, passes-check, check-passes}
 use Rattle.sending.specs.declared.judging.Plan.the-variants.{Wrap}
@@ -70,9 +70,8 @@ module _ (s : Settings) (P : ℕ) (packet hop : List ℕ) (k : ℕ) where
 
       wraps-bytes : (flag : Bool) → (flag ≡ true) ↔ (outerHeader + leastMtu < P)
           → sentOutput s i P packet hop k out
-          ≡ written
-          (wrapped (record { identification = i; «dont_fragment» = flag; ttl = s .ttl; protocol = ipv6; source = a; destination = lastQuad hop }) packet) out
-      unfolding sentOutput wrapOutput fieldsFor
+          ≡ written (wrappedBytes s i flag a (lastQuad hop) packet) out
+      unfolding sentOutput wrapOutput fieldsFor wrapped outerBytes
       wraps-bytes flag f = rw (passes-plan a (w .passes) (w .path)) (rw (wraps-check, ← same-test flag (dontFragment P) f (decides-flag P)))
 
 pub wrapped-exactly : (s : Settings) (i P : ℕ) (packet hop : List ℕ) (k : ℕ) (out : List ℕ)

@@ -2,12 +2,13 @@
 use Prim.Native.Nat.{ℕ, _+_, _/_, _%_, _≤_, _<_}
 use mathlib.Core.Path.{_≡_}
 use mathlib.Core.Logic.{_⊎_, _↔_}
-use mathlib.Core.Bool.{Bool, true}
-use mathlib.Core.List.{List}
+use mathlib.Core.Bool.{Bool, true, cond}
+use mathlib.Core.List.{List, [], _∷_, _++_}
 use lib.ListN.{length, getD}
+use Rattle.checksum.specs.Sum.{onesSum, onesComplement}
 use Rattle.address.specs.Address.{lastQuad}
 use Rattle.header.specs.Fields.{wordAt}
-use Rattle.header.specs.Wrap.{wrapped}
+use Rattle.header.specs.Wrap.{be16, be32}
 use Rattle.lent.specs.Written.{written}
 use Rattle.settings.specs.Facts.{ForbiddenTo, Ours, IsatapTo, LocatorAt}
 use Rattle.settings.specs.declared.Settings.{Settings}
@@ -41,6 +42,17 @@ pub record Wraps (s : Settings) (P : ℕ) (packet hop : List ℕ) (k room a : �
   pub total : 20 + length packet ≤ 65535
   pub output : 20 + length packet ≤ room
 
+-- the outer header of a packet of n bytes, with a number for its checksum: version 4 and five words, type of service 0, total length 20 + n,
+-- identification, don't-fragment or no flag, offset 0, TTL, protocol 41, the locator's address a, the tunnel end v (R7.10)
+abbrev pub headerBytes : Settings → ℕ → Bool → ℕ → ℕ → ℕ → ℕ → List ℕ
+headerBytes s i flag a v n sum =
+    0x45 ∷ (0 ∷ be16 (20 + n) (be16 i (cond flag 0x40 0 ∷ (0 ∷ (s .ttl ∷ (41 ∷ be16 sum (be32 a (be32 v []))))))))
+
+-- the packet behind that header, whose checksum is the complement of the sum taken with that field 0
+abbrev pub wrappedBytes : Settings → ℕ → Bool → ℕ → ℕ → List ℕ → List ℕ
+wrappedBytes s i flag a v packet =
+    headerBytes s i flag a v (length packet) (onesComplement (onesSum (headerBytes s i flag a v (length packet) 0))) ++ packet
+
 -- the claim, of a sending with identification i into the output `out`: its answer, the next identification, and the output afterwards
 pub record WrappedExactly (s : Settings) (i P : ℕ) (packet hop : List ℕ) (k : ℕ) (out : List ℕ) (answer : SendAnswer) (next : ℕ) (output : List ℕ) : Type 0 where
   -- a packet is answered as wrapped only when the rules hold, and with its length and the header's
@@ -49,6 +61,4 @@ pub record WrappedExactly (s : Settings) (i P : ℕ) (packet hop : List ℕ) (k 
   pub if : (a : ℕ) → Wraps s P packet hop k (length out) a → (answer ≡ Wrapped (20 + length packet)) × (next ≡ (i + 1) % 65536)
   -- whenever the rules hold the output gets the header and the packet behind it, and what stood behind that stays; the flag is set exactly when P − 20 > 1,280
   pub bytes : (a : ℕ) (flag : Bool) → Wraps s P packet hop k (length out) a → (flag ≡ true) ↔ (20 + 1280 < P)
-      → output
-      ≡ written
-      (wrapped (record { identification = i; «dont_fragment» = flag; ttl = s .ttl; protocol = 41; source = a; destination = lastQuad hop }) packet) out
+      → output ≡ written (wrappedBytes s i flag a (lastQuad hop) packet) out
