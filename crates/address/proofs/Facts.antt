@@ -154,13 +154,7 @@ module _ (a : List ℕ) where
     unfolding embeddedIn lastQuad EndsWith
     isatap-embedded v f = rw (both .passes (f .onLink, f .identifier), f .embedded)
 
-    -- none is found exactly if none is embedded
-    pub none-embedded : embeddedIn prefixes count a ≡ Nothing → (v : ℕ) → Isatap prefixes count a v → ⊥
-    none-embedded h v f =
-        let e = isatap-embedded v f in
-        let z : _≡_ {A = ℕ} 0 1 = cc in
-        omega arith
-
+    -- where none is embedded, none is found
     pub none-found : ((v : ℕ) → Isatap prefixes count a v → ⊥) → embeddedIn prefixes count a ≡ Nothing
     unfolding embeddedIn EndsWith
     none-found n =

@@ -13,7 +13,7 @@ use Rattle.node.specs.Node.{pathSizeAt, pathSize}
 use Rattle.node.specs.Send.{pathSizeToward, sentBy, sendOf, sendOutput}
 use Rattle.node.specs.declared.Node.{Node}
 use Rattle.bogtrumpet.specs.Answers.{plainSent}
-use Rattle.bogtrumpet.specs.Steps.{sentStep, nodeAfter}
+use Rattle.bogtrumpet.specs.Steps.{sentStep, storedAfter}
 use Rattle.bogtrumpet.specs.declared.steps.SentStep.{SentStep}
 
 abbrev pub size-among : Node → ℕ → ℕ → ℕ
@@ -34,11 +34,11 @@ module _ (h : Node) (p hop : List ℕ) (k t : ℕ) (out : List ℕ) where
   abbrev step : ℕ → SentStep
   step size = sentStep h size p hop k t (length out)
 
-  at-size : (step (pathSizeToward h hop t) .answer ≡ plainSent (sendOf h p hop k t (length out) .answer)) × (nodeAfter h (step (pathSizeToward h hop t)) ≡ sendOf h p hop k t (length out) .node)
+  at-size : (step (pathSizeToward h hop t) .answer ≡ plainSent (sendOf h p hop k t (length out) .answer)) × (storedAfter h (step (pathSizeToward h hop t)) ≡ sendOf h p hop k t (length out) .node)
       × (sentOutput (h .service .settings) (h .service .identification) (pathSizeToward h hop t) p hop k out ≡ sendOutput h p hop k t out)
   unfolding sentStep sendOf sentBy sendOutput
   at-size = (refl, refl, refl)
 
-  pub sent-same : (size : ℕ) → size ≡ pathSizeToward h hop t → (step size .answer ≡ plainSent (sendOf h p hop k t (length out) .answer)) × (nodeAfter h (step size) ≡ sendOf h p hop k t (length out) .node)
+  pub sent-same : (size : ℕ) → size ≡ pathSizeToward h hop t → (step size .answer ≡ plainSent (sendOf h p hop k t (length out) .answer)) × (storedAfter h (step size) ≡ sendOf h p hop k t (length out) .node)
       × (sentOutput (h .service .settings) (h .service .identification) size p hop k out ≡ sendOutput h p hop k t out)
-  sent-same size sized = (ap (λ (s : ℕ). step s .answer) sized ∙ at-size .0, ap (λ (s : ℕ). nodeAfter h (step s)) sized ∙ at-size .1, ap (λ (s : ℕ). sentOutput (h .service .settings) (h .service .identification) s p hop k out) sized ∙ at-size .2)
+  sent-same size sized = (ap (λ (s : ℕ). step s .answer) sized ∙ at-size .0, ap (λ (s : ℕ). storedAfter h (step s)) sized ∙ at-size .1, ap (λ (s : ℕ). sentOutput (h .service .settings) (h .service .identification) s p hop k out) sized ∙ at-size .2)

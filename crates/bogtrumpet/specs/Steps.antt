@@ -28,8 +28,8 @@ sentStep node size packet hop k time room =
     record { answer = plainSent (sent .answer); identification = sent .identification; latest = max (node .latest) time }
 
 -- the node that a sending leaves: the next identification and the latest time are changed, and nothing else
-abbrev pub nodeAfter : Node → SentStep → Node
-nodeAfter node step = record {
+abbrev pub storedAfter : Node → SentStep → Node
+storedAfter node step = record {
   service = record { settings = node .service .settings; routers = node .service .routers; identification = step .identification };
   paths = node .paths;
   latest = step .latest;

@@ -22,7 +22,7 @@ ghost use Rattle.node.specs.RouterList.{listGiven, replaceOf};
 ghost use Rattle.node.specs.Send.{sendOf, sendOutput, pathSizeToward};
 ghost use Rattle.sending.specs.Sending.{sentOutput};
 ghost use Rattle.bogtrumpet.specs.Answers.{defaultsOf, plainReceived, plainSent, plainReported, plainAsked, plainHeard};
-ghost use Rattle.bogtrumpet.specs.Steps.{sentStep, nodeAfter};
+ghost use Rattle.bogtrumpet.specs.Steps.{sentStep, storedAfter};
 
 // An IPv6 address.
 #[repr(C)]
@@ -117,7 +117,7 @@ fn send_over(
     out: &mut [u8],
 ) -> Sent
     ensures { λ r. ⌜ (r ≡ sentStep (now (node .entry)) «path_size» (now (packet .entry)) («next_hop» .bytes) locator time (length (now (out .entry))) .answer)
-        × (now (node .exit) ≡ nodeAfter (now (node .entry)) (sentStep (now (node .entry)) «path_size» (now (packet .entry)) («next_hop» .bytes) locator time (length (now (out .entry)))))
+        × (now (node .exit) ≡ storedAfter (now (node .entry)) (sentStep (now (node .entry)) «path_size» (now (packet .entry)) («next_hop» .bytes) locator time (length (now (out .entry)))))
         × (now (out .exit) ≡ sentOutput (now (node .entry) .service .settings) (now (node .entry) .service .identification) «path_size» (now (packet .entry)) («next_hop» .bytes) locator (now (out .entry))) ⌝ }
 {
     let step = steps::sent(*node, path_size, packet, next_hop, locator, time, out);

@@ -2,8 +2,9 @@
 use Prim.Native.Nat.{ℕ, max}
 use mathlib.Core.Path.{refl}
 use mathlib.Core.List.{List}
+use Rattle.address.specs.Address.{linkLocalOf}
 use Rattle.lists.proofs.Decides.{refutes}
-use Rattle.settings.specs.Settings.{areRoutersRight}
+use Rattle.settings.specs.Settings.{defaultsFor, areRoutersRight}
 use Rattle.routers.specs.Routers.{live}
 use Rattle.reports.proofs.AcceptsLaws.{reported-exactly}
 use Rattle.sending.proofs.ExactlyLaws.{sent-exactly}
@@ -52,4 +53,9 @@ exactly n =
     }
 
 pub demand-two : DemandTwo
-demand-two = record { sets = sets; calls = exactly }
+unfolding defaultsFor linkLocalOf
+demand-two = record {
+  defaults = λ first others locators prefixes onLink routers listed. record { linkSize = refl; ttl = refl; interval = refl; identification = refl; reporting = refl };
+  sets = sets;
+  calls = exactly;
+}

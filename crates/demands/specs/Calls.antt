@@ -78,7 +78,7 @@ pub data OfRouters : Type 0 where
   -- a new list
   aList : OfRouters
   -- anything else
-  noRouter : OfRouters
+  notOfRouters : OfRouters
 
 -- a call as the demands see it: its time, 0 where it has none, for the latest time is never below 0; the output lent to it, no byte where
 -- none is; and what it is to the path sizes and to the router list
@@ -90,10 +90,10 @@ pub record View : Type 0 where
 
 -- each call as the demands see it
 abbrev pub viewOf : NodeCall → View
-viewOf (receiving d interface) = record { time = 0; lent = []; sizes = noSize; routers = noRouter }
-viewOf (receivingPart d interface) = record { time = 0; lent = []; sizes = noSize; routers = noRouter }
-viewOf (sending packet hop k time out) = record { time = time; lent = out; sizes = aSending packet hop k; routers = noRouter }
-viewOf (reporting m time) = record { time = time; lent = []; sizes = aReport m; routers = noRouter }
+viewOf (receiving d interface) = record { time = 0; lent = []; sizes = noSize; routers = notOfRouters }
+viewOf (receivingPart d interface) = record { time = 0; lent = []; sizes = noSize; routers = notOfRouters }
+viewOf (sending packet hop k time out) = record { time = time; lent = out; sizes = aSending packet hop k; routers = notOfRouters }
+viewOf (reporting m time) = record { time = time; lent = []; sizes = aReport m; routers = notOfRouters }
 viewOf (relisting addresses count time) = record { time = time; lent = []; sizes = noSize; routers = aList }
 viewOf (asking k time out) = record { time = time; lent = out; sizes = noSize; routers = anAsking }
 viewOf (hearing packet time) = record { time = time; lent = []; sizes = noSize; routers = anAdvertisement }

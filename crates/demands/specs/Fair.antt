@@ -12,14 +12,14 @@ use Rattle.settings.specs.Settings.{isAccepted}
 use Rattle.settings.specs.declared.Settings.{Settings}
 use Rattle.node.specs.Node.{setupOf}
 use Rattle.node.specs.declared.Node.{Node}
-use Rattle.demands.specs.Calls.{NodeCall, outcomeOf, OfRouters, anAsking, anAdvertisement, aList, noRouter, viewOf, nodeAfter}
+use Rattle.demands.specs.Calls.{NodeCall, outcomeOf, OfRouters, anAsking, anAdvertisement, aList, notOfRouters, viewOf, nodeAfter}
 
 -- the router that an answered asking names; a refused one names none, and no other call serves one
 abbrev pub serves : OfRouters → Given → List ℕ
 serves anAsking g = g .values
 serves anAdvertisement g = []
 serves aList g = []
-serves noRouter g = []
+serves notOfRouters g = []
 
 -- the routers that a list of calls serves, one for each answered asking
 abbrev pub servedBy : Node → List NodeCall → List ℕ
@@ -31,7 +31,7 @@ abbrev pub Quiet : ℕ → OfRouters → Given → Type 0
 Quiet a anAsking g = Unit {0}
 Quiet a anAdvertisement g = g ≡ answered (a ∷ []) → ⊥
 Quiet a aList g = g .number ≡ 0 → ⊥
-Quiet a noRouter g = Unit {0}
+Quiet a notOfRouters g = Unit {0}
 
 -- each call of a list is quiet
 abbrev pub AllQuiet : ℕ → Node → List NodeCall → Type 0

@@ -13,7 +13,7 @@ use Rattle.routers.specs.Facts.{Listed, noRouter}
 use Rattle.routers.specs.declared.Router.{Router}
 use Rattle.routers.specs.declared.RouterList.{RouterList}
 use Rattle.settings.specs.Facts.{ForbiddenTo, BadEnd}
-use Rattle.settings.specs.Settings.{locatorsOf}
+use Rattle.settings.specs.Settings.{defaultsFor, locatorsOf}
 use Rattle.settings.specs.declared.locators.Locator.{Locator}
 use Rattle.settings.specs.declared.Settings.{Settings}
 use Rattle.reports.specs.Accepts.{ReportedExactly}
@@ -21,7 +21,7 @@ use Rattle.sending.specs.Exactly.{SentExactly}
 use Rattle.receiving.specs.Admitted.{DeliveredExactly}
 use Rattle.receiving.specs.Receive.{receivedOf, partOf}
 use Rattle.asking.specs.Ask.{askedOf, askedOutput}
-use Rattle.asking.specs.Facts.{AskedExactly}
+use Rattle.asking.specs.Facts.{formed, AskedExactly}
 use Rattle.hearing.specs.Facts.{HeardExactly}
 use Rattle.hearing.specs.Heard.{heardOf}
 use Rattle.node.specs.Node.{setupOf, nodeWith, raisedTo, pathSizeAt}
@@ -92,6 +92,15 @@ pub record Sets (s : Settings) : Type 0 where
   pub noReport : RightSettings s → held (setupOf s .node .paths) ≡ []
   pub routers : RightSettings s → NewList 0 [] (s .routers) (s .«router_count») (setupOf s .node .service .routers)
 
+-- settings of which locators, prefixes and routers alone are named have L 1,500, TTL 64, interval 120, identification 1, and for a reporting
+-- address the link-local address of locator 0
+pub record Defaults (s : Settings) (first : Locator) : Type 0 where
+  pub linkSize : s .«link_size» ≡ 1500
+  pub ttl : s .ttl ≡ 64
+  pub interval : s .interval ≡ 120
+  pub identification : s .identification ≡ 1
+  pub reporting : s .reporting ≡ formed (first .address)
+
 module _ (n : Node) where
   -- a datagram is delivered exactly when the rules of 2 to 10 admit it, and then as the inner packet, unchanged; otherwise the first of the
   -- numbers is given whose fact holds
@@ -158,5 +167,7 @@ module _ (n : Node) where
 
 -- demand 2, of all settings and of every node
 pub record DemandTwo : Type 0 where
+  pub defaults : (first : Locator) (others : List Locator) (locators : ℕ) (prefixes : List ℕ) (onLink : ℕ) (routers : List ℕ) (listed : ℕ)
+      → Defaults (defaultsFor (first ∷ others) locators prefixes onLink routers listed) first
   pub sets : (s : Settings) → Sets s
   pub calls : (n : Node) → Exactly n

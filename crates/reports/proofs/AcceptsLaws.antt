@@ -20,7 +20,7 @@ use Rattle.settings.specs.Settings.{isOurs, isBadEnd}
 use Rattle.settings.proofs.Facts.{decides-ours, decides-bad-end}
 use Rattle.settings.specs.declared.Settings.{Settings}
 use Rattle.reports.specs.Report.{leastMessage, isReportMalformed, isQuoteForeign, reportRows, reportCheck, neighbourOf, candidateFor, judgedOf, answerToward}
-use Rattle.reports.specs.Accepts.{WellFormed, OfOurs, Asks, Accepts, ReportedExactly}
+use Rattle.reports.specs.Accepts.{WellFormed, OfOurs, AsksFor, Accepts, ReportedExactly}
 use Rattle.reports.proofs.Laws.{judged-report, passed-judged, accepted-below, below-accepted, not-below-refused}
 use Rattle.reports.specs.declared.Judged.the-variants as judged
 use Rattle.reports.specs.declared.ReportAnswer.the-variants.{Accepted}
@@ -115,7 +115,7 @@ module _ (s : Settings) (m : List ℕ) where
         }
 
     -- a report that passes 16, 17 and 18 is judged by the size toward its neighbour
-    toward : (v c : ℕ) → WellFormed m → OfOurs s m v → Asks m c → judgedOf s m ≡ judged.Report v c
+    toward : (v c : ℕ) → WellFormed m → OfOurs s m v → AsksFor m c → judgedOf s m ≡ judged.Report v c
     unfolding candidateFor
     toward v c f o k = passed-judged s m v c (passes-check v f o) (destination v o) (is-candidate _ _ c k)
 

@@ -37,14 +37,14 @@ pub record OfOurs (s : Settings) (m : List ℕ) (v : ℕ) : Type 0 where
   pub foreign : Ours s v → ⊥
 
 -- 18 does not hold: bytes 6 and 7, or for 0 the plateau below the quoted total length, give the candidate c
-abbrev pub Asks : List ℕ → ℕ → Type 0
-Asks m c = CandidateIs (wordAt m 6) (wordAt (quoteOf m) 2) c
+abbrev pub AsksFor : List ℕ → ℕ → Type 0
+AsksFor m c = CandidateIs (wordAt m 6) (wordAt (quoteOf m) 2) c
 
 -- the rules, at a size P in force toward the neighbour v
 pub record Accepts (s : Settings) (m : List ℕ) (P v c : ℕ) : Type 0 where
   pub formed : WellFormed m
   pub ours : OfOurs s m v
-  pub candidate : Asks m c
+  pub candidate : AsksFor m c
   -- 19 does not hold
   pub below : c < P
 
@@ -53,5 +53,5 @@ pub record ReportedExactly (s : Settings) (m : List ℕ) (size : ℕ → ℕ) (a
   pub accepted : (v c : ℕ) → (answer ≡ Accepted v c) ↔ Accepts s m (size v) v c
   pub malformed : (WellFormed m → ⊥) → answer ≡ Refused ReportMalformed
   pub notOurs : WellFormed m → ((v : ℕ) → OfOurs s m v → ⊥) → answer ≡ Refused QuoteNotOurs
-  pub unusable : (v : ℕ) → WellFormed m → OfOurs s m v → ((c : ℕ) → Asks m c → ⊥) → answer ≡ Refused SizeUnusable
-  pub notBelow : (v c : ℕ) → WellFormed m → OfOurs s m v → Asks m c → size v ≤ c → answer ≡ Refused SizeNotBelow
+  pub unusable : (v : ℕ) → WellFormed m → OfOurs s m v → ((c : ℕ) → AsksFor m c → ⊥) → answer ≡ Refused SizeUnusable
+  pub notBelow : (v c : ℕ) → WellFormed m → OfOurs s m v → AsksFor m c → size v ≤ c → answer ≡ Refused SizeNotBelow

@@ -12,7 +12,7 @@ use Rattle.address.specs.Address.{lastQuad, isBadSourceWith}
 use Rattle.address.specs.Facts.{BadSource}
 use Rattle.address.specs.declared.Embedded.the-variants as embedded
 use Rattle.address.specs.Prefixes.{rowsOf}
-use Rattle.address.proofs.Facts.{decides-forbidden, decides-bad-source, embedded-isatap, isatap-embedded, none-embedded, none-found}
+use Rattle.address.proofs.Facts.{decides-forbidden, decides-bad-source, embedded-isatap, isatap-embedded, none-found}
 use Rattle.settings.specs.Locators.{noLocator, isAt, isLocator, locatorFound}
 use Rattle.settings.specs.Settings.{locatorsOf, forbiddenTo, isOurs, isOurLocator, isBadEnd, embeddedTo}
 use Rattle.settings.specs.Facts.{ForbiddenTo, Ours, OurLocator, BadEnd, IsatapTo, LocatorAt}
@@ -51,10 +51,6 @@ module _ (s : Settings) where
     unfolding embeddedTo
     isatap-to v f = isatap-embedded a (rowsOf (s .prefixes)) (s .«prefix_count») v f
 
-    pub none-embedded-to : embeddedTo s a ≡ embedded.Nothing → (v : ℕ) → IsatapTo s a v → ⊥
-    unfolding embeddedTo
-    none-embedded-to h = none-embedded a (rowsOf (s .prefixes)) (s .«prefix_count») h
-
     pub no-isatap-to : ((v : ℕ) → IsatapTo s a v → ⊥) → embeddedTo s a ≡ embedded.Nothing
     unfolding embeddedTo
     no-isatap-to n = none-found a (rowsOf (s .prefixes)) (s .«prefix_count») n
@@ -72,9 +68,3 @@ module _ (s : Settings) where
     pub locator-found : (a : ℕ) → LocatorAt s number a → locatorFound (s .locators) (s .«locator_count») number ≡ Address a
     unfolding locatorFound
     locator-found a f = rw (lt-ltb number (min (s .«locator_count») 8) (omega arith), f .2)
-
-    pub none-at : locatorFound (s .locators) (s .«locator_count») number ≡ Nothing → (a : ℕ) → LocatorAt s number a → ⊥
-    none-at h a f =
-        let e = locator-found a f in
-        let z : _≡_ {A = ℕ} 0 1 = cc in
-        omega arith
