@@ -7,5 +7,6 @@ pub mod One
 pub mod RightList
 pub mod NewList
 pub mod RightSettings
+pub mod Readings
 pub mod Two
 pub mod Fair

@@ -23,6 +23,7 @@ use Rattle.demands.specs.Two.{Relists, Exactly, DemandTwo}
 use Rattle.demands.proofs.RightList.{decides-right}
 use Rattle.demands.proofs.NewList.{replaced-list}
 use Rattle.demands.proofs.RightSettings.{sets}
+use Rattle.demands.proofs.Readings.{readings}
 
 relists : (n : Node) (addresses : List ℕ) (count time : ℕ) → Relists n addresses count time
 unfolding replaceOf
@@ -55,6 +56,7 @@ exactly n =
 pub demand-two : DemandTwo
 unfolding defaultsFor linkLocalOf
 demand-two = record {
+  readings = readings;
   defaults = λ first others locators prefixes onLink routers listed. record { linkSize = refl; ttl = refl; interval = refl; identification = refl; reporting = refl };
   sets = sets;
   calls = exactly;

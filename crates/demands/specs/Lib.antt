@@ -1,5 +1,6 @@
 pub mod Calls
 pub mod One
+pub mod Readings
 pub mod Two
 pub mod Plain
 pub mod Sender

@@ -34,6 +34,7 @@ use Rattle.node.specs.Hear.{hearOf}
 use Rattle.node.specs.declared.Node.{Node}
 use Rattle.node.specs.declared.SetupAnswer.the-variants as setup
 use Rattle.node.specs.declared.router_list.ListAnswer.the-variants as list
+use Rattle.demands.specs.Readings.{Readings}
 
 -- no address stands twice
 abbrev pub Distinct : List ℕ → Type 0
@@ -167,6 +168,7 @@ module _ (n : Node) where
 
 -- demand 2, of all settings and of every node
 pub record DemandTwo : Type 0 where
+  pub readings : Readings
   pub defaults : (first : Locator) (others : List Locator) (locators : ℕ) (prefixes : List ℕ) (onLink : ℕ) (routers : List ℕ) (listed : ℕ)
       → Defaults (defaultsFor (first ∷ others) locators prefixes onLink routers listed) first
   pub sets : (s : Settings) → Sets s

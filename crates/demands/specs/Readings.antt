@@ -1,0 +1,27 @@
+-- What facts and tests both read by, said once more in the bytes and members themselves: a reading that is bent breaks this, though a rule
+-- and its test would go on agreeing.
+use Prim.Native.Nat.{ℕ, _+_, _*_, _<_}
+use mathlib.Core.Path.{_≡_}
+use mathlib.Core.List.{List, [], _∷_}
+use lib.ListN.{getD, take, drop}
+use Rattle.address.specs.Address.{quadOf, lastQuad, linkLocalPrefix}
+use Rattle.address.specs.Prefixes.{rowsOf}
+use Rattle.header.specs.Fields.{wordAt, quadAt}
+use Rattle.header.specs.Outer.{quoteOf}
+use Rattle.routers.specs.Routers.{live}
+use Rattle.routers.specs.declared.RouterList.{RouterList}
+use Rattle.settings.specs.Settings.{locatorsOf}
+use Rattle.settings.specs.declared.Settings.{Settings}
+
+-- numbers are big-endian; prefixes stand one behind the other, eight bytes each; of locators and routers the first `count` are in force; a size
+-- report quotes from its byte 8 on
+pub record Readings : Type 0 where
+  pub word : (d : List ℕ) (k : ℕ) → wordAt d k ≡ getD d k 0 * 256 + getD d (k + 1) 0
+  pub quad : (a b c d : ℕ) → quadOf a b c d ≡ a * 16777216 + b * 65536 + c * 256 + d
+  pub quadIn : (d : List ℕ) (k : ℕ) → quadAt d k ≡ quadOf (getD d k 0) (getD d (k + 1) 0) (getD d (k + 2) 0) (getD d (k + 3) 0)
+  pub last : (a : List ℕ) → lastQuad a ≡ quadOf (getD a 12 0) (getD a 13 0) (getD a 14 0) (getD a 15 0)
+  pub linkLocal : linkLocalPrefix ≡ 0xFE ∷ (0x80 ∷ (0 ∷ (0 ∷ (0 ∷ (0 ∷ (0 ∷ (0 ∷ [])))))))
+  pub prefixes : (flat : List ℕ) (k i : ℕ) → k < 8 → i < 8 → getD (getD (rowsOf flat) k []) i 0 ≡ getD flat (k * 8 + i) 0
+  pub locators : (s : Settings) → locatorsOf s ≡ take (s .«locator_count») (s .locators)
+  pub routers : (l : RouterList) → live l ≡ take (l .count) (l .routers)
+  pub quote : (m : List ℕ) → quoteOf m ≡ drop 8 m
