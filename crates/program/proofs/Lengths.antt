@@ -53,6 +53,9 @@ number-short refusal.AdvertisementInvalid = omega arith
 number-short refusal.AdvertiserNotListed = omega arith
 number-short refusal.NoRouterDue = omega arith
 number-short refusal.WrappedTooLong = omega arith
+number-short refusal.SolicitationInvalid = omega arith
+number-short refusal.AskerNotIsatap = omega arith
+number-short refusal.OptionsBad = omega arith
 
 -- a part is no longer than the datagram that it stands in
 value-short : (v : Received) (d : List ℕ) → length d ≤ inputLimit → valueOf (lineWith v (length (partOf v d))) < 10 ^ 5

@@ -26,6 +26,9 @@ pub enum Refusal {
     AdvertiserNotListed,
     NoRouterDue,
     WrappedTooLong,
+    SolicitationInvalid,
+    AskerNotIsatap,
+    OptionsBad,
 }
 
 // What a row of tests says: nothing against the input, or the first refusal.
@@ -62,6 +65,9 @@ impl Refusal {
             Refusal::AdvertiserNotListed => 21,
             Refusal::NoRouterDue => 22,
             Refusal::WrappedTooLong => 23,
+            Refusal::SolicitationInvalid => 24,
+            Refusal::AskerNotIsatap => 25,
+            Refusal::OptionsBad => 26,
         }
     }
 }

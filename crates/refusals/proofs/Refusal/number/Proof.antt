@@ -7,7 +7,7 @@ pub number-spec : {M : Type 1} → statement M
 number-spec =
     tie.close
     (tie.spec
-    (search needs) (search needs) (search needs) (search needs) (search needs) (search needs) (search needs) (search needs) (search needs) (search needs) (search needs) (search needs) (search needs) (search needs) (search needs) (search needs) (search needs) (search needs) (search needs) (search needs) (search needs) (search needs)
+    (search needs) (search needs) (search needs) (search needs) (search needs) (search needs) (search needs) (search needs) (search needs) (search needs) (search needs) (search needs) (search needs) (search needs) (search needs) (search needs) (search needs) (search needs) (search needs) (search needs) (search needs) (search needs) (search needs) (search needs) (search needs)
     (λ c. rw (c .enum-told .given .1))
     (λ c. rw (c .enum-told2 .given .1))
     (λ c. rw (c .enum-told3 .given .1))
@@ -29,4 +29,7 @@ number-spec =
     (λ c. rw (c .enum-told19 .given .1))
     (λ c. rw (c .enum-told20 .given .1))
     (λ c. rw (c .enum-told21 .given .1))
-    (λ c. rw (c .enum-told22 .given .1)))
+    (λ c. rw (c .enum-told22 .given .1))
+    (λ c. rw (c .enum-told23 .given .1))
+    (λ c. rw (c .enum-told24 .given .1))
+    (λ c. rw (c .enum-told25 .given .1)))
