@@ -9,7 +9,7 @@ use lib.ListN.{getD, take}
 use lib.Dec.{eqb, leb}
 use borrow.Author.Tests.{eqb-true, eqb-false}
 use Rattle.lists.proofs.Decides.{Decides, decides-eq, decides-le, decides-or, decides-and, decides-any, decides-as, refutes}
-use Rattle.address.specs.Address.{isForbidden, quadOf, lastQuad, agree, isUnder, linkLocalPrefix, isLinkLocal, isOnLink, isIdentifier, embeddedIn, areZero, isMulticast, isMulticastOrUnspecified, isBadSourceWith}
+use Rattle.address.specs.Address.{isForbidden, quadOf, lastQuad, agree, isUnder, linkLocalPrefix, isLinkLocal, isOnLink, isIdentifier, embeddedIn, areZero, isMulticast, isUnspecified, isMulticastOrUnspecified, isBadSourceWith}
 use Rattle.address.specs.Facts.{Within, Forbidden, Under, LinkLocal, OnLink, Identifier, EndsWith, Isatap, ZeroBefore, Multicast, Unspecified, Loopback, ZeroThen, BadSource}
 use Rattle.address.specs.declared.Embedded.the-variants.{Ipv4, Nothing}
 
@@ -77,7 +77,7 @@ module _ (a : List ℕ) where
   pub decides-multicast : Decides (isMulticast a) (Multicast a)
   decides-multicast = decides-eq (getD a 0 0) 0xFF
 
-  decides-unspecified : Decides (areZero 12 a && eqb (lastQuad a) 0) (Unspecified a)
+  pub decides-unspecified : Decides (isUnspecified a) (Unspecified a)
   unfolding EndsWith
   decides-unspecified = decides-as _ (decides-and _ _ (decides-zero 12 a) (decides-ends 0)) to from
     where

@@ -85,9 +85,13 @@ areZero (suc n) a = areZero n a && eqb (getD a n 0) 0
 abbrev pub isMulticast : List ℕ → Bool
 isMulticast a = eqb (getD a 0 0) 0xFF
 
+-- `::`
+abbrev pub isUnspecified : List ℕ → Bool
+isUnspecified a = areZero 12 a && eqb (lastQuad a) 0
+
 -- R2.9, R8.2: multicast, or `::`
 unfoldable pub isMulticastOrUnspecified : List ℕ → Bool
-isMulticastOrUnspecified a = isMulticast a || areZero 12 a && eqb (lastQuad a) 0
+isMulticastOrUnspecified a = isMulticast a || isUnspecified a
 
 -- R5.11, bad inner source: ff00::/8, `::`, `::1`, or 96 zero bits followed by a forbidden IPv4 address,
 -- where `forbidden` says whether the last 32 bits are one

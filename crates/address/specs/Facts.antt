@@ -1,9 +1,9 @@
 -- What the tests on addresses decide, said over numbers and bytes. An IPv4 address is its number; an IPv6 address is the list of its
 -- sixteen bytes.
-use Prim.Native.Nat.{ℕ, _≤_, _<_}
+use Prim.Native.Nat.{ℕ, _/_, _%_, _≤_, _<_}
 use mathlib.Core.Path.{_≡_}
 use mathlib.Core.Logic.{_⊎_}
-use mathlib.Core.List.{List, _∷_}
+use mathlib.Core.List.{List, [], _∷_}
 use lib.ListN.{getD, take}
 use Rattle.lists.specs.Any.{Some}
 use Rattle.address.specs.Address.{quadOf, linkLocalPrefix}
@@ -46,6 +46,12 @@ pub record Isatap (prefixes : List (List ℕ)) (count : ℕ) (a : List ℕ) (v :
   pub onLink : OnLink prefixes count a
   pub identifier : Identifier a
   pub embedded : EndsWith a v
+
+-- the link-local ISATAP address that we form of an IPv4 address: fe80::/64, then 00, 00, 5E, FE, then its four bytes
+abbrev pub formed : ℕ → List ℕ
+formed a =
+    0xFE ∷ (0x80 ∷ (0 ∷ (0 ∷ (0 ∷ (0 ∷ (0 ∷ (0 ∷ (0x00 ∷ (0x00 ∷ (0x5E ∷ (0xFE
+    ∷ (a / 16777216 ∷ (a / 65536 % 256 ∷ (a / 256 % 256 ∷ (a % 256 ∷ [])))))))))))))))
 
 -- the first n bytes are 0
 abbrev pub ZeroBefore : ℕ → List ℕ → Type 0

@@ -3,7 +3,7 @@
 pub mod prefixes;
 
 ghost use mathlib.Core.Path.{_≡_};
-ghost use Rattle.address.specs.Address.{isForbidden, quadOf, wideOf, lastQuad, isUnder, isLinkLocal, isOnLink, isIdentifier, embeddedIn, isLinkLocalIsatap, linkLocalOf, areZero, isMulticastOrUnspecified, isBadSourceWith, isBadSource};
+ghost use Rattle.address.specs.Address.{isForbidden, quadOf, wideOf, lastQuad, isUnder, isLinkLocal, isOnLink, isIdentifier, embeddedIn, isLinkLocalIsatap, linkLocalOf, areZero, isUnspecified, isMulticastOrUnspecified, isBadSourceWith, isBadSource};
 
 // What stands before the embedded address: 00-00-5E-FE,
 const IDENTIFIER_00: u32 = 0x00005efe;
@@ -146,11 +146,18 @@ fn zero_96(a: [u8; 16]) -> bool
         & (quad(a[8], a[9], a[10], a[11]) == 0)
 }
 
+// Whether the address is `::`.
+pub fn unspecified(a: [u8; 16]) -> bool
+    ensures { λ r. ⌜ r ≡ isUnspecified a ⌝ }
+{
+    zero_96(a) & (last_quad(a) == 0)
+}
+
 // Whether nothing may be sent to the address: multicast, or `::`.
 pub fn multicast_or_unspecified(a: [u8; 16]) -> bool
     ensures { λ r. ⌜ r ≡ isMulticastOrUnspecified a ⌝ }
 {
-    (a[0] == 255) | (zero_96(a) & (last_quad(a) == 0))
+    (a[0] == 255) | unspecified(a)
 }
 
 // Whether an inner source is bad, where `forbidden` says whether its last 32 bits are a forbidden IPv4 address.

@@ -18,7 +18,7 @@ use Rattle.routers.proofs.Due.{earliest-due, due-earliest, none-due, due-none, 
 use Rattle.routers.specs.declared.RouterList.{RouterList}
 use Rattle.routers.specs.declared.Next.{Next}
 use Rattle.routers.specs.declared.Next.the-variants.{Due, NoneDue}
-use Rattle.settings.specs.Locators.{locatorFound}
+use Rattle.settings.specs.Settings.{locatorOf}
 use Rattle.settings.specs.Facts.{LocatorAt}
 use Rattle.settings.proofs.Facts.{found-locator, locator-found}
 use Rattle.settings.specs.declared.Settings.{Settings}
@@ -50,7 +50,7 @@ pub room-planned : (s : Settings) (routers : RouterList) (now number room : ℕ)
     → p ≡ Ask from router → solicitationLength ≤ room
 unfolding askPlan
 room-planned s routers now number room {p} {from} {router} e h =
-    planned (locatorFound (s .locators) (s .«locator_count») number) (nextOf now (live routers)) room from router (sym e ∙ h) .2
+    planned (locatorOf s number) (nextOf now (live routers)) room from router (sym e ∙ h) .2
 
 -- 22 is given only from a locator that there is, if no router is due
 none-planned : (found : Found) (next : Next) (room : ℕ) → planFor found next room ≡ Refuse NoRouterDue → ((from : ℕ) × (found ≡ Address from)) × (next ≡ NoneDue)
@@ -83,7 +83,7 @@ refused-plan (Refuse x) due routers out r h = (refl, refl)
 -- the definitions that an answered asking went by, for the laws over lists of calls
 pub record AskedNext (s : Settings) (routers : RouterList) (now number : ℕ) (out : List ℕ) (router : ℕ) : Type 0 where
   pub from : ℕ
-  pub locator : locatorFound (s .locators) (s .«locator_count») number ≡ Address from
+  pub locator : locatorOf s number ≡ Address from
   pub next : nextOf now (live routers) ≡ Due router
   pub long : solicitationLength ≤ length out
   pub rescheduled : askedOf s routers now number (length out) .routers ≡ rescheduledOf router (now + s .interval) routers
@@ -99,7 +99,7 @@ module _ (s : Settings) (routers : RouterList) (now number : ℕ) (out : List �
   pub answered-next : (router : ℕ) → askedOf s routers now number (length out) .answer ≡ Router router → AskedNext s routers now number out router
   unfolding askedOf askPlan
   answered-next router h =
-      let found = locatorFound (s .locators) (s .«locator_count») number in
+      let found = locatorOf s number in
       let f = asked-from (askPlan s routers now number (length out)) (now + s .interval) routers router h in
       let w = planned found (nextOf now (live routers)) (length out) (f .from) router (f .is) in
       record {
@@ -135,7 +135,7 @@ module _ (s : Settings) (routers : RouterList) (now number : ℕ) (out : List �
   none-due-found : askedOf s routers now number (length out) .answer ≡ Refused NoRouterDue → ((from : ℕ) × LocatorAt s number from) × NoneIsDue now (live routers)
   unfolding askedOf askPlan
   none-due-found h =
-      let found = locatorFound (s .locators) (s .«locator_count») number in
+      let found = locatorOf s number in
       let p = asked-refused (askPlan s routers now number (length out)) (now + s .interval) routers NoRouterDue h in
       let n = none-planned found (nextOf now (live routers)) (length out) p in
       ((n .0 .0, found-locator s number (n .0 .0) (n .0 .1)), none-due now (live routers) (n .1))
@@ -146,9 +146,9 @@ module _ (s : Settings) (routers : RouterList) (now number : ℕ) (out : List �
 
   no-locator : ((from : ℕ) → LocatorAt s number from → ⊥) → askedOf s routers now number (length out) .answer ≡ Refused NoLocator
   unfolding askedOf askPlan planFor
-  no-locator n = go (locatorFound (s .locators) (s .«locator_count») number) refl
+  no-locator n = go (locatorOf s number) refl
     where
-      go : (f : Found) → locatorFound (s .locators) (s .«locator_count») number ≡ f
+      go : (f : Found) → locatorOf s number ≡ f
           → carriedOut (planFor f (nextOf now (live routers)) (length out)) (now + s .interval) routers .answer ≡ Refused NoLocator
       go Nothing e = refl
       go (Address from) e = absurd (n from (found-locator s number from e))

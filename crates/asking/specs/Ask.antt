@@ -13,7 +13,7 @@ use Rattle.routers.specs.Routers.{live, nextOf, rescheduledOf}
 use Rattle.routers.specs.declared.RouterList.{RouterList}
 use Rattle.routers.specs.declared.Next.{Next}
 use Rattle.routers.specs.declared.Next.the-variants.{Due, NoneDue}
-use Rattle.settings.specs.Locators.{locatorFound}
+use Rattle.settings.specs.Settings.{locatorOf}
 use Rattle.settings.specs.declared.Settings.{Settings}
 use Rattle.settings.specs.declared.locators.Found.{Found}
 use Rattle.settings.specs.declared.locators.Found.the-variants.{Address, Nothing}
@@ -31,7 +31,7 @@ planFor (Address from) (Due router) room = cond (ltb room solicitationLength) (R
 
 -- the router with the earliest due time that is not in the future, lowest place on a tie, is asked from the numbered locator
 unfoldable pub askPlan : Settings → RouterList → ℕ → ℕ → ℕ → Plan
-askPlan s routers now locator room = planFor (locatorFound (s .locators) (s .«locator_count») locator) (nextOf now (live routers)) room
+askPlan s routers now locator room = planFor (locatorOf s locator) (nextOf now (live routers)) room
 
 -- the answer names the router; its due time becomes `due`
 abbrev pub carriedOut : Plan → ℕ → RouterList → Asked

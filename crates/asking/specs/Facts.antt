@@ -4,6 +4,7 @@ use mathlib.Core.Path.{_≡_}
 use mathlib.Core.List.{List, [], _∷_, _++_}
 use lib.ListN.{length}
 use Rattle.checksum.specs.Sum.{onesSum, onesComplement}
+use Rattle.address.specs.Facts.{formed}
 use Rattle.lent.specs.Written.{written}
 use Rattle.refusals.specs.declared.Refusal.the-variants.{NoLocator, OutputShort, NoRouterDue}
 use Rattle.routers.specs.Routers.{live}
@@ -22,12 +23,6 @@ pub record MayAsk (s : Settings) (routers : RouterList) (now number room : ℕ) 
   pub next : EarliestDue now (live routers) router
   -- a solicitation fits
   pub long : 48 ≤ room
-
--- the link-local ISATAP address that we form of an IPv4 address: fe80::/64, then 00, 00, 5E, FE, then its four bytes
-abbrev pub formed : ℕ → List ℕ
-formed a =
-    0xFE ∷ (0x80 ∷ (0 ∷ (0 ∷ (0 ∷ (0 ∷ (0 ∷ (0 ∷ (0x00 ∷ (0x00 ∷ (0x5E ∷ (0xFE
-    ∷ (a / 16777216 ∷ (a / 65536 % 256 ∷ (a / 256 % 256 ∷ (a % 256 ∷ [])))))))))))))))
 
 -- type 133, code 0, a checksum, reserved 0, no options (RFC 4861, 4.1)
 abbrev pub solicitationMessage : ℕ → List ℕ

@@ -4,7 +4,6 @@ use refusals::Refusal;
 use routers::Next;
 use routers::RouterList;
 use settings::Settings;
-use settings::locators;
 use settings::locators::Found;
 ghost use mathlib.Core.Path.{_≡_};
 ghost use lib.ListN.{length};
@@ -62,9 +61,7 @@ fn plan_for(found: Found, next: Next, room: usize) -> Plan
 fn ask_plan(settings: Settings, routers: RouterList, time: u32, locator: usize, room: usize) -> Plan
     ensures { λ r. ⌜ r ≡ askPlan settings routers time locator room ⌝ }
 {
-    let all = settings.locators;
-    let found = locators::locator_address(all, settings.locator_count, locator);
-    plan_for(found, routers.next(time), room)
+    plan_for(settings.locator(locator), routers.next(time), room)
 }
 
 // One asking at a time: who is asked, and the router list after it; out gets the solicitation.

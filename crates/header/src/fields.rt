@@ -1,8 +1,10 @@
 // Big-endian fields: of a slice, read at any place, where a byte past the end reads as 0; and the bytes of a number.
 ghost use mathlib.Core.Path.{_≡_};
 ghost use Prim.Native.Nat.{_+_, _*_, _/_, _%_, _≤_};
+ghost use mathlib.Core.List.{[]};
 ghost use lib.ListN.{getD, drop, length};
 ghost use Rattle.header.specs.Fields.{wordAt, quadAt, bytesFrom, addressAt};
+ghost use Rattle.header.specs.Wrap.{be16, be32};
 
 pub fn byte(d: &[u8], i: usize) -> u8
     ensures { λ r. ⌜ r ≡ getD (now (d .entry)) i 0 ⌝ }
@@ -22,6 +24,25 @@ pub fn low(x: u16) -> u8
     ensures { λ r. ⌜ r ≡ x % 256 ⌝ }
 {
     (x % 256) as u8
+}
+
+// The two bytes of a 16-bit number.
+pub fn word_bytes(x: u16) -> [u8; 2]
+    ensures { λ r. ⌜ r ≡ be16 x [] ⌝ }
+{
+    [high(x), low(x)]
+}
+
+// The four bytes of a 32-bit number.
+pub fn quad_bytes(x: u32) -> [u8; 4]
+    ensures { λ r. ⌜ r ≡ be32 x [] ⌝ }
+{
+    [
+        (x / 16777216) as u8,
+        (x / 65536 % 256) as u8,
+        (x / 256 % 256) as u8,
+        (x % 256) as u8,
+    ]
 }
 
 // The part from k on, empty where k is past the end.

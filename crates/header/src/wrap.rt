@@ -5,10 +5,9 @@ use lent::write_at;
 use refusals::Refusal;
 ghost use mathlib.Core.Path.{_≡_};
 ghost use mathlib.Core.Bool.{cond};
-ghost use mathlib.Core.List.{[]};
 ghost use lib.ListN.{length};
 ghost use Rattle.checksum.specs.Sum.{onesSum};
-ghost use Rattle.header.specs.Wrap.{be16, be32, outerWith, outerBytes, writtenGiven, wrapAnswer, wrapOutput};
+ghost use Rattle.header.specs.Wrap.{outerWith, outerBytes, writtenGiven, wrapAnswer, wrapOutput};
 
 // The longest packet that can be wrapped: an IPv4 total length has 16 bits.
 const LONGEST: usize = 65535 - OUTER_HEADER;
@@ -72,11 +71,11 @@ pub fn outer_bytes(total: u16, h: OuterFields) -> [u8; OUTER_HEADER]
     b[6] = flags(h.dont_fragment);
     b[8] = h.ttl;
     b[9] = h.protocol;
-    write_at(&word_bytes(total), &mut b, 2);
-    write_at(&word_bytes(h.identification), &mut b, 4);
-    write_at(&word_bytes(sum), &mut b, 10);
-    write_at(&quad_bytes(h.source), &mut b, 12);
-    write_at(&quad_bytes(h.destination), &mut b, 16);
+    write_at(&fields::word_bytes(total), &mut b, 2);
+    write_at(&fields::word_bytes(h.identification), &mut b, 4);
+    write_at(&fields::word_bytes(sum), &mut b, 10);
+    write_at(&fields::quad_bytes(h.source), &mut b, 12);
+    write_at(&fields::quad_bytes(h.destination), &mut b, 16);
     b
 }
 
@@ -90,25 +89,6 @@ fn header_sum(total: u16, h: OuterFields) -> u16
     let source = h.source / 65536 + h.source % 65536;
     let destination = h.destination / 65536 + h.destination % 65536;
     checksum::sum_of_words(numbers + bytes + source + destination)
-}
-
-// The two bytes of a 16-bit number.
-fn word_bytes(x: u16) -> [u8; 2]
-    ensures { λ r. ⌜ r ≡ be16 x [] ⌝ }
-{
-    [fields::high(x), fields::low(x)]
-}
-
-// The four bytes of a 32-bit number.
-fn quad_bytes(x: u32) -> [u8; 4]
-    ensures { λ r. ⌜ r ≡ be32 x [] ⌝ }
-{
-    [
-        (x / 16777216) as u8,
-        (x / 65536 % 256) as u8,
-        (x / 256 % 256) as u8,
-        (x % 256) as u8,
-    ]
 }
 
 // The byte of the flags: don't-fragment is its second bit.

@@ -18,8 +18,10 @@ use Rattle.refusals.proofs.Laws.{stop-passed}
 use Rattle.refusals.specs.declared.Refusal.{Refusal}
 use Rattle.refusals.specs.declared.Check.{Check}
 use Rattle.refusals.specs.declared.Check.the-variants.{Pass, Stop}
+use Rattle.settings.specs.Locators.{addressOf}
+use Rattle.settings.specs.Settings.{locatorOf}
 use Rattle.settings.specs.declared.Settings.{Settings}
-use Rattle.sending.specs.Plan.{sourceOf, addressOf, sendCheck, sizedPlan, planOf}
+use Rattle.sending.specs.Plan.{sendCheck, sizedPlan, planOf}
 use Rattle.sending.specs.Sending.{wrappedAs, toldAs, planAnswer}
 use Rattle.sending.specs.declared.judging.Plan.{Plan}
 use Rattle.sending.specs.declared.judging.Plan.the-variants.{Wrap, Tell, Silent, Refuse}
@@ -83,16 +85,16 @@ module _ (s : Settings) (P : ℕ) (packet hop : List ℕ) (k : ℕ) where
 
   -- a plan that is no refusal has passed 8, 11, 12 and 13
   passed : (plan : Plan) → ((r : Refusal) → Refuse r ≡ plan → ⊥) → planOf s P packet hop k ≡ plan
-      → (sendCheck s packet hop k ≡ Pass) × (sizedPlan P packet (addressOf (sourceOf s k)) ≡ plan)
+      → (sendCheck s packet hop k ≡ Pass) × (sizedPlan P packet (addressOf (locatorOf s k)) ≡ plan)
   unfolding planOf
-  passed plan other e = stop-passed Refuse (sendCheck s packet hop k) (sizedPlan P packet (addressOf (sourceOf s k))) plan other e
+  passed plan other e = stop-passed Refuse (sendCheck s packet hop k) (sizedPlan P packet (addressOf (locatorOf s k))) plan other e
 
   pub plan-wrap : (a : ℕ) → planOf s P packet hop k ≡ Wrap a
-      → (sendCheck s packet hop k ≡ Pass) × (length packet ≤ largestPacket P) × (addressOf (sourceOf s k) ≡ a)
+      → (sendCheck s packet hop k ≡ Pass) × (length packet ≤ largestPacket P) × (addressOf (locatorOf s k) ≡ a)
   unfolding sizedPlan
   plan-wrap a e =
       let p = passed (Wrap a) (λ r x. let z : _≡_ {A = ℕ} 0 1 = cc in omega arith) e in
-      let f = sized-wrap big (mayDrawError packet) (largestPacket P) (addressOf (sourceOf s k)) a (p .1) in
+      let f = sized-wrap big (mayDrawError packet) (largestPacket P) (addressOf (locatorOf s k)) a (p .1) in
       (p .0, ltb-false (largestPacket P) (length packet) (f .0), f .1)
 
   pub plan-tell : (m : ℕ) → planOf s P packet hop k ≡ Tell m
@@ -100,7 +102,7 @@ module _ (s : Settings) (P : ℕ) (packet hop : List ℕ) (k : ℕ) where
   unfolding sizedPlan
   plan-tell m e =
       let p = passed (Tell m) (λ r x. let z : _≡_ {A = ℕ} 0 1 = cc in omega arith) e in
-      let f = sized-tell big (mayDrawError packet) (largestPacket P) (addressOf (sourceOf s k)) m (p .1) in
+      let f = sized-tell big (mayDrawError packet) (largestPacket P) (addressOf (locatorOf s k)) m (p .1) in
       (p .0, ltb-true (largestPacket P) (length packet) (f .0), f .1, f .2)
 
   pub plan-silent : (m : ℕ) → planOf s P packet hop k ≡ Silent m
@@ -108,5 +110,5 @@ module _ (s : Settings) (P : ℕ) (packet hop : List ℕ) (k : ℕ) where
   unfolding sizedPlan
   plan-silent m e =
       let p = passed (Silent m) (λ r x. let z : _≡_ {A = ℕ} 0 1 = cc in omega arith) e in
-      let f = sized-silent big (mayDrawError packet) (largestPacket P) (addressOf (sourceOf s k)) m (p .1) in
+      let f = sized-silent big (mayDrawError packet) (largestPacket P) (addressOf (locatorOf s k)) m (p .1) in
       (p .0, ltb-true (largestPacket P) (length packet) (f .0), f .1, f .2)

@@ -25,8 +25,10 @@ use Rattle.refusals.proofs.Laws.{all-false}
 use Rattle.refusals.specs.declared.Refusal.{Refusal}
 use Rattle.refusals.specs.declared.Refusal.the-variants.{InnerMalformed, OutputShort}
 use Rattle.refusals.specs.declared.Check.the-variants.{Pass, Stop}
+use Rattle.settings.specs.Locators.{addressOf}
+use Rattle.settings.specs.Settings.{locatorOf}
 use Rattle.settings.specs.declared.Settings.{Settings}
-use Rattle.sending.specs.Plan.{sourceOf, addressOf, sendCheck, sizedPlan, planOf}
+use Rattle.sending.specs.Plan.{sendCheck, sizedPlan, planOf}
 use Rattle.sending.specs.Sending.{sentOf, sentOutput}
 use Rattle.sending.specs.Exactly.{Exceeds, Names, TooBigExactly, Refuses, RefusedExactly, SentExactly}
 use Rattle.sending.proofs.Cases.{writer-passed, big-plan, plan-tell, plan-silent}
@@ -45,7 +47,7 @@ big-fits n room e =
 module _ (s : Settings) (P : ℕ) (packet hop : List ℕ) (k : ℕ) where
   -- a packet that passes 8, 11, 12 and 13 and is longer than M has the facts of 14
   exceeding : sendCheck s packet hop k ≡ Pass → largestPacket P < length packet → (M : ℕ) → largestPacket P ≡ M → Exceeds s P packet hop k M
-  exceeding c l M e = record { passes = (addressOf (sourceOf s k), check-passes s packet hop k c); largest = rw (← e) (larger-of-both P); longer = rw (← e) l }
+  exceeding c l M e = record { passes = (addressOf (locatorOf s k), check-passes s packet hop k c); largest = rw (← e) (larger-of-both P); longer = rw (← e) l }
 
   module _ (M : ℕ) (f : Exceeds s P packet hop k M) where
     exceeds-big : ltb (largestPacket P) (length packet) ≡ true

@@ -16,18 +16,12 @@ use Rattle.refusals.proofs.Laws.{all-false, all-pass}
 use Rattle.refusals.specs.declared.Refusal.the-variants.{InnerMalformed, NoLocator, NextHopNotIsatap, TunnelEndForbidden}
 use Rattle.refusals.specs.declared.Check.the-variants.{Pass, Stop}
 use Rattle.settings.specs.Facts.{BadEnd, IsatapTo, LocatorAt}
-use Rattle.settings.specs.Settings.{embeddedTo, isBadEnd}
-use Rattle.settings.proofs.Facts.{decides-bad-end, embedded-to, isatap-to, no-isatap-to, found-locator, locator-found}
+use Rattle.settings.specs.Locators.{addressOf, isNoLocator}
+use Rattle.settings.specs.Settings.{locatorOf, embeddedTo, isBadEnd}
+use Rattle.settings.proofs.Facts.{decides-bad-end, embedded-to, isatap-to, no-isatap-to, locator-there, decides-no-locator}
 use Rattle.settings.specs.declared.Settings.{Settings}
-use Rattle.settings.specs.declared.locators.Found.{Found}
-use Rattle.settings.specs.declared.locators.Found.the-variants as found
-use Rattle.sending.specs.Plan.{sourceOf, addressOf, isNoLocator, isNotIsatap, sendRows, sendCheck}
+use Rattle.sending.specs.Plan.{isNotIsatap, sendRows, sendCheck}
 use Rattle.sending.specs.Wraps.{Whole, Passes}
-
-located : (f : Found) → isNoLocator f ≡ false → f ≡ found.Address (addressOf f)
-unfolding isNoLocator
-located (found.Address a) e = refl
-located found.Nothing e = cc
 
 embeds : (b : Bool) (a : ℕ) → isNotIsatap (cond b (embedded.Ipv4 a) embedded.Nothing) ≡ false → cond b (embedded.Ipv4 a) embedded.Nothing ≡ embedded.Ipv4 a
 unfolding isNotIsatap
@@ -50,19 +44,8 @@ module _ (s : Settings) (packet hop : List ℕ) (k : ℕ) where
   not-whole true e n = e
   not-whole false e n = absurd (n (whole-holds e))
 
-  -- the locator of that number is found
-  pub located-at : (a : ℕ) → LocatorAt s k a → sourceOf s k ≡ found.Address a
-  unfolding sourceOf
-  located-at a f = locator-found s k a f
-
-  locator-passes : (a : ℕ) → LocatorAt s k a → isNoLocator (sourceOf s k) ≡ false
-  unfolding isNoLocator
-  locator-passes a f = rw (located-at a f)
-
-  not-located : (f : Found) → sourceOf s k ≡ f → ((a : ℕ) → LocatorAt s k a → ⊥) → isNoLocator (sourceOf s k) ≡ true
-  unfolding isNoLocator sourceOf
-  not-located (found.Address a) e n = absurd (n a (found-locator s k a e))
-  not-located found.Nothing e n = rw e
+  locator-passes : (a : ℕ) → LocatorAt s k a → isNoLocator (locatorOf s k) ≡ false
+  locator-passes a f = refutes (isNoLocator (locatorOf s k)) (decides-no-locator s k) (λ n. n a f)
 
   isatap-passes : (v : ℕ) → IsatapTo s hop v → isNotIsatap (embeddedTo s hop) ≡ false
   unfolding isNotIsatap
@@ -81,14 +64,14 @@ module _ (s : Settings) (packet hop : List ℕ) (k : ℕ) where
       all-pass (sendRows s packet hop k) (whole-passes (f .whole), (locator-passes a (f .locator), (isatap-passes (lastQuad hop) (f .isatap), (end, tt))))
 
   -- a packet that passes 8, 11, 12 and 13 has the facts
-  pub check-passes : sendCheck s packet hop k ≡ Pass → Passes s packet hop k (addressOf (sourceOf s k))
-  unfolding sendCheck sourceOf
+  pub check-passes : sendCheck s packet hop k ≡ Pass → Passes s packet hop k (addressOf (locatorOf s k))
+  unfolding sendCheck
   check-passes e =
       let rows = all-false (sendRows s packet hop k) e in
       let end = fails (isBadEnd s (lastQuad hop)) (decides-bad-end s (lastQuad hop)) (rows .1 .1 .1 .0) in
       record {
         whole = whole-holds (rows .0);
-        locator = found-locator s k (addressOf (sourceOf s k)) (located (sourceOf s k) (rows .1 .0));
+        locator = locator-there s k (rows .1 .0);
         isatap = isatap-holds (rows .1 .1 .0);
         allowed = λ f. end (inl f);
         foreign = λ f. end (inr f);
@@ -100,7 +83,7 @@ module _ (s : Settings) (packet hop : List ℕ) (k : ℕ) where
 
   pub no-locator-stops : Whole packet → ((a : ℕ) → LocatorAt s k a → ⊥) → sendCheck s packet hop k ≡ Stop NoLocator
   unfolding sendCheck
-  no-locator-stops w n = rw (whole-passes w, not-located (sourceOf s k) refl n)
+  no-locator-stops w n = rw (whole-passes w, decides-no-locator s k .passes n)
 
   pub not-isatap-stops : (a : ℕ) → Whole packet → LocatorAt s k a → ((v : ℕ) → IsatapTo s hop v → ⊥) → sendCheck s packet hop k ≡ Stop NextHopNotIsatap
   unfolding sendCheck isNotIsatap

@@ -18,8 +18,10 @@ use Rattle.refusals.specs.Refusals.{stopOr}
 use Rattle.refusals.specs.declared.Refusal.the-variants.{OutputShort}
 use Rattle.refusals.specs.declared.Check.{Check}
 use Rattle.refusals.specs.declared.Check.the-variants.{Pass, Stop}
+use Rattle.settings.specs.Locators.{addressOf}
+use Rattle.settings.specs.Settings.{locatorOf}
 use Rattle.settings.specs.declared.Settings.{Settings}
-use Rattle.sending.specs.Plan.{sourceOf, addressOf, sendCheck, planOf, sizedPlan}
+use Rattle.sending.specs.Plan.{sendCheck, planOf, sizedPlan}
 use Rattle.sending.specs.Sending.{wrappedAs, planAnswer, sentOf}
 use Rattle.sending.proofs.Judged.{check-passes}
 use Rattle.sending.specs.declared.judging.Plan.the-variants.{Wrap, Tell, Silent}
@@ -61,7 +63,7 @@ module _ (s : Settings) (i P : ℕ) (packet hop : List ℕ) (k room : ℕ) where
       let w = check-passes s packet hop k e .whole in
       rw e
       (seen-by (length packet) room (ltb (largestPacket P) (length packet)) (mayDrawError packet) (ltb room (tooBigLength (length packet))) (largestPacket P)
-      (addressOf (sourceOf s k)) (too-big-room (length packet) room (omega (arith, w .1))))
+      (addressOf (locatorOf s k)) (too-big-room (length packet) room (omega (arith, w .1))))
   seen-after (Stop r) e = rw e
 
   -- 14 is given exactly as the rules of sending say for P, in every call that comes to it

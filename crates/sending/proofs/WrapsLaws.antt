@@ -18,12 +18,15 @@ use Rattle.paths.proofs.PacketsLaws.{takes, taken, decides-flag}
 use Rattle.refusals.proofs.Laws.{all-false}
 use Rattle.refusals.specs.declared.Refusal.the-variants.{WrappedTooLong, OutputShort}
 use Rattle.refusals.specs.declared.Check.the-variants.{Pass}
+use Rattle.settings.specs.Locators.{addressOf}
+use Rattle.settings.specs.Settings.{locatorOf}
+use Rattle.settings.proofs.Facts.{locator-found}
 use Rattle.settings.specs.declared.Settings.{Settings}
-use Rattle.sending.specs.Plan.{sourceOf, addressOf, planOf, sizedPlan}
+use Rattle.sending.specs.Plan.{planOf, sizedPlan}
 use Rattle.sending.specs.Sending.{fieldsFor, sentOf, sentOutput}
 use Rattle.sending.specs.Wraps.{Passes, PathTakes, Wraps, wrappedBytes, WrappedExactly}
 use Rattle.sending.proofs.Cases.{writer-passed, wrapped-plan, plan-wrap}
-use Rattle.sending.proofs.Judged.{located-at, passes-check, check-passes}
+use Rattle.sending.proofs.Judged.{passes-check, check-passes}
 use Rattle.sending.specs.declared.judging.Plan.the-variants.{Wrap}
 use Rattle.sending.specs.declared.SendAnswer.the-variants.{Wrapped}
 
@@ -43,7 +46,7 @@ module _ (s : Settings) (P : ℕ) (packet hop : List ℕ) (k : ℕ) where
   -- where 8, 11, 12 and 13 do not hold and the path takes the packet, the plan is to wrap it, from the locator's address
   pub passes-plan : (a : ℕ) → Passes s packet hop k a → PathTakes P (length packet) → planOf s P packet hop k ≡ Wrap a
   unfolding planOf sizedPlan
-  passes-plan a f p = simp (passes-check s packet hop k a f, located-at s packet hop k a (f .locator), le-ltb _ _ (taken P (length packet) p))
+  passes-plan a f p = simp (passes-check s packet hop k a f, locator-found s k a (f .locator), le-ltb _ _ (taken P (length packet) p))
 
   module _ (i : ℕ) (out : List ℕ) where
     -- what is answered as wrapped keeps the rules
@@ -56,7 +59,7 @@ module _ (s : Settings) (P : ℕ) (packet hop : List ℕ) (k : ℕ) where
         let p = plan-wrap s P packet hop k (w .0 .0) (w .0 .1) in
         let c = writer-passed (wrapCheck n (length out)) (outerHeader + n) len (w .1) in
         let f = wrap-fits n (length out) (c .0) in
-        (c .1, (addressOf (sourceOf s k), record { passes = check-passes s packet hop k (p .0); path = takes P n (p .1); total = f .0; output = f .1 }))
+        (c .1, (addressOf (locatorOf s k), record { passes = check-passes s packet hop k (p .0); path = takes P n (p .1); total = f .0; output = f .1 }))
 
     -- what keeps the rules is wrapped
     module _ (a : ℕ) (w : Wraps s P packet hop k (length out) a) where

@@ -13,27 +13,11 @@ use Rattle.refusals.specs.Refusals.{firstOf, stopOr}
 use Rattle.refusals.specs.declared.Refusal.{Refusal}
 use Rattle.refusals.specs.declared.Refusal.the-variants.{InnerMalformed, NoLocator, NextHopNotIsatap, TunnelEndForbidden}
 use Rattle.refusals.specs.declared.Check.{Check}
-use Rattle.settings.specs.Locators.{locatorFound}
-use Rattle.settings.specs.Settings.{embeddedTo, isBadEnd}
+use Rattle.settings.specs.Locators.{addressOf, isNoLocator}
+use Rattle.settings.specs.Settings.{locatorOf, embeddedTo, isBadEnd}
 use Rattle.settings.specs.declared.Settings.{Settings}
-use Rattle.settings.specs.declared.locators.Found.{Found}
-use Rattle.settings.specs.declared.locators.Found.the-variants as found
 use Rattle.sending.specs.declared.judging.Plan.{Plan}
 use Rattle.sending.specs.declared.judging.Plan.the-variants.{Wrap, Tell, Silent, Refuse}
-
--- the locator of number k
-unfoldable pub sourceOf : Settings → ℕ → Found
-sourceOf s k = locatorFound (s .locators) (s .«locator_count») k
-
--- the address of a locator that was found; 0 where there is none, and then 11 is given
-abbrev pub addressOf : Found → ℕ
-addressOf (found.Address a) = a
-addressOf found.Nothing = 0
-
--- 11: no locator of that number
-unfoldable pub isNoLocator : Found → Bool
-isNoLocator (found.Address a) = false
-isNoLocator found.Nothing = true
 
 -- 12: the next hop is no ISATAP address
 unfoldable pub isNotIsatap : Embedded → Bool
@@ -45,7 +29,7 @@ isNotIsatap embedded.Nothing = true
 abbrev pub sendRows : Settings → List ℕ → List ℕ → ℕ → List (Bool × Refusal)
 sendRows s packet hop k =
     (isPacketMalformed (length packet) (innerOf packet), InnerMalformed)
-    ∷ (isNoLocator (sourceOf s k), NoLocator)
+    ∷ (isNoLocator (locatorOf s k), NoLocator)
     ∷ (isNotIsatap (embeddedTo s hop), NextHopNotIsatap)
     ∷ (isBadEnd s (lastQuad hop), TunnelEndForbidden)
     ∷ []
@@ -62,4 +46,4 @@ sizedPlan P packet source =
 
 -- the plan for a packet over a path of size P to a next hop, from locator k
 unfoldable pub planOf : Settings → ℕ → List ℕ → List ℕ → ℕ → Plan
-planOf s P packet hop k = stopOr Refuse (sendCheck s packet hop k) (sizedPlan P packet (addressOf (sourceOf s k)))
+planOf s P packet hop k = stopOr Refuse (sendCheck s packet hop k) (sizedPlan P packet (addressOf (locatorOf s k)))

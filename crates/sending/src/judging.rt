@@ -8,12 +8,11 @@ use refusals::Check;
 use refusals::Refusal;
 use settings::Settings;
 use settings::locators;
-use settings::locators::Found;
 ghost use mathlib.Core.Path.{_≡_};
 ghost use lib.ListN.{length};
 ghost use Rattle.header.specs.Inner.{innerOf, isPacketMalformed};
 ghost use Rattle.settings.specs.Settings.{embeddedTo};
-ghost use Rattle.sending.specs.Plan.{sourceOf, addressOf, isNoLocator, isNotIsatap, sendCheck, sizedPlan, planOf};
+ghost use Rattle.sending.specs.Plan.{isNotIsatap, sendCheck, sizedPlan, planOf};
 
 // Room and total length are the writer's to judge, which refuses by 23 and 15 itself.
 pub enum Plan {
@@ -34,34 +33,6 @@ fn packet_malformed(packet: &[u8]) -> bool
         return true;
     }
     inner::packet_malformed(packet.len(), inner::inner_header(packet))
-}
-
-// The locator of that number.
-fn source_of(settings: Settings, locator: usize) -> Found
-    ensures { λ r. ⌜ r ≡ sourceOf settings locator ⌝ }
-{
-    let all = settings.locators;
-    locators::locator_address(all, settings.locator_count, locator)
-}
-
-// The address of a locator that was found, 0 where there is none.
-fn address_of(source: Found) -> u32
-    ensures { λ r. ⌜ r ≡ addressOf source ⌝ }
-{
-    match source {
-        Found::Address(address) => address,
-        Found::Nothing => 0,
-    }
-}
-
-// Number 11.
-fn no_locator(source: Found) -> bool
-    ensures { λ r. ⌜ r ≡ isNoLocator source ⌝ }
-{
-    match source {
-        Found::Address(_) => false,
-        Found::Nothing => true,
-    }
 }
 
 // Number 12, of what the next hop embeds.
@@ -92,7 +63,7 @@ fn send_check(settings: Settings, packet: &[u8], next_hop: [u8; 16], locator: us
     if packet_malformed(packet) {
         return Check::Stop(Refusal::InnerMalformed);
     }
-    if no_locator(source_of(settings, locator)) {
+    if locators::none(settings.locator(locator)) {
         return Check::Stop(Refusal::NoLocator);
     }
     if next_hop_not_isatap(settings, next_hop) {
@@ -130,7 +101,11 @@ pub(crate) fn send_plan(
 {
     let check = send_check(settings, packet, next_hop, locator);
     match check {
-        Check::Pass => sized_plan(path_size, packet, address_of(source_of(settings, locator))),
+        Check::Pass => sized_plan(
+            path_size,
+            packet,
+            locators::address_of(settings.locator(locator)),
+        ),
         Check::Stop(refusal) => Plan::Refuse(refusal),
     }
 }

@@ -7,17 +7,23 @@ use native.Mathlib.Omega.{arith}
 use borrow.Author.Tests.{lt-ltb, ltb-true}
 use lib.ListN.{getD}
 use lib.Dec.{ltb}
-use Rattle.lists.proofs.Decides.{Decides, decides-eq, decides-or, decides-and, decides-any}
+use Rattle.lists.proofs.Decides.{Decides, decides-lack, decides-as, decides-eq, decides-or, decides-and, decides-any}
 use Rattle.address.specs.Address.{lastQuad, isBadSourceWith}
 use Rattle.address.specs.Facts.{BadSource}
 use Rattle.address.specs.declared.Embedded.the-variants as embedded
 use Rattle.address.specs.Prefixes.{rowsOf}
 use Rattle.address.proofs.Facts.{decides-forbidden, decides-bad-source, embedded-isatap, isatap-embedded, none-found}
-use Rattle.settings.specs.Locators.{noLocator, isAt, isLocator, locatorFound}
-use Rattle.settings.specs.Settings.{locatorsOf, forbiddenTo, isOurs, isOurLocator, isBadEnd, embeddedTo}
+use Rattle.settings.specs.Locators.{noLocator, isAt, isLocator, locatorFound, addressOf, isNoLocator}
+use Rattle.settings.specs.Settings.{locatorsOf, locatorOf, forbiddenTo, isOurs, isOurLocator, isBadEnd, embeddedTo}
 use Rattle.settings.specs.Facts.{ForbiddenTo, Ours, OurLocator, BadEnd, IsatapTo, LocatorAt}
+use Rattle.settings.specs.declared.locators.Found.{Found}
 use Rattle.settings.specs.declared.locators.Found.the-variants.{Address, Nothing}
 use Rattle.settings.specs.declared.Settings.{Settings}
+
+address-found : (f : Found) → isNoLocator f ≡ false → f ≡ Address (addressOf f)
+unfolding isNoLocator
+address-found (Address a) e = refl
+address-found Nothing e = cc
 
 module _ (s : Settings) where
   pub decides-forbidden-to : (a : ℕ) → Decides (forbiddenTo s a) (ForbiddenTo s a)
@@ -57,14 +63,27 @@ module _ (s : Settings) where
 
   -- a locator is found exactly if there is one
   module _ (number : ℕ) where
-    pub found-locator : (a : ℕ) → locatorFound (s .locators) (s .«locator_count») number ≡ Address a → LocatorAt s number a
-    unfolding locatorFound
+    pub found-locator : (a : ℕ) → locatorOf s number ≡ Address a → LocatorAt s number a
+    unfolding locatorOf locatorFound
     found-locator a h = go (ltb number (min (s .«locator_count») 8)) refl h
       where
         go : (t : Bool) → ltb number (min (s .«locator_count») 8) ≡ t → cond t (Address (getD (s .locators) number noLocator .address)) Nothing ≡ Address a → LocatorAt s number a
         go true e h = let l = ltb-true number (min (s .«locator_count») 8) e in (omega arith, omega arith, cc)
         go false e h = let z : _≡_ {A = ℕ} 0 1 = cc in absurd (omega arith)
 
-    pub locator-found : (a : ℕ) → LocatorAt s number a → locatorFound (s .locators) (s .«locator_count») number ≡ Address a
-    unfolding locatorFound
+    pub locator-found : (a : ℕ) → LocatorAt s number a → locatorOf s number ≡ Address a
+    unfolding locatorOf locatorFound
     locator-found a f = rw (lt-ltb number (min (s .«locator_count») 8) (omega arith), f .2)
+
+    -- where a locator is found, it has the address
+    pub locator-there : isNoLocator (locatorOf s number) ≡ false → LocatorAt s number (addressOf (locatorOf s number))
+    locator-there e = found-locator (addressOf (locatorOf s number)) (address-found (locatorOf s number) e)
+
+    locator-passes : (a : ℕ) → LocatorAt s number a → isNoLocator (locatorOf s number) ≡ false
+    unfolding isNoLocator
+    locator-passes a f = rw (locator-found a f)
+
+    pub decides-no-locator : Decides (isNoLocator (locatorOf s number)) ((a : ℕ) → LocatorAt s number a → ⊥)
+    decides-no-locator =
+        let lacks = decides-lack {F = (a : ℕ) × LocatorAt s number a} (isNoLocator (locatorOf s number)) (λ e. (addressOf (locatorOf s number), locator-there e)) (λ f. locator-passes (f .0) (f .1)) in
+        decides-as _ lacks (λ n a l. n (a, l)) (λ n f. n (f .0) (f .1))

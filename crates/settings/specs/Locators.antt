@@ -1,6 +1,6 @@
 -- Locators (R2).
 use Prim.Native.Nat.{ℕ, min}
-use mathlib.Core.Bool.{Bool, cond, _&&_}
+use mathlib.Core.Bool.{Bool, true, false, cond, _&&_}
 use mathlib.Core.List.{List}
 use lib.ListN.{getD}
 use lib.Dec.{eqb, ltb}
@@ -27,3 +27,13 @@ sameLocator l = isLocator (l .address) (l .interface)
 -- the address of a locator by its number, counted from 0, of the first `count` of eight
 unfoldable pub locatorFound : List Locator → ℕ → ℕ → Found
 locatorFound ls count number = cond (ltb number (min count 8)) (Address (getD ls number noLocator .address)) Nothing
+
+-- the address of a locator that was found; 0 where there is none, and then 11 is given
+abbrev pub addressOf : Found → ℕ
+addressOf (Address a) = a
+addressOf Nothing = 0
+
+-- 11: no locator of that number
+unfoldable pub isNoLocator : Found → Bool
+isNoLocator (Address a) = false
+isNoLocator Nothing = true

@@ -9,8 +9,9 @@ use Rattle.address.specs.Address.{isForbidden, embeddedIn, linkLocalOf, isMulti
 use Rattle.address.specs.Prefixes.{rowsOf}
 use Rattle.address.specs.declared.Embedded.{Embedded}
 use Rattle.routers.specs.Routers.{areDistinct}
-use Rattle.settings.specs.Locators.{noLocator, isAt, isLocator, sameLocator}
+use Rattle.settings.specs.Locators.{noLocator, isAt, isLocator, sameLocator, locatorFound}
 use Rattle.settings.specs.declared.locators.Locator.{Locator}
+use Rattle.settings.specs.declared.locators.Found.{Found}
 use Rattle.settings.specs.declared.Settings.{Settings}
 
 -- the defaults: L 1,500, TTL 64, interval 120, identification 1, reporting address the link-local address of locator 0
@@ -32,6 +33,10 @@ defaultsFor locators locatorCount prefixes prefixCount routers routerCount = rec
 -- the locators that count
 abbrev pub locatorsOf : Settings → List Locator
 locatorsOf s = take (s .«locator_count») (s .locators)
+
+-- the locator of number k
+unfoldable pub locatorOf : Settings → ℕ → Found
+locatorOf s k = locatorFound (s .locators) (s .«locator_count») k
 
 -- the addresses that are forbidden under these settings
 unfoldable pub forbiddenTo : Settings → ℕ → Bool

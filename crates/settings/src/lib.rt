@@ -1,11 +1,12 @@
 // The settings of a tunnel end, their defaults and their rules.
 pub mod locators;
 
+use locators::Found;
 use locators::Locator;
 ghost use mathlib.Core.Path.{_≡_};
 ghost use lib.ListN.{take};
 ghost use Rattle.lists.specs.Any.{anyOf};
-ghost use Rattle.settings.specs.Settings.{defaultsFor, forbiddenTo, isOurs, isOurLocator, isBadEnd, areLocatorsRight, areNumbersRight, areRoutersRight, isAccepted, isForbiddenLocator};
+ghost use Rattle.settings.specs.Settings.{defaultsFor, locatorOf, forbiddenTo, isOurs, isOurLocator, isBadEnd, areLocatorsRight, areNumbersRight, areRoutersRight, isAccepted, isForbiddenLocator};
 
 // Laid out as in C, as all that a node holds is.
 #[repr(C)]
@@ -62,6 +63,14 @@ impl Settings {
             identification: Settings::IDENTIFICATION,
             reporting,
         }
+    }
+
+    // The locator of that number.
+    pub fn locator(self, number: usize) -> Found
+        ensures { λ r. ⌜ r ≡ locatorOf self number ⌝ }
+    {
+        let all = self.locators;
+        locators::locator_address(all, self.locator_count, number)
     }
 
     // Whether no locator or router of these settings, no outer source and no tunnel end may have the address.

@@ -2,7 +2,7 @@
 ghost use mathlib.Core.Path.{_≡_};
 ghost use lib.ListN.{take, drop};
 ghost use Rattle.lists.specs.Any.{anyOf, twice};
-ghost use Rattle.settings.specs.Locators.{isAt, isLocator, sameLocator, locatorFound};
+ghost use Rattle.settings.specs.Locators.{isAt, isLocator, sameLocator, locatorFound, addressOf, isNoLocator};
 
 #[repr(C)]
 pub struct Locator {
@@ -25,6 +25,26 @@ pub fn locator_address(all: [Locator; 8], count: usize, number: usize) -> Found
         Found::Address(l.address)
     } else {
         Found::Nothing
+    }
+}
+
+// The address of a locator that was found, 0 where there is none.
+pub fn address_of(found: Found) -> u32
+    ensures { λ r. ⌜ r ≡ addressOf found ⌝ }
+{
+    match found {
+        Found::Address(address) => address,
+        Found::Nothing => 0,
+    }
+}
+
+// Number 11.
+pub fn none(found: Found) -> bool
+    ensures { λ r. ⌜ r ≡ isNoLocator found ⌝ }
+{
+    match found {
+        Found::Address(_) => false,
+        Found::Nothing => true,
     }
 }
 

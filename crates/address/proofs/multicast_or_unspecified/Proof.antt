@@ -1,4 +1,4 @@
--- `address::multicast_or_unspecified` meets its contract: each call gives its part of the test. Assumes nothing.
+-- `address::multicast_or_unspecified` meets its contract: the call gives its part of the test. Assumes nothing.
 use borrow.Author.Needs.{needs}
 use native.Mathlib.Omega.{arith}
 use Rattle.address.specs.Address.{isMulticastOrUnspecified}
@@ -7,9 +7,9 @@ use Rattle.address.proofs.multicast_or_unspecified.Tie as tie
 
 returns : tie.Need-returns
 unfolding isMulticastOrUnspecified
-returns c = rw (c .last-quad .ensures, c .before .zero-96 .ensures)
+returns c = rw (c .unspecified .ensures)
 
 pub multicast-or-unspecified-spec : {M : Type 1} → statement M
 multicast-or-unspecified-spec =
     tie.close
-    (tie.spec (omega arith) (search needs) (search needs) returns)
+    (tie.spec (omega arith) (search needs) returns)

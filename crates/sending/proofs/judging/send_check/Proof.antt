@@ -10,19 +10,19 @@ returns c = simp (← c .before .packet-malformed .ensures, c .if1 .taken)
 
 returns-2 : tie.Need-returns-2
 unfolding sendCheck
-returns-2 c = let p = c .before .before .before in simp (← p .before .packet-malformed .ensures, p .if1 .left, ← c .before .before .source-of .ensures, ← c .before .no-locator .ensures, c .if2 .taken)
+returns-2 c = let p = c .before .before .before in simp (← p .before .packet-malformed .ensures, p .if1 .left, ← c .before .before .locator .ensures, ← c .before .none .ensures, c .if2 .taken)
 
 returns-3 : tie.Need-returns-3
 unfolding sendCheck
-returns-3 c = let l = c .before .before in let p = l .before .before .before in simp (← p .before .packet-malformed .ensures, p .if1 .left, ← l .before .before .source-of .ensures, ← l .before .no-locator .ensures, l .if2 .left, ← c .before .next-hop-not-isatap .ensures, c .if3 .taken)
+returns-3 c = let l = c .before .before in let p = l .before .before .before in simp (← p .before .packet-malformed .ensures, p .if1 .left, ← l .before .before .locator .ensures, ← l .before .none .ensures, l .if2 .left, ← c .before .next-hop-not-isatap .ensures, c .if3 .taken)
 
 returns-4 : tie.Need-returns-4
 unfolding sendCheck
-returns-4 c = let h = c .before .before .before in let l = h .before .before in let p = l .before .before .before in simp (← p .before .packet-malformed .ensures, p .if1 .left, ← l .before .before .source-of .ensures, ← l .before .no-locator .ensures, l .if2 .left, ← h .before .next-hop-not-isatap .ensures, h .if3 .left, ← c .before .before .last-quad .ensures, ← c .before .bad-end .ensures, c .if4 .taken)
+returns-4 c = let h = c .before .before .before in let l = h .before .before in let p = l .before .before .before in simp (← p .before .packet-malformed .ensures, p .if1 .left, ← l .before .before .locator .ensures, ← l .before .none .ensures, l .if2 .left, ← h .before .next-hop-not-isatap .ensures, h .if3 .left, ← c .before .before .last-quad .ensures, ← c .before .bad-end .ensures, c .if4 .taken)
 
 returns-5 : tie.Need-returns-5
 unfolding sendCheck
-returns-5 c = let h = c .before .before .before in let l = h .before .before in let p = l .before .before .before in simp (← p .before .packet-malformed .ensures, p .if1 .left, ← l .before .before .source-of .ensures, ← l .before .no-locator .ensures, l .if2 .left, ← h .before .next-hop-not-isatap .ensures, h .if3 .left, ← c .before .before .last-quad .ensures, ← c .before .bad-end .ensures, c .if4 .left)
+returns-5 c = let h = c .before .before .before in let l = h .before .before in let p = l .before .before .before in simp (← p .before .packet-malformed .ensures, p .if1 .left, ← l .before .before .locator .ensures, ← l .before .none .ensures, l .if2 .left, ← h .before .next-hop-not-isatap .ensures, h .if3 .left, ← c .before .before .last-quad .ensures, ← c .before .bad-end .ensures, c .if4 .left)
 
 pub send-check-spec : {M : Type 1} → statement M
 send-check-spec =

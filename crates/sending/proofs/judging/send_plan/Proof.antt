@@ -7,7 +7,7 @@ use Rattle.sending.proofs.judging.send_plan.Tie as tie
 
 returns : tie.Need-returns
 unfolding planOf
-returns c = rw (← c .before .before .before .before .before .send-check .ensures, c .before .before .before .enum-told .given .1) (rw (c .before .address-of .ensures, c .before .before .source-of .ensures) at (c .sized-plan .ensures))
+returns c = rw (← c .before .before .before .before .before .send-check .ensures, c .before .before .before .enum-told .given .1) (rw (c .before .address-of .ensures, c .before .before .locator .ensures) at (c .sized-plan .ensures))
 
 returns-2 : tie.Need-returns-2
 unfolding planOf
