@@ -1,4 +1,5 @@
 pub mod SealedLaws
+pub mod EnclosedLaws
 pub mod WriterLaws
 pub mod Right
 pub mod Examples

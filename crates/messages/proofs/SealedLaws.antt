@@ -70,16 +70,9 @@ sealed-packet hop from to kind code body lf lt =
     (rw l at (drop-append-add h m 4))
 
 -- the 32-bit number of a 16-bit one
-be32-small : (x : ℕ) (s : List ℕ) → x ≤ 65535 → 0 ∷ (0 ∷ be16 x s) ≡ be32 x s
+pub be32-small : (x : ℕ) (s : List ℕ) → x ≤ 65535 → 0 ∷ (0 ∷ be16 x s) ≡ be32 x s
 be32-small x s h =
     let e₁ : x / 16777216 ≡ 0 = omega arith in
     let e₂ : x / 65536 % 256 ≡ 0 = omega arith in
     let e₃ : x / 256 % 256 ≡ x / 256 = omega arith in
     rw (e₁, e₂, e₃)
-
--- sealing a Packet Too Big that quotes q gives the packet that the specification asks for
-pub sealed-too-big : (from to : List ℕ) (size : ℕ) (q : List ℕ) → length from ≡ 16 → length to ≡ 16 → size ≤ 65535
-    → sealed (ipv6Header (8 + length q) 64 from to ++ (2 ∷ (0 ∷ (0 ∷ (0 ∷ (0 ∷ (0 ∷ be16 size q))))))) ≡ icmpPacket 64 from to 2 0 (be32 size q)
-sealed-too-big from to size q lf lt h =
-    let e : 8 + length q ≡ 4 + length (be32 size q) = omega arith in
-    rw (e, be32-small size q h) (sealed-packet 64 from to 2 0 (be32 size q) lf lt)

@@ -43,7 +43,8 @@ solicitation-pass room h = simp (le-ltb _ _ h)
 pub length-ipv6Header : (n hop : ℕ) (from to : List ℕ) → length from ≡ 16 → length to ≡ 16 → length (ipv6Header n hop from to) ≡ 40
 length-ipv6Header n hop from to lf lt = rw length-append (omega arith)
 
-bytes-taken : (n i : ℕ) (d : List ℕ) → i + n ≤ length d → bytesFrom n i d ≡ take n (drop i d)
+-- bytes that are all there, read one by one
+pub bytes-taken : (n i : ℕ) (d : List ℕ) → i + n ≤ length d → bytesFrom n i d ≡ take n (drop i d)
 bytes-taken zero i d h = refl
 bytes-taken (suc n) i d h = rw (drop-cons d i 0 (omega arith)) (ap (λ (r : List ℕ). getD d i 0 ∷ r) (bytes-taken n (suc i) d (omega arith)))
 

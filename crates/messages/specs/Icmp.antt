@@ -1,8 +1,10 @@
 -- The ICMPv6 messages that we write: Packet Too Big (R8.1; RFC 4443, 3.2) and the router solicitation (R14.1; RFC 4861, 4.1).
 use Prim.Native.Nat.{ℕ, _+_, min}
 use mathlib.Core.List.{List, [], _∷_, _++_}
-use lib.ListN.{length, take}
-use lib.Dec.{ltb}
+use mathlib.Core.Bool.{cond, _&&_}
+use lib.ListN.{length, take, drop}
+use lib.Dec.{ltb, leb}
+use Rattle.lent.specs.Written.{written}
 use Rattle.checksum.specs.Sum.{onesSum, onesComplement}
 use Rattle.refusals.specs.Refusals.{firstOf}
 use Rattle.refusals.specs.declared.Refusal.the-variants.{InnerMalformed, OutputShort}
@@ -11,6 +13,18 @@ use Rattle.header.specs.Numbers.{innerHeader, icmpv6}
 use Rattle.header.specs.Fields.{addressAt}
 use Rattle.header.specs.Wrap.{be16, be32, writerAnswer, writerOutput}
 use Rattle.header.specs.declared.wrap.Written.{Written}
+
+-- RFC 4861, 4.1: the type of a router solicitation
+abbrev pub solicitationType : ℕ
+solicitationType = 133
+
+-- RFC 4861, 4.2: the type of a router advertisement
+abbrev pub advertisementType : ℕ
+advertisementType = 134
+
+-- RFC 4861, 6.1: a neighbour discovery message has hop limit 255
+abbrev pub hopLimit : ℕ
+hopLimit = 255
 
 -- the headers of a message: IPv6's, and the first 8 bytes of ICMPv6
 abbrev pub messageHeaders : ℕ
@@ -40,6 +54,17 @@ icmpMessage addresses kind code body = icmpWith kind code (onesComplement (icmpS
 unfoldable pub icmpPacket : ℕ → List ℕ → List ℕ → ℕ → ℕ → List ℕ → List ℕ
 icmpPacket hop from to kind code body = ipv6Header (4 + length body) hop from to ++ icmpMessage (from ++ to) kind code body
 
+-- the longest IPv6 packet: a payload length has 16 bits
+abbrev pub longestPacket : ℕ
+longestPacket = innerHeader + 65535
+
+-- an output that already has, from byte 48 up to n, what stands behind a message's headers, and gets those headers before it: the packet of
+-- n bytes, of that type and code 0, with `four` behind its checksum; untouched where such a packet cannot be or does not fit
+unfoldable pub enclosed : ℕ → List ℕ → List ℕ → ℕ → List ℕ → ℕ → List ℕ → List ℕ
+enclosed hop from to kind four n out =
+    cond (leb messageHeaders n && leb n longestPacket && leb n (length out))
+    (written (icmpPacket hop from to kind 0 (four ++ drop messageHeaders (take n out))) out) out
+
 -- the first min(n, 1,232) bytes of the packet (R8.1) are quoted
 abbrev pub mostQuoted : ℕ
 mostQuoted = 1232
@@ -67,7 +92,7 @@ tooBigOutput reporting size packet out =
 
 -- a solicitation: hop limit 255, type 133, code 0, reserved 0, no options
 unfoldable pub solicitationOf : List ℕ → List ℕ → List ℕ
-solicitationOf from to = icmpPacket 255 from to 133 0 (0 ∷ (0 ∷ (0 ∷ (0 ∷ []))))
+solicitationOf from to = icmpPacket hopLimit from to solicitationType 0 (0 ∷ (0 ∷ (0 ∷ (0 ∷ []))))
 
 -- a solicitation of 48 bytes (R14.1): nothing stands behind its headers
 abbrev pub solicitationLength : ℕ

@@ -1,4 +1,4 @@
-// The ICMPv6 messages that we write: Packet Too Big and the router solicitation.
+// The ICMPv6 messages that we write: Packet Too Big and the router solicitation; and the headers of any.
 use header::ICMPV6;
 use header::INNER_HEADER;
 use header::fields;
@@ -6,16 +6,28 @@ use header::wrap::Written;
 use lent::write_at;
 use refusals::Refusal;
 ghost use mathlib.Core.Path.{_≡_};
-ghost use mathlib.Core.List.{_++_};
-ghost use Prim.Native.Nat.{_+_, _≤_};
+ghost use mathlib.Core.Bool.{_&&_};
+ghost use Prim.Native.Nat.{_≤_};
 ghost use lib.ListN.{length, take};
+ghost use lib.Dec.{leb};
 ghost use Rattle.header.specs.Numbers.{innerHeader};
 ghost use Rattle.lent.specs.Written.{written};
-ghost use Rattle.messages.specs.Icmp.{messageHeaders, mostQuoted, ipv6Header, tooBigAnswer, tooBigOutput, solicitationAnswer, solicitationOutput};
+ghost use Rattle.messages.specs.Icmp.{messageHeaders, longestPacket, ipv6Header, enclosed, tooBigAnswer, tooBigOutput, solicitationAnswer, solicitationOutput};
 ghost use Rattle.messages.specs.Sealed.{sealed};
+
+// The types of the router solicitation and the router advertisement (RFC 4861, 4.1 and 4.2).
+pub const ROUTER_SOLICITATION: u8 = 133;
+
+pub const ROUTER_ADVERTISEMENT: u8 = 134;
+
+// The hop limit of a neighbour discovery message, which no router has passed on (RFC 4861, 6.1).
+pub const HOP_LIMIT: u8 = 255;
 
 // The headers of a message: IPv6's, and the first 8 bytes of ICMPv6.
 pub const HEADERS: usize = INNER_HEADER + 8;
+
+// The longest IPv6 packet: a payload length has 16 bits.
+const LONGEST: usize = INNER_HEADER + 65535;
 
 // The most that a Packet Too Big quotes: the message is then 1,280 bytes long.
 pub const QUOTE: usize = 1232;
@@ -35,9 +47,10 @@ pub fn too_big(reporting: [u8; 16], size: u16, packet: &[u8], out: &mut [u8]) ->
     if out.len() < HEADERS + quoted {
         return Written::Refused(Refusal::OutputShort);
     }
-    let to = &packet[8..24];
-    let front = [2, 0, 0, 0, 0, 0, fields::high(size), fields::low(size)];
-    write_message(64, reporting, to, front, &packet[..quoted], out);
+    let to = fields::address(packet, 8);
+    write_at(&packet[..quoted], out, HEADERS);
+    let four = [0, 0, fields::high(size), fields::low(size)];
+    enclose(64, reporting, to, 2, four, HEADERS + quoted, out);
     Written::Length(HEADERS + quoted)
 }
 
@@ -49,34 +62,56 @@ pub fn solicitation(from: [u8; 16], to: [u8; 16], out: &mut [u8]) -> Written
     if out.len() < SOLICITATION {
         return Written::Refused(Refusal::OutputShort);
     }
-    let front = [133u8, 0, 0, 0, 0, 0, 0, 0];
-    write_message(255, from, &to, front, &front[..0], out);
+    enclose(
+        HOP_LIMIT,
+        from,
+        to,
+        ROUTER_SOLICITATION,
+        [0; 4],
+        SOLICITATION,
+        out,
+    );
     Written::Length(SOLICITATION)
 }
 
-// Writes an ICMPv6 packet whose message is front, with 0 for the checksum, and then rest; the checksum is put in.
-fn write_message(hop: u8, from: [u8; 16], to: &[u8], front: [u8; 8], rest: &[u8], out: &mut [u8])
-    requires { ⌜ length (now to) ≡ 16 ⌝ }
-    requires { ⌜ length (now rest) ≤ mostQuoted ⌝ }
-    requires { ⌜ messageHeaders + length (now rest) ≤ length (now out) ⌝ }
-    ensures { λ _. ⌜ now (out .exit) ≡ written (sealed (ipv6Header (8 + length (now (rest .entry))) hop from (now (to .entry)) ++ (front ++ now (rest .entry)))) (now (out .entry)) ⌝ }
+// Puts the headers of an ICMPv6 packet of n bytes before what already stands in out from byte 48 on: its type, code 0, and four bytes
+// behind the checksum, which is put in.
+pub fn enclose(
+    hop: u8,
+    from: [u8; 16],
+    to: [u8; 16],
+    kind: u8,
+    four: [u8; 4],
+    n: usize,
+    out: &mut [u8],
+)
+    ensures { λ _. ⌜ now (out .exit) ≡ enclosed hop from to kind four n (now (out .entry)) ⌝ }
 {
-    write_ipv6_header((8 + rest.len()) as u16, hop, from, to, out);
+    if !packet_fits(n, out.len()) {
+        return;
+    }
+    write_ipv6_header((n - INNER_HEADER) as u16, hop, from, to, out);
+    let front = [kind, 0, 0, 0, four[0], four[1], four[2], four[3]];
     write_at(&front, out, INNER_HEADER);
-    write_at(rest, out, HEADERS);
-    seal(HEADERS + rest.len(), out);
+    seal(n, out);
+}
+
+// Whether an ICMPv6 packet of n bytes can be, and fits into that room.
+fn packet_fits(n: usize, room: usize) -> bool
+    ensures { λ r. ⌜ r ≡ (leb messageHeaders n && leb n longestPacket && leb n room) ⌝ }
+{
+    (HEADERS <= n) & (n <= LONGEST) & (n <= room)
 }
 
 // Writes the IPv6 header of n bytes of ICMPv6.
-fn write_ipv6_header(n: u16, hop: u8, from: [u8; 16], to: &[u8], out: &mut [u8])
-    requires { ⌜ length (now to) ≡ 16 ⌝ }
+fn write_ipv6_header(n: u16, hop: u8, from: [u8; 16], to: [u8; 16], out: &mut [u8])
     requires { ⌜ innerHeader ≤ length (now out) ⌝ }
-    ensures { λ _. ⌜ now (out .exit) ≡ written (ipv6Header n hop from (now (to .entry))) (now (out .entry)) ⌝ }
+    ensures { λ _. ⌜ now (out .exit) ≡ written (ipv6Header n hop from to) (now (out .entry)) ⌝ }
 {
     let front = [0x60, 0, 0, 0, (n / 256) as u8, (n % 256) as u8, ICMPV6, hop];
     write_at(&front, out, 0);
     write_at(&from, out, 8);
-    write_at(to, out, 24);
+    write_at(&to, out, 24);
 }
 
 // Puts the checksum into the ICMPv6 packet of n bytes at the front of out, where it is 0: one pass from the source address
