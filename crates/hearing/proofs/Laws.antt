@@ -23,11 +23,11 @@ use Rattle.header.specs.Inner.{innerOf, isInnerMalformed}
 use Rattle.header.specs.Whole.{WholeInner}
 use Rattle.header.specs.declared.inner.Inner.{Inner}
 use Rattle.header.proofs.InnerLaws.{inner-whole, whole-inner}
-use Rattle.lifetimes.specs.Options.{optionsOf}
-use Rattle.lifetimes.specs.Lifetimes.{withoutLifetime, delayOf, dueAfter}
-use Rattle.lifetimes.specs.Facts.{DueBy}
-use Rattle.lifetimes.proofs.PutOff.{interval-delay}
-use Rattle.lifetimes.proofs.Facts.{options-are-read, due-by}
+use Rattle.options.specs.Options.{optionsOf}
+use Rattle.options.specs.Lifetimes.{withoutLifetime, delayOf, dueAfter}
+use Rattle.options.specs.Facts.{DueBy}
+use Rattle.options.proofs.PutOff.{interval-delay}
+use Rattle.options.proofs.Facts.{options-are-read, due-by}
 use Rattle.routers.specs.Routers.{live, listed, rescheduledOf}
 use Rattle.routers.specs.Facts.{Listed, OnlyDue}
 use Rattle.routers.specs.declared.RouterList.{RouterList}
@@ -37,8 +37,9 @@ use Rattle.settings.specs.Settings.{embeddedTo}
 use Rattle.settings.specs.declared.Settings.{Settings}
 use Rattle.settings.specs.Facts.{IsatapTo}
 use Rattle.settings.proofs.Facts.{embedded-to, isatap-to}
+use Rattle.messages.specs.Icmp.{advertisementType}
 use Rattle.hearing.specs.Message.{messageOf, isValidMessage}
-use Rattle.hearing.specs.Heard.{advertisementType, optionsStart, optionsIn, isValidAdvertisement, refusedBy, heardOfRouter, heardFrom, heardRows, heardOf}
+use Rattle.hearing.specs.Heard.{optionsStart, optionsIn, isValidAdvertisement, refusedBy, heardOfRouter, heardFrom, heardRows, heardOf}
 use Rattle.hearing.specs.Facts.{fieldsOf, IsAdvertisement, ValidAdvertisement, routerLifetime, HeardExactly}
 use Rattle.hearing.proofs.MessageLaws.{message-rules, rules-message}
 use Rattle.hearing.specs.declared.HeardAnswer.the-variants.{Router, Refused}

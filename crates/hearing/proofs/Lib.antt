@@ -1,4 +1,6 @@
 pub mod MessageLaws
 pub mod Stages
 pub mod Laws
+pub mod SolicitationLaws
 mod Examples
+pub mod ReadBack

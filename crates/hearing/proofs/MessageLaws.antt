@@ -9,8 +9,8 @@ use Rattle.lists.proofs.Decides.{Decides, decides-eq, decides-le, decides-and}
 use Rattle.checksum.specs.Sum.{onesSum}
 use Rattle.header.specs.declared.inner.Inner.{Inner}
 use Rattle.messages.specs.Icmp.{pseudoTail, icmpSum}
-use Rattle.lifetimes.specs.Options.{optionsOf, areOptionsWhole}
-use Rattle.lifetimes.proofs.Facts.{whole-options, options-whole}
+use Rattle.options.specs.Options.{optionsOf, areOptionsWhole}
+use Rattle.options.proofs.Facts.{whole-options, options-whole}
 use Rattle.hearing.specs.Message.{addressesOf, messageOf, isSumRight, hasFields, isValidMessage}
 use Rattle.hearing.specs.Facts.{ValidMessage}
 

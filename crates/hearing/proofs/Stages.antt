@@ -4,7 +4,7 @@ use mathlib.Core.Path.{_≡_, refl, subst}
 use mathlib.Core.Bool.{Bool, true, false, cond, not, _&&_}
 use mathlib.Core.List.{List}
 use native.Mathlib.Omega.{arith}
-use lib.ListN.{length, take, drop}
+use lib.ListN.{length, take, drop, length-take}
 use Rattle.checksum.proofs.Bytes.{Bytes, bytes-at}
 use Rattle.address.specs.Address.{isLinkLocal}
 use Rattle.refusals.specs.Refusals.{stopOr}
@@ -13,18 +13,28 @@ use Rattle.refusals.specs.declared.Check.the-variants.{Pass, Stop}
 use Rattle.header.specs.Fields.{wordAt}
 use Rattle.header.specs.Inner.{innerOf, isInnerMalformed}
 use Rattle.header.specs.declared.inner.Inner.{Inner}
-use Rattle.lifetimes.specs.Options.{areOptionsWhole}
-use Rattle.lifetimes.specs.declared.Options.{Options}
+use Rattle.header.proofs.InnerLaws.{inner-whole}
+use Rattle.options.specs.Options.{areOptionsWhole}
+use Rattle.options.specs.declared.Options.{Options}
 use Rattle.routers.specs.declared.RouterList.{RouterList}
 use Rattle.settings.specs.declared.Settings.{Settings}
+use Rattle.messages.specs.Icmp.{advertisementType}
 use Rattle.hearing.specs.Message.{messageOf, isSumRight, hasFields, isValidMessage}
-use Rattle.hearing.specs.Heard.{advertisementType, optionsStart, isAdvertisement, optionsIn, isValidAdvertisement, refusedBy, heardFrom, heardMessage, heardOf}
+use Rattle.hearing.specs.Heard.{optionsStart, isAdvertisement, optionsIn, isValidAdvertisement, refusedBy, heardFrom, heardMessage, heardOf}
 use Rattle.hearing.specs.declared.Heard.{Heard}
 
 -- a packet of bytes has at least 40 bytes by its header, and at most 40 + 65,535
-pub length-bounds : (p : List ℕ) → Bytes p → {i : Inner} → i ≡ innerOf p → (40 ≤ i .length) × (i .length ≤ 65575)
+length-bounds : (p : List ℕ) → Bytes p → {i : Inner} → i ≡ innerOf p → (40 ≤ i .length) × (i .length ≤ 65575)
 unfolding innerOf wordAt
 length-bounds p b e = rw e (omega arith, omega (arith, bytes-at p 4 b, bytes-at p 5 b))
+
+-- the part of a whole packet that its header tells is as long as the header says
+pub taken-length : (p : List ℕ) (i : Inner) → isInnerMalformed (length p) i ≡ false → i .length ≡ length (take (i .length) p)
+taken-length p i right = let fits = inner-whole (length p) i right in rw length-take (omega arith)
+
+pub taken-bounds : (p : List ℕ) → Bytes p → {i : Inner} → i ≡ innerOf p → isInnerMalformed (length p) i ≡ false
+    → (40 ≤ length (take (i .length) p)) × (length (take (i .length) p) ≤ 65575)
+taken-bounds p b {i} e right = rw (← taken-length p i right) (length-bounds p b e)
 
 -- a valid advertisement is one whose options are whole
 whole-last : (i : Inner) (p : List ℕ) → isValidAdvertisement i p ≡ (isAdvertisement i p && optionsIn p .whole)

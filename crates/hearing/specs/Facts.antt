@@ -1,16 +1,18 @@
--- The rules of a neighbour discovery message and of an advertisement, and what comes of an advertisement that keeps them, in plain facts.
+-- The rules of a neighbour discovery message, of a solicitation and of an advertisement, and what comes of an advertisement that keeps them,
+-- in plain facts.
 use Prim.Native.Nat.{ℕ, _*_, _+_, _/_, _≤_}
 use mathlib.Core.Path.{_≡_}
 use mathlib.Core.List.{List, _∷_, _++_}
 use lib.ListN.{length, take, drop, getD}
+use Rattle.lists.specs.Any.{Some}
 use Rattle.checksum.specs.Sum.{onesSum}
-use Rattle.address.specs.Facts.{LinkLocal}
+use Rattle.address.specs.Facts.{LinkLocal, Unspecified}
 use Rattle.header.specs.Fields.{wordAt, addressAt}
 use Rattle.header.specs.Whole.{WholeInner}
 use Rattle.header.specs.Wrap.{be32}
 use Rattle.header.specs.declared.inner.Inner.{Inner}
 use Rattle.refusals.specs.declared.Refusal.the-variants.{InnerMalformed, AdvertisementInvalid, AdvertiserNotListed}
-use Rattle.lifetimes.specs.Facts.{WholeOptions, DueBy}
+use Rattle.options.specs.Facts.{WholeOptions, SourceLinkLayerOption, DueBy}
 use Rattle.routers.specs.Routers.{live}
 use Rattle.routers.specs.Facts.{Listed, OnlyDue}
 use Rattle.routers.specs.declared.RouterList.{RouterList}
@@ -54,6 +56,20 @@ pub record IsAdvertisement (i : Inner) (p : List ℕ) (os : List (List ℕ)) : T
   pub message : ValidMessage 134 16 i p os
   -- RFC 4861, 6.1.2: "IP Source Address is a link-local address"
   pub linkLocal : LinkLocal (i .source)
+
+-- a valid router solicitation in the packet p, whose header has the fields i: os are its options
+pub record IsSolicitation (i : Inner) (p : List ℕ) (os : List (List ℕ)) : Type 0 where
+  -- RFC 4861, 6.1.1: type 133, ICMPv6 length at least 8
+  pub message : ValidMessage 133 8 i p os
+  -- RFC 4861, 6.1.1: "If the IP source address is the unspecified address, there is no source link-layer address option in the message"
+  pub noLinkLayer : Unspecified (i .source) → Some SourceLinkLayerOption os → ⊥
+
+-- the 40 + payload length bytes at the front of p are a valid router solicitation; bytes behind them are passed over
+pub record ValidSolicitation (p : List ℕ) : Type 0 where
+  -- RFC 2460, 3: a whole IPv6 packet
+  pub whole : WholeInner (length p) (fieldsOf p)
+  pub options : List (List ℕ)
+  pub valid : IsSolicitation (fieldsOf p) (take (fieldsOf p .length) p) options
 
 -- an advertisement of a listed router in the inner packet p, whose header has the fields i, of which q is what i's length leaves
 pub record Advertises (s : Settings) (routers : RouterList) (p : List ℕ) (i : Inner) (q : List ℕ) (router : ℕ) : Type 0 where

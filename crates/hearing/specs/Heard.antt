@@ -13,9 +13,10 @@ use Rattle.refusals.specs.declared.Refusal.the-variants.{InnerMalformed, Advert
 use Rattle.header.specs.Fields.{wordAt}
 use Rattle.header.specs.Inner.{innerOf, isInnerMalformed}
 use Rattle.header.specs.declared.inner.Inner.{Inner}
-use Rattle.lifetimes.specs.Lifetimes.{optionsReadOf, dueAfter}
-use Rattle.lifetimes.specs.declared.Smallest.{Smallest}
-use Rattle.lifetimes.specs.declared.Options.{Options}
+use Rattle.messages.specs.Icmp.{advertisementType}
+use Rattle.options.specs.Lifetimes.{optionsReadOf, dueAfter}
+use Rattle.options.specs.declared.Smallest.{Smallest}
+use Rattle.options.specs.declared.Options.{Options}
 use Rattle.routers.specs.Routers.{live, listed, rescheduledOf}
 use Rattle.routers.specs.declared.RouterList.{RouterList}
 use Rattle.settings.specs.Settings.{embeddedTo}
@@ -24,10 +25,6 @@ use Rattle.hearing.specs.Message.{messageOf, isSumRight, hasFields, isVa
 use Rattle.hearing.specs.declared.HeardAnswer.{HeardAnswer}
 use Rattle.hearing.specs.declared.HeardAnswer.the-variants.{Router, Refused}
 use Rattle.hearing.specs.declared.Heard.{Heard}
-
--- type 134 (RFC 4861, 4.2)
-abbrev pub advertisementType : ℕ
-advertisementType = 134
 
 -- ICMPv6 length at least 16: the options start there (RFC 4861, 4.2)
 abbrev pub optionsStart : ℕ

@@ -1,3 +1,4 @@
 pub mod Message
 pub mod Heard
+pub mod Solicitation
 pub mod Facts

@@ -1,4 +1,4 @@
--- A neighbour discovery message that is valid (R15.3; RFC 4861, 6.1): p is its IPv6 packet, no byte behind it, and
+-- A neighbour discovery message that is valid (R15.3, R22.4; RFC 4861, 6.1): p is its IPv6 packet, no byte behind it, and
 -- i are the fields of the packet's header.
 use Prim.Native.Nat.{ℕ}
 use mathlib.Core.Bool.{Bool, _&&_}
@@ -8,12 +8,8 @@ use lib.Dec.{eqb, leb}
 use Rattle.checksum.specs.Sum.{allOnes}
 use Rattle.header.specs.Numbers.{innerHeader, icmpv6}
 use Rattle.header.specs.declared.inner.Inner.{Inner}
-use Rattle.messages.specs.Icmp.{icmpSum}
-use Rattle.lifetimes.specs.Options.{areOptionsWhole}
-
--- hop limit 255
-abbrev pub hopLimit : ℕ
-hopLimit = 255
+use Rattle.messages.specs.Icmp.{hopLimit, icmpSum}
+use Rattle.options.specs.Options.{areOptionsWhole}
 
 -- source and destination address
 abbrev pub addressesOf : List ℕ → List ℕ

@@ -1,27 +1,25 @@
-// Router advertisements: whether one is valid and its router listed, and when that router is due again.
+// Router advertisements: whether one is valid and its router listed, and when that router is due again. Router solicitations: whether one
+// is valid.
+mod message;
+pub mod solicitation;
+
 use address::Embedded;
 use address::prefixes;
-use header::ICMPV6;
 use header::INNER_HEADER;
 use header::fields;
 use header::inner;
 use header::inner::Inner;
-use lifetimes::Smallest;
+use messages::ROUTER_ADVERTISEMENT;
+use options::Smallest;
 use refusals::Refusal;
 use routers::RouterList;
 use settings::Settings;
 ghost use mathlib.Core.Path.{_≡_};
 ghost use Prim.Native.Nat.{_≤_};
 ghost use lib.ListN.{length};
-ghost use Rattle.hearing.specs.Message.{isSumRight, hasFields};
 ghost use Rattle.hearing.specs.Heard.{isAdvertisement, refusedBy, heardFrom, heardMessage, heardOf, heardGiven};
 
-// The hop limit of a packet that no router has passed on (RFC 4861, 6.1).
-const HOP_LIMIT: u8 = 255;
-
-// The type of a router advertisement, and where its options start (RFC 4861, 4.2).
-const ADVERTISEMENT: u8 = 134;
-
+// Where the options of an advertisement start (RFC 4861, 4.2).
 const OPTIONS: usize = 16;
 
 // The advertising router, by its address, or the number.
@@ -48,27 +46,6 @@ impl HeardAnswer {
     }
 }
 
-// Whether the checksum of an ICMPv6 packet is right: one pass from the source address on, started with the message's length
-// and the next header.
-fn sum_right(p: &[u8]) -> bool
-    requires { ⌜ (40 ≤ length (now p)) × (length (now p) ≤ 65575) ⌝ }
-    ensures { λ r. ⌜ r ≡ isSumRight (now (p .entry)) ⌝ }
-{
-    checksum::right_from((p.len() - INNER_HEADER + ICMPV6 as usize) as u32, &p[8..])
-}
-
-// Whether a packet with the header i has the fields of a neighbour discovery message of that type, with options from `least` on.
-fn fields_right(kind: u8, least: usize, i: Inner, p: &[u8]) -> bool
-    ensures { λ r. ⌜ r ≡ hasFields kind least i (now (p .entry)) ⌝ }
-{
-    let message = fields::tail(p, INNER_HEADER);
-    (i.next == ICMPV6)
-        & (i.hop == HOP_LIMIT)
-        & (fields::byte(message, 0) == kind)
-        & (fields::byte(message, 1) == 0)
-        & (least <= message.len())
-}
-
 // Whether a packet with the header i is a router advertisement, its options aside. The checksum, which takes a pass over all bytes,
 // is asked last.
 fn advertisement(i: Inner, p: &[u8]) -> bool
@@ -76,8 +53,10 @@ fn advertisement(i: Inner, p: &[u8]) -> bool
     ensures { λ r. ⌜ r ≡ isAdvertisement i (now (p .entry)) ⌝ }
 {
     let source = i.source;
-    if address::link_local_prefixed(source) & fields_right(ADVERTISEMENT, OPTIONS, i, p) {
-        sum_right(p)
+    if address::link_local_prefixed(source)
+        & message::fields_right(ROUTER_ADVERTISEMENT, OPTIONS, i, p)
+    {
+        message::sum_right(p)
     } else {
         false
     }
@@ -107,7 +86,7 @@ fn hear_from(
     match found {
         Embedded::Ipv4(router) => {
             if routers.lists(router) {
-                let due = lifetimes::due_after(time, settings.interval, smallest);
+                let due = options::due_after(time, settings.interval, smallest);
                 let next = routers.rescheduled(router, due);
                 return Heard {
                     answer: HeardAnswer::Router(router),
@@ -132,7 +111,7 @@ fn hear_message(
 {
     let message = fields::tail(p, INNER_HEADER);
     let options = fields::tail(message, OPTIONS);
-    let read = lifetimes::options_read(fields::word(message, 6), options);
+    let read = options::options_read(fields::word(message, 6), options);
     let smallest = read.smallest;
     if read.whole {
         hear_from(settings, routers, time, source, smallest)

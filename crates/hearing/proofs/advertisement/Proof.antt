@@ -3,8 +3,9 @@ use native.Mathlib.Omega.{arith}
 use mathlib.Core.Path.{_≡_, sym, _∙_}
 use mathlib.Core.Bool.{_&&_}
 use Rattle.address.specs.Address.{isLinkLocal}
+use Rattle.messages.specs.Icmp.{advertisementType}
 use Rattle.hearing.specs.Message.{hasFields}
-use Rattle.hearing.specs.Heard.{advertisementType, optionsStart, isAdvertisement}
+use Rattle.hearing.specs.Heard.{optionsStart, isAdvertisement}
 use Rattle.hearing.proofs.advertisement.Statement.{statement}
 use Rattle.hearing.proofs.advertisement.Tie as tie
 

@@ -2,12 +2,11 @@
 use native.Mathlib.Omega.{arith}
 use mathlib.Core.Path.{_≡_, sym, _∙_}
 use mathlib.Core.Bool.{true, false}
-use lib.ListN.{length, take, length-take}
+use lib.ListN.{length, take}
 use Rattle.checksum.proofs.Bytes.{bytes-of}
-use Rattle.header.proofs.InnerLaws.{inner-whole}
 use Rattle.header.specs.Inner.{innerOf, isInnerMalformed}
 use Rattle.hearing.specs.Heard.{isAdvertisement, heardOf}
-use Rattle.hearing.proofs.Stages.{length-bounds, message-stage, no-message}
+use Rattle.hearing.proofs.Stages.{taken-length, taken-bounds, message-stage, no-message}
 use Rattle.hearing.proofs.hear.Statement.{statement}
 use Rattle.hearing.proofs.hear.Tie as tie
 
@@ -18,14 +17,14 @@ returns c =
     simp (← b .before .before .inner-header .ensures, ← b .before .inner-malformed .ensures, b .if1 .taken, c .refused .ensures)
 
 slice-aggregate-p : tie.Need-slice-aggregate-p
-slice-aggregate-p c = let fits = inner-whole _ _ (sym (c .before .before .inner-malformed .ensures) ∙ c .before .if1 .left) in simp length-take (omega arith)
+slice-aggregate-p c = taken-length (c .before .before .before .before .before .args .packet .now) _ (sym (c .before .before .inner-malformed .ensures) ∙ c .before .if1 .left)
 
 advertisement-requires : tie.Need-advertisement-requires
 advertisement-requires c κs =
-    let fits = inner-whole _ _ (sym (c .before .before .inner-malformed .ensures) ∙ c .before .if1 .left) in
-    let p = c .before .before .before .before .before .args .packet .now in
-    let size = length-bounds p (bytes-of p (λ i. c .before .before .before .before .shared-slice-known .given i .fits)) (c .before .before .before .inner-header .ensures) in
-    (simp length-take (omega arith), simp length-take (omega arith))
+    let m = c .before .before in
+    let p = m .before .before .before .args .packet .now in
+    taken-bounds p (bytes-of p (λ i. m .before .before .shared-slice-known .given i .fits)) (m .before .inner-header .ensures)
+    (sym (m .inner-malformed .ensures) ∙ c .before .if1 .left)
 
 returns-2 : tie.Need-returns-2
 returns-2 c =
