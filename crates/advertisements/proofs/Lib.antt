@@ -1,0 +1,11 @@
+pub mod BitLaws
+pub mod FirstBitLaws
+pub mod CutLaws
+pub mod UnitLaws
+pub mod OptionLaws
+pub mod Lists
+pub mod LengthLaws
+pub mod CheckLaws
+pub mod ReadBack
+pub mod Laws
+pub mod Examples

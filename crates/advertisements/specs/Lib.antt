@@ -1,0 +1,6 @@
+pub mod Bits
+pub mod Options
+pub mod Advertisement
+pub mod OptionFacts
+pub mod Fits
+pub mod Facts
