@@ -5,3 +5,4 @@ pub mod RouterList
 pub mod Send
 pub mod Ask
 pub mod Hear
+pub mod Advertise

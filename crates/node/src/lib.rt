@@ -1,4 +1,5 @@
 // One tunnel end: what it keeps, and the calls on it. A call takes the node and hands back the next one.
+pub mod advertise;
 pub mod ask;
 pub mod hear;
 pub mod receive;

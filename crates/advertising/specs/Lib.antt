@@ -1,0 +1,2 @@
+pub mod Advertise
+pub mod Facts

@@ -1,0 +1,26 @@
+// The call with a router solicitation: it is answered with an advertisement.
+use super::Node;
+use advertisements::Advertisement;
+use header::wrap::Written;
+ghost use mathlib.Core.Path.{_≡_};
+ghost use lib.ListN.{length};
+ghost use Rattle.node.specs.Advertise.{advertiseOf, advertiseOutput};
+
+impl Node {
+    // The answer alone: the node stays as it is.
+    pub fn advertise(
+        self,
+        packet: &[u8],
+        locator: usize,
+        advertisement: Advertisement,
+        out: &mut [u8],
+    ) -> Written
+        ensures { λ r. ⌜ r ≡ advertiseOf self (now (packet .entry)) locator advertisement (length (now (out .entry))) ⌝ }
+        ensures { λ _. ⌜ now (out .exit) ≡ advertiseOutput self (now (packet .entry)) locator advertisement (now (out .entry)) ⌝ }
+    {
+        let service = self.service;
+        let settings = service.settings;
+        let found = settings.locator(locator);
+        advertising::advertise(found, packet, advertisement, out)
+    }
+}
