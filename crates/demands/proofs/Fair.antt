@@ -11,7 +11,7 @@ use Rattle.lists.proofs.Tests.{and-left, and-right}
 use Rattle.settings.specs.Settings.{areLocatorsRight, areRoutersRight, areNumbersRight, isAccepted}
 use Rattle.settings.specs.declared.Settings.{Settings}
 use Rattle.address.specs.Address.{isMulticastOrUnspecified}
-use Rattle.lifetimes.specs.Lifetimes.{withoutLifetime}
+use Rattle.options.specs.Lifetimes.{withoutLifetime}
 use Rattle.routers.specs.Routers.{live, nextOf, rescheduled, rescheduledOf}
 use Rattle.routers.specs.declared.Router.{Router}
 use Rattle.routers.specs.declared.Next.the-variants.{Due}
@@ -32,7 +32,7 @@ use Rattle.node.specs.RouterList.{replaceOf}
 use Rattle.node.specs.Ask.{askedBy, askOf}
 use Rattle.node.specs.Hear.{heardBy, hearOf}
 use Rattle.node.specs.declared.Node.{Node}
-use Rattle.demands.specs.Calls.{NodeCall, receiving, receivingPart, sending, reporting, relisting, asking, hearing, Outcome, outcomeOf, OfRouters, anAsking, anAdvertisement, aList, viewOf, nodeAfter}
+use Rattle.demands.specs.Calls.{NodeCall, receiving, receivingPart, sending, reporting, relisting, asking, hearing, advertising, Outcome, outcomeOf, OfRouters, anAsking, anAdvertisement, aList, viewOf, nodeAfter}
 use Rattle.demands.specs.Fair.{serves, servedBy, Quiet, AllQuiet, FairNode}
 use Rattle.demands.proofs.Left.{left, settings-kept}
 use Rattle.demands.proofs.One.{unchosen}
@@ -82,6 +82,7 @@ turn n (reporting m time) = leaves refl refl
 turn n (relisting addresses count time) = relisting-turn n addresses count time _ refl
 turn n (asking k time out) = asking-turn n k time out _ refl
 turn n (hearing packet time) = hearing-turn n packet time _ refl
+turn n (advertising packet k a out) = leaves refl refl
 
 -- a call as a call on the router list
 callOf : {n : Node} {time : ℕ} {c : OfRouters} {o : Outcome} → Turn n time c o → RouterCall

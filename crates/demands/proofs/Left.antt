@@ -16,7 +16,7 @@ use Rattle.node.specs.Ask.{askOf}
 use Rattle.node.specs.Hear.{hearOf}
 use Rattle.node.specs.declared.Node.{Node}
 use Rattle.node.specs.declared.router_list.Replaced.{Replaced}
-use Rattle.demands.specs.Calls.{NodeCall, receiving, receivingPart, sending, reporting, relisting, asking, hearing, Outcome, outcomeOf, OfSizes, aSending, aReport, noSize, viewOf, nodeAfter}
+use Rattle.demands.specs.Calls.{NodeCall, receiving, receivingPart, sending, reporting, relisting, asking, hearing, advertising, Outcome, outcomeOf, OfSizes, aSending, aReport, noSize, viewOf, nodeAfter}
 
 -- what holds of the node of either of two answers holds of the chosen one
 chosen : (b : Bool) (x y : Replaced) (P : Node → Type 0) → P (x .node) → P (y .node) → P (cond b x y .node)
@@ -52,6 +52,7 @@ left n (relisting addresses count time) =
     }
 left n (asking k time out) = record { settings = refl; latest = refl; sizes = refl }
 left n (hearing packet time) = record { settings = refl; latest = refl; sizes = refl }
+left n (advertising packet k a out) = record { settings = refl; latest = sym (max-zero _); sizes = refl }
 
 -- no list of calls changes the settings
 pub settings-kept : (n : Node) (xs : List NodeCall) → nodeAfter n xs .service .settings ≡ n .service .settings

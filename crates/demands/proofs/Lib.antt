@@ -10,3 +10,4 @@ pub mod RightSettings
 pub mod Readings
 pub mod Two
 pub mod Fair
+pub mod RoundTrip

@@ -9,7 +9,9 @@ use lib.ListN.{length}
 use Rattle.refusals.specs.Given.{Given, answered, refused}
 use Rattle.refusals.specs.declared.Refusal.{Refusal}
 use Rattle.refusals.specs.declared.Refusal.the-variants as refusal
-use Rattle.settings.specs.Settings.{areRoutersRight}
+use Rattle.header.specs.declared.wrap.Written.{Written}
+use Rattle.header.specs.declared.wrap.Written.the-variants as written
+use Rattle.settings.specs.Settings.{locatorOf, areRoutersRight}
 use Rattle.receiving.specs.declared.Received.{Received}
 use Rattle.receiving.specs.declared.Received.the-variants as received
 use Rattle.routers.specs.declared.RouterList.{RouterList}
@@ -24,6 +26,8 @@ use Rattle.asking.specs.declared.AskAnswer.the-variants as asked
 use Rattle.hearing.proofs.Laws as hearing
 use Rattle.hearing.specs.declared.HeardAnswer.{HeardAnswer}
 use Rattle.hearing.specs.declared.HeardAnswer.the-variants as heard
+use Rattle.advertisements.specs.declared.Advertisement.{Advertisement}
+use Rattle.advertising.proofs.Laws as advertising
 use Rattle.node.specs.Node.{nodeWith, raisedTo}
 use Rattle.node.specs.Receive.{receiveOf, partIn}
 use Rattle.node.specs.Send.{pathSizeToward, sentBy, sendOf, sendOutput}
@@ -31,9 +35,10 @@ use Rattle.node.specs.Report.{reportAnswerOf, reportOf}
 use Rattle.node.specs.RouterList.{withRouters, replaceOf}
 use Rattle.node.specs.Ask.{askedBy, askOf, askOutput}
 use Rattle.node.specs.Hear.{heardBy, hearOf}
+use Rattle.node.specs.Advertise.{advertiseOf, advertiseOutput}
 use Rattle.node.specs.declared.Node.{Node}
 use Rattle.node.specs.declared.router_list.Replaced.{Replaced}
-use Rattle.demands.specs.Calls.{receiving, receivingPart, sending, reporting, relisting, asking, hearing, Outcome, outcomeOf}
+use Rattle.demands.specs.Calls.{receiving, receivingPart, sending, reporting, relisting, asking, hearing, advertising, Outcome, outcomeOf}
 use Rattle.demands.specs.One.{Message, Refusing, DemandOne}
 
 -- a call that is not refused
@@ -139,6 +144,13 @@ hearing-refusing n packet time (heard.Refused r) e =
     let l = hearing.refused-unchanged (n .service .settings) (n .service .routers) (max (n .latest) time) packet r e in
     refuses n time [] _ r (rw e) (same-routers n time _ l) refl
 
+advertising-refusing : (n : Node) (packet : List ℕ) (k : ℕ) (a : Advertisement) (out : List ℕ) (w : Written) → advertiseOf n packet k a (length out) ≡ w
+    → Refusing n 0 out (outcomeOf n (advertising packet k a out))
+unfolding advertiseOf advertiseOutput
+advertising-refusing n packet k a out (written.Length len) e = answers n 0 out _ (len ∷ []) (rw e)
+advertising-refusing n packet k a out (written.Refused r) e =
+    refuses n 0 out _ r (rw e) (raised-zero n) (advertising.refused-untouched (locatorOf (n .service .settings) k) packet a out r e)
+
 pub demand-one : DemandOne
 unfolding DemandOne
 demand-one n full (receiving d interface) = receiving-refusing n d interface _ refl
@@ -148,3 +160,4 @@ demand-one n full (reporting m time) = reporting-refusing n m time _ refl
 demand-one n full (relisting addresses count time) = relisting-refusing n addresses count time _ refl
 demand-one n full (asking k time out) = asking-refusing n k time out _ refl
 demand-one n full (hearing packet time) = hearing-refusing n packet time _ refl
+demand-one n full (advertising packet k a out) = advertising-refusing n packet k a out _ refl

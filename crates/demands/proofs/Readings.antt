@@ -45,4 +45,5 @@ readings = record {
   locators = λ s. refl;
   routers = λ l. refl;
   quote = λ m. refl;
+  numbers = refl;
 }

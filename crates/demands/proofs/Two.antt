@@ -11,6 +11,7 @@ use Rattle.sending.proofs.ExactlyLaws.{sent-exactly}
 use Rattle.receiving.proofs.Delivered.{delivers-exactly}
 use Rattle.asking.proofs.Laws.{asked-exactly}
 use Rattle.hearing.proofs.Laws.{heard-exactly}
+use Rattle.advertising.proofs.Laws.{advertised-exactly}
 use Rattle.node.specs.Node.{pathSizeAt}
 use Rattle.node.specs.Receive.{receiveOf, partIn}
 use Rattle.node.specs.Send.{pathSizeToward, sentBy, sendOf, sendOutput}
@@ -19,6 +20,7 @@ use Rattle.node.specs.RouterList.{replaceOf}
 use Rattle.node.specs.declared.Node.{Node}
 use Rattle.node.specs.Ask.{askedBy, askOf, askOutput}
 use Rattle.node.specs.Hear.{heardBy, hearOf}
+use Rattle.node.specs.Advertise.{advertiseOf, advertiseOutput}
 use Rattle.demands.specs.Two.{Relists, Exactly, DemandTwo}
 use Rattle.demands.proofs.RightList.{decides-right}
 use Rattle.demands.proofs.NewList.{replaced-list}
@@ -37,7 +39,7 @@ relists n addresses count time =
     }
 
 exactly : (n : Node) → Exactly n
-unfolding receiveOf partIn sendOf sentBy sendOutput reportOf reportAnswerOf askOf askedBy askOutput hearOf heardBy
+unfolding receiveOf partIn sendOf sentBy sendOutput reportOf reportAnswerOf askOf askedBy askOutput hearOf heardBy advertiseOf advertiseOutput
 exactly n =
     let s = n .service .settings in
     let routers = n .service .routers in
@@ -51,6 +53,7 @@ exactly n =
       relists = relists n;
       asks = λ k time out. record { answer = refl; node = refl; output = refl; exactly = asked-exactly s routers (max (n .latest) time) k out };
       hears = λ packet time. record { answer = refl; node = refl; exactly = heard-exactly s routers (max (n .latest) time) packet };
+      advertises = λ packet k a out. record { exactly = λ fits. advertised-exactly s packet k a fits out };
     }
 
 pub demand-two : DemandTwo

@@ -3,17 +3,20 @@ use Prim.Native.Nat.{ℕ}
 use mathlib.Core.List.{List, [], _∷_}
 use lib.ListN.{length}
 use Rattle.refusals.specs.Given.{Given, answered}
+use Rattle.header.specs.Wrap.{writtenGiven}
 use Rattle.receiving.specs.Receive.{receivedGiven}
 use Rattle.sending.specs.Sending.{sendGiven}
 use Rattle.reports.specs.Report.{reportGiven}
 use Rattle.asking.specs.Ask.{askGiven}
 use Rattle.hearing.specs.Heard.{heardGiven}
+use Rattle.advertisements.specs.declared.Advertisement.{Advertisement}
 use Rattle.node.specs.Receive.{receiveOf, partIn}
 use Rattle.node.specs.Send.{sendOf, sendOutput}
 use Rattle.node.specs.Report.{reportOf}
 use Rattle.node.specs.RouterList.{listGiven, replaceOf}
 use Rattle.node.specs.Ask.{askOf, askOutput}
 use Rattle.node.specs.Hear.{hearOf}
+use Rattle.node.specs.Advertise.{advertiseOf, advertiseOutput}
 use Rattle.node.specs.declared.Node.{Node}
 
 -- each public call that takes or hands back the node, with its arguments and lent bytes
@@ -32,6 +35,8 @@ pub data NodeCall : Type 0 where
   asking : ℕ → ℕ → List ℕ → NodeCall
   -- an advertisement: inner packet, time
   hearing : List ℕ → ℕ → NodeCall
+  -- advertising: packet that asks, locator number, the operator's advertisement, output
+  advertising : List ℕ → ℕ → Advertisement → List ℕ → NodeCall
 
 -- what comes of a call: number and values (R1.17), the next node, and what then stands in the lent output, no byte where none is lent
 pub record Outcome : Type 0 where
@@ -59,6 +64,8 @@ outcomeOf n (asking k time out) = record {
 }
 outcomeOf n (hearing packet time) =
     record { given = heardGiven (hearOf n packet time .answer); node = hearOf n packet time .node; output = [] }
+outcomeOf n (advertising packet k a out) =
+    record { given = writtenGiven (advertiseOf n packet k a (length out)); node = n; output = advertiseOutput n packet k a out }
 
 -- what a call is to the path sizes
 pub data OfSizes : Type 0 where
@@ -97,6 +104,7 @@ viewOf (reporting m time) = record { time = time; lent = []; sizes = aReport m; 
 viewOf (relisting addresses count time) = record { time = time; lent = []; sizes = noSize; routers = aList }
 viewOf (asking k time out) = record { time = time; lent = out; sizes = noSize; routers = anAsking }
 viewOf (hearing packet time) = record { time = time; lent = []; sizes = noSize; routers = anAdvertisement }
+viewOf (advertising packet k a out) = record { time = 0; lent = out; sizes = noSize; routers = notOfRouters }
 
 -- the node after a list of calls: each gets the node that the last one left
 abbrev pub nodeAfter : Node → List NodeCall → Node

@@ -6,4 +6,5 @@ pub mod Plain
 pub mod Sender
 pub mod Three
 pub mod Fair
+pub mod RoundTrip
 pub mod Starred

@@ -6,7 +6,7 @@ use mathlib.Core.List.{List, [], _∷_, _++_, List·Memᴰ}
 use lib.ListN.{length, getD, take}
 use Rattle.lists.specs.Any.{Some}
 use Rattle.refusals.specs.declared.Refusal.the-variants as refusal
-use Rattle.address.specs.Facts.{Within, Multicast, Unspecified}
+use Rattle.address.specs.Facts.{Within, formed, Multicast, Unspecified}
 use Rattle.paths.specs.Table.{held}
 use Rattle.routers.specs.Routers.{live, replacedOf}
 use Rattle.routers.specs.Facts.{Listed, noRouter}
@@ -21,9 +21,12 @@ use Rattle.sending.specs.Exactly.{SentExactly}
 use Rattle.receiving.specs.Admitted.{DeliveredExactly}
 use Rattle.receiving.specs.Receive.{receivedOf, partOf}
 use Rattle.asking.specs.Ask.{askedOf, askedOutput}
-use Rattle.asking.specs.Facts.{formed, AskedExactly}
+use Rattle.asking.specs.Facts.{AskedExactly}
 use Rattle.hearing.specs.Facts.{HeardExactly}
 use Rattle.hearing.specs.Heard.{heardOf}
+use Rattle.advertisements.specs.Fits.{AdvertisementFits}
+use Rattle.advertisements.specs.declared.Advertisement.{Advertisement}
+use Rattle.advertising.specs.Facts.{AdvertisedExactly}
 use Rattle.node.specs.Node.{setupOf, nodeWith, raisedTo, pathSizeAt}
 use Rattle.node.specs.Receive.{receiveOf, partIn}
 use Rattle.node.specs.Send.{pathSizeToward, withIdentification, sendOf, sendOutput}
@@ -31,6 +34,7 @@ use Rattle.node.specs.Report.{pathsAfter, reportOf}
 use Rattle.node.specs.RouterList.{withRouters, replaceOf}
 use Rattle.node.specs.Ask.{askOf, askOutput}
 use Rattle.node.specs.Hear.{hearOf}
+use Rattle.node.specs.Advertise.{advertiseOf, advertiseOutput}
 use Rattle.node.specs.declared.Node.{Node}
 use Rattle.node.specs.declared.SetupAnswer.the-variants as setup
 use Rattle.node.specs.declared.router_list.ListAnswer.the-variants as list
@@ -144,6 +148,12 @@ module _ (n : Node) where
         ≡ nodeWith n (withRouters (n .service) (heardOf (n .service .settings) (n .service .routers) (max (n .latest) time) packet .routers)) (n .paths) time
     pub exactly : HeardExactly (n .service .settings) (n .service .routers) (max (n .latest) time) packet
 
+  -- a solicitation is answered with an advertisement exactly when the rules hold, and that advertisement is written; otherwise the first of the
+  -- numbers is given whose fact holds. That the operator's numbers fit is their type
+  pub record Advertises (packet : List ℕ) (k : ℕ) (a : Advertisement) (out : List ℕ) : Type 0 where
+    pub exactly : AdvertisementFits a
+        → AdvertisedExactly (n .service .settings) packet k a out (advertiseOf n packet k a (length out)) (advertiseOutput n packet k a out)
+
   -- a new router list is taken exactly when it keeps the rules; otherwise 1 is given
   pub record Relists (addresses : List ℕ) (count time : ℕ) : Type 0 where
     pub taken : RightList (n .service .settings) addresses count
@@ -165,6 +175,7 @@ module _ (n : Node) where
     pub relists : (addresses : List ℕ) (count time : ℕ) → Relists addresses count time
     pub asks : (k time : ℕ) (out : List ℕ) → Asks k time out
     pub hears : (packet : List ℕ) (time : ℕ) → Hears packet time
+    pub advertises : (packet : List ℕ) (k : ℕ) (a : Advertisement) (out : List ℕ) → Advertises packet k a out
 
 -- demand 2, of all settings and of every node
 pub record DemandTwo : Type 0 where
