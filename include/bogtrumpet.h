@@ -14,8 +14,8 @@
  * aligned to 8 bytes and not null; bytes need no alignment. What a call may write, an output or a node that is not const, overlaps
  * nothing else that it is lent.
  *
- * Threads. There is no shared state: calls on different nodes, and the rules, may be made at once. On one node bogtrumpet_receive and
- * bogtrumpet_path_size, which only read it, may be made at once; any other call on it is made alone.
+ * Threads. There is no shared state: calls on different nodes, and the rules, may be made at once. On one node bogtrumpet_receive,
+ * bogtrumpet_advertise and bogtrumpet_path_size, which only read it, may be made at once; any other call on it is made alone.
  *
  * Stack. A call needs at most BOGTRUMPET_STACK bytes, whatever it is given (tests/boundary measures it).
  *
@@ -37,9 +37,9 @@
 #include <stddef.h>
 #include <stdint.h>
 
-#define BOGTRUMPET_VERSION "0.2.0"
+#define BOGTRUMPET_VERSION "0.3.0"
 #define BOGTRUMPET_VERSION_MAJOR 0
-#define BOGTRUMPET_VERSION_MINOR 2
+#define BOGTRUMPET_VERSION_MINOR 3
 #define BOGTRUMPET_VERSION_PATCH 0
 
 /* A compiler that can warns where an answer is not looked at. */
@@ -59,6 +59,7 @@ extern "C" {
 #define BOGTRUMPET_MAX_PREFIXES 8
 #define BOGTRUMPET_MAX_ROUTERS 16
 #define BOGTRUMPET_MAX_NEIGHBOURS 64 /* whose path sizes are kept */
+#define BOGTRUMPET_MAX_ADVERTISED 8  /* prefixes of an advertisement that is written, and routes of it */
 
 #define BOGTRUMPET_MIN_LINK_SIZE 576
 #define BOGTRUMPET_MAX_LINK_SIZE 9216
@@ -69,6 +70,7 @@ extern "C" {
 #define BOGTRUMPET_OUTER_HEADER_LENGTH 20 /* of the IPv4 header that is written */
 #define BOGTRUMPET_INNER_HEADER_LENGTH 40
 #define BOGTRUMPET_SOLICITATION_LENGTH 48
+#define BOGTRUMPET_MAX_ADVERTISEMENT_LENGTH 504 /* of an advertisement that is written */
 #define BOGTRUMPET_MAX_TOO_BIG_LENGTH 1280
 #define BOGTRUMPET_MAX_SENT_LENGTH 9216 /* the most that bogtrumpet_send writes on a node of accepted settings */
 
@@ -100,10 +102,13 @@ enum bogtrumpet_number {
     BOGTRUMPET_ADVERTISEMENT_INVALID = 20,  /* no valid advertisement */
     BOGTRUMPET_ADVERTISER_NOT_LISTED = 21,  /* advertiser is no router of the list */
     BOGTRUMPET_NO_ROUTER_DUE = 22,          /* no router is due */
-    BOGTRUMPET_WRAPPED_TOO_LONG = 23        /* wrapped length above 65,535 */
+    BOGTRUMPET_WRAPPED_TOO_LONG = 23,       /* wrapped length above 65,535 */
+    BOGTRUMPET_SOLICITATION_INVALID = 24,   /* no valid solicitation */
+    BOGTRUMPET_ASKER_NOT_ISATAP = 25,       /* the asker's address is not link-local ISATAP */
+    BOGTRUMPET_OPTIONS_BAD = 26             /* too many prefixes or routes, or a prefix length above 128 */
 };
 
-/* The number in words; "no number of bogtrumpet" for one above 23. */
+/* The number in words; "no number of bogtrumpet" for one above 26. */
 BOGTRUMPET_CHECKED static inline const char *bogtrumpet_number_text(uint8_t number) {
     switch (number) {
     case BOGTRUMPET_OK: return "not refused";
@@ -130,6 +135,9 @@ BOGTRUMPET_CHECKED static inline const char *bogtrumpet_number_text(uint8_t numb
     case BOGTRUMPET_ADVERTISER_NOT_LISTED: return "advertiser not listed";
     case BOGTRUMPET_NO_ROUTER_DUE: return "no router due";
     case BOGTRUMPET_WRAPPED_TOO_LONG: return "wrapped length above 65,535";
+    case BOGTRUMPET_SOLICITATION_INVALID: return "no valid solicitation";
+    case BOGTRUMPET_ASKER_NOT_ISATAP: return "the asker's address is not link-local ISATAP";
+    case BOGTRUMPET_OPTIONS_BAD: return "too many prefixes or routes, or a prefix length above 128";
     default: return "no number of bogtrumpet";
     }
 }
@@ -201,6 +209,44 @@ struct bogtrumpet_addresses {
     size_t count;
 };
 
+/* ---- What is advertised ------------------------------------------------------------------------------------------- */
+
+/* A prefix that an advertisement names (RFC 4861, 4.6.2). Any value but 0 sets a flag; lifetimes are seconds, 0xFFFFFFFF is for ever. */
+struct bogtrumpet_advertised_prefix {
+    uint8_t bytes[16]; /* bits past the length are written as 0 */
+    uint32_t valid;
+    uint32_t preferred;
+    uint8_t length;     /* in bits, 0 to 128 */
+    uint8_t on_link;    /* the flag L */
+    uint8_t autonomous; /* the flag A */
+};
+
+/* How the router is preferred for a route. Any other value is read as medium. */
+enum bogtrumpet_preference {
+    BOGTRUMPET_PREFERENCE_MEDIUM = 0,
+    BOGTRUMPET_PREFERENCE_HIGH = 1,
+    BOGTRUMPET_PREFERENCE_LOW = 2
+};
+
+/* A route that an advertisement names (RFC 4191, 2.3). Its lifetime is seconds, 0xFFFFFFFF is for ever. */
+struct bogtrumpet_advertised_route {
+    uint8_t bytes[16]; /* bits past the length are written as 0 */
+    uint32_t lifetime;
+    uint8_t length;     /* in bits, 0 to 128 */
+    uint8_t preference; /* of enum bogtrumpet_preference */
+};
+
+/* What an operator sets of an advertisement (R22). Entries behind a count are not read; all zero is one without prefix and route. */
+struct bogtrumpet_advertisement {
+    struct bogtrumpet_advertised_prefix prefixes[BOGTRUMPET_MAX_ADVERTISED];
+    size_t prefix_count;
+    struct bogtrumpet_advertised_route routes[BOGTRUMPET_MAX_ADVERTISED];
+    size_t route_count;
+    uint16_t lifetime; /* of the router as a default router, in seconds */
+    uint8_t managed;   /* the flag M; any value but 0 sets it */
+    uint8_t other;     /* the flag O; any value but 0 sets it */
+};
+
 /* ---- Answers ------------------------------------------------------------------------------------------------------ */
 
 struct bogtrumpet_received {
@@ -232,6 +278,11 @@ struct bogtrumpet_heard {
     uint32_t router; /* the router that advertised */
 };
 
+struct bogtrumpet_advertised {
+    uint8_t number;
+    size_t length; /* with 0: the length of the advertisement written */
+};
+
 /* ---- The node's calls --------------------------------------------------------------------------------------------- */
 
 /* The same locators, prefixes, routers and counts; link size 1,500, TTL 64, interval 120, identification 1, reporting address
@@ -239,7 +290,8 @@ struct bogtrumpet_heard {
 BOGTRUMPET_CHECKED struct bogtrumpet_settings bogtrumpet_defaults(struct bogtrumpet_settings settings);
 
 /* Fills the node, whatever stood there: a node with all routers due at time 0 (R2.12). The number: 0, or 1, and then the node is the
-   one of empty settings, all values 0; it delivers nothing (6 at the latest) and sends and asks nothing (11 at the latest) (R2.11). */
+   one of empty settings, all values 0; it delivers nothing (6 at the latest) and sends, asks and advertises nothing (11 at the latest)
+   (R2.11). */
 BOGTRUMPET_CHECKED uint8_t bogtrumpet_new(struct bogtrumpet_node *node, struct bogtrumpet_settings settings);
 
 /* Where the inner packet stands in a datagram that arrived on the interface (R5). The node stays as it is.
@@ -274,6 +326,16 @@ BOGTRUMPET_CHECKED struct bogtrumpet_asked bogtrumpet_ask(struct bogtrumpet_node
    Numbers, in this order: 8 (as in receiving), 20, 21. */
 BOGTRUMPET_CHECKED struct bogtrumpet_heard bogtrumpet_hear(struct bogtrumpet_node *node, const uint8_t *packet,
                                                            size_t length, uint32_t time);
+
+/* Answers a router solicitation, a received inner packet, with a router advertisement of at most 504 bytes, not yet wrapped, from the
+   numbered locator to the asker (R22). The node stays as it is. To send it: bogtrumpet_send with this length, the same locator, and for the
+   next hop its destination, bytes 24 to 39; 13 is given there where the asker's address embeds a forbidden one or one of ours.
+   Numbers, in this order: 8 (as in receiving), 11, 24, 25, 26, 15. */
+BOGTRUMPET_CHECKED struct bogtrumpet_advertised bogtrumpet_advertise(const struct bogtrumpet_node *node,
+                                                                     const uint8_t *packet, size_t length,
+                                                                     size_t locator,
+                                                                     struct bogtrumpet_advertisement advertisement,
+                                                                     uint8_t *out, size_t room);
 
 /* The path size in force toward the neighbour at the latest time (R10). */
 BOGTRUMPET_CHECKED uint16_t bogtrumpet_path_size(const struct bogtrumpet_node *node, uint32_t neighbour);
@@ -401,6 +463,23 @@ BOGTRUMPET_AT(node, paths, 512);
 BOGTRUMPET_AT(node, latest, 1160);
 BOGTRUMPET_SIZE(addresses, 72);
 BOGTRUMPET_AT(addresses, count, 64);
+BOGTRUMPET_SIZE(advertised_prefix, 28);
+BOGTRUMPET_AT(advertised_prefix, valid, 16);
+BOGTRUMPET_AT(advertised_prefix, preferred, 20);
+BOGTRUMPET_AT(advertised_prefix, length, 24);
+BOGTRUMPET_AT(advertised_prefix, on_link, 25);
+BOGTRUMPET_AT(advertised_prefix, autonomous, 26);
+BOGTRUMPET_SIZE(advertised_route, 24);
+BOGTRUMPET_AT(advertised_route, lifetime, 16);
+BOGTRUMPET_AT(advertised_route, length, 20);
+BOGTRUMPET_AT(advertised_route, preference, 21);
+BOGTRUMPET_SIZE(advertisement, 440);
+BOGTRUMPET_AT(advertisement, prefix_count, 224);
+BOGTRUMPET_AT(advertisement, routes, 232);
+BOGTRUMPET_AT(advertisement, route_count, 424);
+BOGTRUMPET_AT(advertisement, lifetime, 432);
+BOGTRUMPET_AT(advertisement, managed, 434);
+BOGTRUMPET_AT(advertisement, other, 435);
 BOGTRUMPET_SIZE(received, 24);
 BOGTRUMPET_AT(received, offset, 8);
 BOGTRUMPET_AT(received, length, 16);
@@ -415,6 +494,8 @@ BOGTRUMPET_SIZE(asked, 8);
 BOGTRUMPET_AT(asked, router, 4);
 BOGTRUMPET_SIZE(heard, 8);
 BOGTRUMPET_AT(heard, router, 4);
+BOGTRUMPET_SIZE(advertised, 16);
+BOGTRUMPET_AT(advertised, length, 8);
 BOGTRUMPET_SIZE(prefixes, 72);
 BOGTRUMPET_AT(prefixes, count, 64);
 BOGTRUMPET_SIZE(embedded, 8);

@@ -35,12 +35,14 @@
 //! # }
 //! ```
 
+mod advertisement;
 mod node;
 pub mod raw;
 mod refusal;
 pub mod rules;
 mod settings;
 
+pub use advertisement::{AdvertisedPrefix, AdvertisedRoute, Advertisement, Preference};
 pub use node::{Asked, Node, Reported, Router, Sent};
 pub use refusal::Refusal;
 pub use settings::{Locator, Prefix, Settings};
@@ -53,10 +55,14 @@ pub const MAX_PREFIXES: usize = 8;
 pub const MAX_ROUTERS: usize = 16;
 /// The most neighbours whose path sizes are kept.
 pub const MAX_NEIGHBOURS: usize = 64;
+/// The most prefixes of an advertisement that is written, and the most routes of it.
+pub const MAX_ADVERTISED: usize = 8;
 /// The length of the IPv4 header that is written.
 pub const OUTER_HEADER_LENGTH: usize = 20;
 /// The length of a router solicitation.
 pub const SOLICITATION_LENGTH: usize = 48;
+/// The most that an advertisement that is written is long.
+pub const MAX_ADVERTISEMENT_LENGTH: usize = 504;
 /// The most that a Too Big message is long.
 pub const MAX_TOO_BIG_LENGTH: usize = 1280;
 /// The most that [`Node::send`] writes.

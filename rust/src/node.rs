@@ -1,5 +1,6 @@
 //! One tunnel end.
 
+use crate::advertisement::Advertisement;
 use crate::raw;
 use crate::refusal::{unless, Refusal};
 use crate::settings::{numbers, Settings};
@@ -141,6 +142,25 @@ impl Node {
     pub fn hear(&mut self, packet: &[u8], time: u32) -> Result<Ipv4Addr, Refusal> {
         let heard = self.raw.hear(packet, time);
         unless(heard.number, || heard.router.into())
+    }
+
+    /// Answers a router solicitation, a received inner packet, with a router advertisement from the numbered locator, counted from 0, and
+    /// gives the part of the output that was written: an IPv6 packet, not yet wrapped. It is sent from the same locator, with its destination
+    /// (bytes 24 to 39) for the next hop; [`Refusal::TunnelEndForbidden`] comes there if the asker embeds a forbidden address or one of ours.
+    ///
+    /// # Errors
+    /// In this order: [`Refusal::InnerMalformed`], [`Refusal::NoLocator`], [`Refusal::SolicitationInvalid`],
+    /// [`Refusal::AskerNotIsatap`], [`Refusal::OptionsBad`], [`Refusal::OutputShort`].
+    pub fn advertise<'o>(
+        &self,
+        packet: &[u8],
+        locator: usize,
+        advertisement: &Advertisement,
+        out: &'o mut [u8],
+    ) -> Result<&'o [u8], Refusal> {
+        let advertised = self.raw.advertise(packet, locator, advertisement.raw, out);
+        let out: &'o [u8] = out;
+        unless(advertised.number, || &out[..advertised.length])
     }
 
     /// The path size in force toward the neighbour at the latest time.

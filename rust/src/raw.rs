@@ -122,6 +122,58 @@ pub struct Addresses {
     pub count: usize,
 }
 
+/// A prefix that an advertisement names. Any value but 0 sets a flag; lifetimes are seconds, `0xffff_ffff` is for ever.
+#[repr(C)]
+#[derive(Clone, Copy, Debug, Default, PartialEq, Eq)]
+pub struct AdvertisedPrefix {
+    /// Bits past the length are written as 0.
+    pub bytes: [u8; 16],
+    /// The valid lifetime.
+    pub valid: u32,
+    /// The preferred lifetime.
+    pub preferred: u32,
+    /// In bits, 0 to 128.
+    pub length: u8,
+    /// The flag L.
+    pub on_link: u8,
+    /// The flag A.
+    pub autonomous: u8,
+}
+
+/// A route that an advertisement names.
+#[repr(C)]
+#[derive(Clone, Copy, Debug, Default, PartialEq, Eq)]
+pub struct AdvertisedRoute {
+    /// Bits past the length are written as 0.
+    pub bytes: [u8; 16],
+    /// The route's lifetime, in seconds; `0xffff_ffff` is for ever.
+    pub lifetime: u32,
+    /// In bits, 0 to 128.
+    pub length: u8,
+    /// 1 high, 2 low, any other medium.
+    pub preference: u8,
+}
+
+/// What an operator sets of an advertisement. Entries behind a count are not read.
+#[repr(C)]
+#[derive(Clone, Copy, Debug, Default, PartialEq, Eq)]
+pub struct Advertisement {
+    /// In the order in which they are written.
+    pub prefixes: [AdvertisedPrefix; 8],
+    /// How many prefixes there are.
+    pub prefix_count: usize,
+    /// In the order in which they are written.
+    pub routes: [AdvertisedRoute; 8],
+    /// How many routes there are.
+    pub route_count: usize,
+    /// Of the router as a default router, in seconds.
+    pub lifetime: u16,
+    /// The flag M; any value but 0 sets it.
+    pub managed: u8,
+    /// The flag O; any value but 0 sets it.
+    pub other: u8,
+}
+
 /// Where in a datagram the inner packet stands.
 #[repr(C)]
 #[derive(Clone, Copy, Debug, PartialEq, Eq)]
@@ -178,6 +230,16 @@ pub struct Heard {
     pub number: u8,
     /// The router that advertised.
     pub router: u32,
+}
+
+/// What advertising answers.
+#[repr(C)]
+#[derive(Clone, Copy, Debug, PartialEq, Eq)]
+pub struct Advertised {
+    /// 0, 8, 11, 24, 25, 26 or 15.
+    pub number: u8,
+    /// With 0: the length of the advertisement written.
+    pub length: usize,
 }
 
 /// On-link prefixes of 8 bytes, beside fe80::/64; a count above 8 is read as 8.
@@ -266,6 +328,15 @@ extern "C" {
     pub fn bogtrumpet_replace_routers(node: *mut Node, list: Addresses, time: u32) -> u8;
     pub fn bogtrumpet_ask(node: *mut Node, locator: usize, time: u32, out: *mut u8, room: usize) -> Asked;
     pub fn bogtrumpet_hear(node: *mut Node, packet: *const u8, length: usize, time: u32) -> Heard;
+    pub fn bogtrumpet_advertise(
+        node: *const Node,
+        packet: *const u8,
+        length: usize,
+        locator: usize,
+        advertisement: Advertisement,
+        out: *mut u8,
+        room: usize,
+    ) -> Advertised;
     pub fn bogtrumpet_path_size(node: *const Node, neighbour: u32) -> u16;
 
     pub fn bogtrumpet_checksum(start: u32, bytes: *const u8, length: usize) -> u16;
@@ -376,6 +447,16 @@ impl Node {
         unsafe { bogtrumpet_hear(self, packet.as_ptr(), packet.len(), time) }
     }
 
+    /// Numbers, in this order: 8, 11, 24, 25, 26, 15.
+    #[must_use]
+    #[inline]
+    pub fn advertise(&self, packet: &[u8], locator: usize, advertisement: Advertisement, out: &mut [u8]) -> Advertised {
+        unsafe {
+            let (bytes, room) = (out.as_mut_ptr(), out.len());
+            bogtrumpet_advertise(self, packet.as_ptr(), packet.len(), locator, advertisement, bytes, room)
+        }
+    }
+
     /// The path size in force toward the neighbour at the latest time.
     #[must_use]
     #[inline]
@@ -466,4 +547,7 @@ const _: () = {
     assert!(size_of::<Node>() == 1168 && align_of::<Node>() == 8, "the archive is for 64-bit targets");
     assert!(offset_of!(Node, paths) == 512 && offset_of!(Node, latest) == 1160);
     assert!(size_of::<Settings>() == 240 && size_of::<Paths>() == 648 && size_of::<Sent>() == 24);
+    assert!(
+        size_of::<AdvertisedPrefix>() == 28 && size_of::<AdvertisedRoute>() == 24 && size_of::<Advertisement>() == 440
+    );
 };

@@ -25,7 +25,7 @@ macro_rules! refusals {
                 self as u8
             }
 
-            /// The refusal of that number; `None` for 0, 14 and those above 23.
+            /// The refusal of that number; `None` for 0, 14 and those above 26.
             #[must_use]
             pub fn from_number(number: u8) -> Option<Refusal> {
                 match number {
@@ -88,6 +88,12 @@ refusals! {
     NoRouterDue 22 "no router due";
     /// The wrapped length is above 65,535.
     WrappedTooLong 23 "wrapped length above 65,535";
+    /// No valid solicitation.
+    SolicitationInvalid 24 "no valid solicitation";
+    /// The asker's address is not link-local ISATAP.
+    AskerNotIsatap 25 "the asker's address is not link-local ISATAP";
+    /// Too many prefixes or routes, or a prefix length above 128.
+    OptionsBad 26 "too many prefixes or routes, or a prefix length above 128";
 }
 
 impl fmt::Display for Refusal {

@@ -1,6 +1,7 @@
 //! Each answer of the safe interface against the C interface's own, on calls that meet every refusal that a safe caller can.
 
 use bogtrumpet::rules::{self, link_local, Outer};
+use bogtrumpet::{AdvertisedPrefix, AdvertisedRoute, Advertisement, Preference};
 use bogtrumpet::{Locator, Node, Prefix, Refusal, Sent, Settings};
 use std::net::{Ipv4Addr, Ipv6Addr};
 
@@ -163,6 +164,73 @@ fn routers() {
     assert_eq!(node.routers().map(|router| router.due).collect::<Vec<_>>(), [13, 3612]);
 }
 
+/// The solicitation that a station with the router `OWN` writes, and the station.
+fn asking() -> (Node, [u8; 48]) {
+    let mut station = Node::new(&Settings::new(&[Locator::new(NEIGHBOUR, 0)]).routers(&[OWN])).unwrap();
+    let mut out = [0; 48];
+    assert_eq!(station.ask(0, 10, &mut out).map(|asked| asked.router), Ok(OWN));
+    (station, out)
+}
+
+fn advertised() -> (AdvertisedPrefix, AdvertisedRoute) {
+    let prefix = "2001:db8:1:2:3::".parse().unwrap();
+    let prefix = AdvertisedPrefix { prefix, length: 64, on_link: false, autonomous: true, valid: 1800, preferred: 600 };
+    let route = "2001:db8:ffff:ffff::".parse().unwrap();
+    let route = AdvertisedRoute { prefix: route, length: 33, preference: Preference::High, lifetime: 900 };
+    (prefix, route)
+}
+
+#[test]
+fn advertising() {
+    let node = node();
+    let (mut station, asks) = asking();
+    let (prefix, route) = advertised();
+    let advertisement = Advertisement::new(1200).managed(true).prefixes(&[prefix]).routes(&[route]);
+    let mut out = [0x55; 600];
+    let written = node.advertise(&asks, 0, &advertisement, &mut out).unwrap();
+    assert_eq!((written.len(), &written[8..24], &written[24..40]), (104, &asks[24..40], &asks[8..24]));
+    assert_eq!(written[44..56], [0, 0x80, 0x04, 0xb0, 0, 0, 0, 0, 0, 0, 0, 0]);
+    assert_eq!(written[56..72], [3, 4, 64, 0x40, 0, 0, 7, 8, 0, 0, 2, 0x58, 0, 0, 0, 0]);
+    assert_eq!(written[72..88], [0x20, 1, 0x0d, 0xb8, 0, 1, 0, 2, 0, 0, 0, 0, 0, 0, 0, 0]);
+    assert_eq!(written[88..104], [24, 2, 33, 8, 0, 0, 3, 0x84, 0x20, 1, 0x0d, 0xb8, 0x80, 0, 0, 0]);
+    assert_eq!(station.hear(written, 20), Ok(OWN));
+    assert!(out[104..].iter().all(|&byte| byte == 0x55));
+    let flags = Advertisement::new(0).other(true).routes(&[AdvertisedRoute { preference: Preference::Low, ..route }]);
+    let written = node.advertise(&asks, 0, &flags, &mut out).unwrap();
+    assert_eq!((written.len(), written[45], written[59]), (72, 0x40, 0x18));
+    let full = advertisement.prefixes(&[prefix; 8]).routes(&[AdvertisedRoute { length: 128, ..route }; 8]);
+    assert_eq!(node.advertise(&asks, 0, &full, &mut out).map(<[u8]>::len), Ok(bogtrumpet::MAX_ADVERTISEMENT_LENGTH));
+}
+
+#[test]
+fn advertising_refused() {
+    let node = node();
+    let (_, asks) = asking();
+    let (prefix, route) = advertised();
+    let good = Advertisement::new(1200).prefixes(&[prefix]).routes(&[route]);
+    let refused = |packet: &[u8], locator, advertisement: &Advertisement, room| {
+        let mut out = [0x55; 104];
+        let refusal = node.advertise(packet, locator, advertisement, &mut out[..room]).unwrap_err();
+        assert!(out == [0x55; 104]);
+        refusal
+    };
+    let changed = |at: usize, value: u8| {
+        let mut packet = asks;
+        packet[at] = value;
+        repair(&mut packet[8..], 34, 8 + 58);
+        refused(&packet, 0, &good, 104)
+    };
+    assert_eq!(refused(&asks[..47], 0, &good, 104), Refusal::InnerMalformed);
+    assert_eq!(refused(&asks, 1, &good, 104), Refusal::NoLocator);
+    assert_eq!(changed(7, 254), Refusal::SolicitationInvalid);
+    assert_eq!(changed(40, 134), Refusal::SolicitationInvalid);
+    assert_eq!(changed(16, 1), Refusal::AskerNotIsatap);
+    assert_eq!(refused(&asks, 0, &good.prefixes(&[prefix; 9]), 104), Refusal::OptionsBad);
+    assert_eq!(refused(&asks, 0, &good.routes(&[route; 9]), 104), Refusal::OptionsBad);
+    assert_eq!(refused(&asks, 0, &good.routes(&[AdvertisedRoute { length: 129, ..route }]), 104), Refusal::OptionsBad);
+    assert_eq!(refused(&asks, 0, &good, 103), Refusal::OutputShort);
+}
+
 #[test]
 fn rules_without_state() {
     let inner = packet(60, link_local(NEIGHBOUR));
@@ -192,13 +260,13 @@ fn rules_without_state() {
 #[test]
 fn refusals() {
     let numbers: Vec<u8> = Refusal::ALL.iter().map(|refusal| refusal.number()).collect();
-    assert_eq!(numbers, (1..=23).filter(|&number| number != 14).collect::<Vec<u8>>());
+    assert_eq!(numbers, (1..=26).filter(|&number| number != 14).collect::<Vec<u8>>());
     for &refusal in Refusal::ALL {
         assert_eq!(Refusal::from_number(refusal.number()), Some(refusal));
         let error: &dyn std::error::Error = &refusal;
         assert!(!error.to_string().is_empty());
     }
-    for number in [0, 14, 24, 255] {
+    for number in [0, 14, 27, 255] {
         assert_eq!(Refusal::from_number(number), None);
     }
 }

@@ -5,6 +5,9 @@ use mathlib.Core.List.{[], _∷_}
 use Rattle.asking.specs.Ask.{askGiven}
 use Rattle.asking.specs.declared.AskAnswer.{AskAnswer}
 use Rattle.asking.specs.declared.AskAnswer.the-variants as asked
+use Rattle.header.specs.Wrap.{writtenGiven}
+use Rattle.header.specs.declared.wrap.Written.{Written}
+use Rattle.header.specs.declared.wrap.Written.the-variants as written
 use Rattle.hearing.specs.Heard.{heardGiven}
 use Rattle.hearing.specs.declared.HeardAnswer.{HeardAnswer}
 use Rattle.hearing.specs.declared.HeardAnswer.the-variants as heard
@@ -20,8 +23,8 @@ use Rattle.reports.specs.declared.ReportAnswer.the-variants as reported
 use Rattle.sending.specs.Sending.{sendGiven}
 use Rattle.sending.specs.declared.SendAnswer.{SendAnswer}
 use Rattle.sending.specs.declared.SendAnswer.the-variants as sent
-use Rattle.bogtrumpet.specs.Answers.{plainReceived, plainSent, plainReported, plainAsked, plainHeard}
-use Rattle.bogtrumpet.specs.Given.{receivedBack, sentBack, reportedBack, askedBack, heardBack}
+use Rattle.bogtrumpet.specs.Answers.{plainReceived, plainSent, plainReported, plainAsked, plainHeard, plainAdvertised}
+use Rattle.bogtrumpet.specs.Given.{receivedBack, sentBack, reportedBack, askedBack, heardBack, advertisedBack}
 
 pub received-given : (a : Received) → receivedBack (plainReceived a) ≡ receivedGiven a
 received-given (received.Delivered offset length) = refl
@@ -44,3 +47,7 @@ asked-given (asked.Refused r) = refused-back r (0 ∷ [])
 pub heard-given : (a : HeardAnswer) → heardBack (plainHeard a) ≡ heardGiven a
 heard-given (heard.Router router) = refl
 heard-given (heard.Refused r) = refused-back r (0 ∷ [])
+
+pub advertised-given : (a : Written) → advertisedBack (plainAdvertised a) ≡ writtenGiven a
+advertised-given (written.Length length) = refl
+advertised-given (written.Refused r) = refused-back r (0 ∷ [])

@@ -28,11 +28,11 @@ use denote.RattleType.{RattleType, Denots, Valss, owns, flat}
 use denote.Laws.{Is, Ises, Are, Spells, valss, shows}
 use denote.Memory.{pointee}
 use denote.Plain.{UInt, uint-lawful, uint-makes}
-use denote.Builtin.{RefOf, RefMutOf, SliceRefMutOf, u8}
+use denote.Builtin.{RefOf, RefMutOf, u8}
 use denote.Exit.{yes}
 use denote.Ref.{RefT, MutRef, now, ptr-vals, mut-tells}
 use denote.Signature.{AllWithin, Slot, Signature, plain, typesAt}
-use denote.Slice.{Room, finally, sliceTy, slice-vals}
+use denote.Slice.{Room, finally, slice-vals}
 use denote.Steps.{only, owned, peeks, nothing}
 use denote.Triple.Statement.{Contract, Triple}
 use denote.Triple.Call.{calls-at}
@@ -40,25 +40,20 @@ use denote.Triple.Clauses.{Ended, Clauses, Lasts, AtExit, atExit, lasts, closing
 use denote.Triple.Entry.{Args, Res, alive, onEntry}
 use denote.Triple.Spec.{tripleOf}
 use denote.Triple.End.{Outs, lastsOf}
-use denote.Triple.Walked.{says, Stays, hasOf, gave-ref, gave-slice, walkOf, goes-gave-ref, goes-gave-slice, ends-at}
+use denote.Triple.Walked.{says, Stays, hasOf, gave-ref, walkOf, goes-gave-ref, goes-gave-slice, ends-at}
 use Rattle.node.specs.declared.Node.{Node}
 use Rattle.node.proofs.Node as T
 use Rattle.bogtrumpet.proofs.Lent.{ref, Shr, shares-in, shared-back, answered, proved}
 use Rattle.bogtrumpet.proofs.Link.{outsP, finsP, outs-fins, endsP, outs-last}
+use Rattle.bogtrumpet.proofs.Output.{passed-type, pointer-type, lent-type, output, held, out-of}
 use Rattle.bogtrumpet.proofs.Param.{Param, Typed}
-use Rattle.bogtrumpet.proofs.Params.{slotsOf, keptOf, staysOf, goesOf, spellsOf, tellsOf, tailOf, lastOf, fitOf, hadOf, areOf, localsOf, after, opsOf, envOf, Skips, skips-two, behind, from-at, ops-all, alloc-all, pass-all, free-all}
+use Rattle.bogtrumpet.proofs.Params.{slotsOf, keptOf, staysOf, goesOf, spellsOf, tellsOf, lastOf, fitOf, hadOf, areOf, localsOf, after, opsOf, envOf, Skips, skips-two, behind, from-at, ops-all, alloc-all, pass-all, free-all}
 use Rattle.bogtrumpet.proofs.Shown.{Arg, paramsOf, chosenOf, showOps, shownOf, shown-made, show-all}
 use Rattle.node.proofs.Node.Laws as T′
 
 module _ {M : Type 1} (𝓤 : URA M) (H : Heap 𝓤) (A : Atoms 𝓤) (looker callee : Name) (m j : ℕ) (ok : AllWithin (suc m) (j ∷ [])) (args : List (Arg 𝓤 H A (suc m))) (w : Width) (R : RattleType) (ρ : Ty) where
   abbrev ps : List (Param (suc m))
   ps = paramsOf args
-
-  abbrev passed-type : Ty
-  passed-type = sliceTy (tyRef (named j) mut (tyInt w8))
-
-  abbrev lent-type : Ty
-  lent-type = sliceTy (tyRef erased mut (tyInt w8))
 
   abbrev node-type : Ty
   node-type = tyRef (named 0) mut (pointee (T.the-row .written))
@@ -69,9 +64,9 @@ module _ {M : Type 1} (𝓤 : URA M) (H : Heap 𝓤) (A : Atoms 𝓤) (looker ca
   abbrev handed-type : Ty
   handed-type = tyRef erased mut (pointee (T.the-row .written))
 
-  -- the output, behind the other parameters
-  abbrev pub output : List (Slot (suc m))
-  output = SliceRefMutOf (j ∷ []) ok (plain (λ _. u8)) (λ _. tt) ∷ []
+  -- behind the other parameters
+  abbrev passed : List (Slot (suc m))
+  passed = output (suc m) j ok
 
   abbrev node-slot : Slot (suc m)
   node-slot = RefMutOf (0 ∷ []) tt (plain (λ _. T.the-row)) (λ _. tt)
@@ -84,7 +79,7 @@ module _ {M : Type 1} (𝓤 : URA M) (H : Heap 𝓤) (A : Atoms 𝓤) (looker ca
     lifetimes = suc m;
     outlives = [];
     params = first;
-    locals = local ρ valueLocal ∷ local node-type valueLocal ∷ localsOf ps (local passed-type valueLocal ∷ local (tyInt w) valueLocal ∷ local shown-type valueLocal ∷ local handed-type valueLocal ∷ local (tyRef erased mut (tyInt w8)) valueLocal ∷ local lent-type valueLocal ∷ []);
+    locals = local ρ valueLocal ∷ local node-type valueLocal ∷ localsOf ps (local (passed-type j) valueLocal ∷ local (tyInt w) valueLocal ∷ local shown-type valueLocal ∷ local handed-type valueLocal ∷ local pointer-type valueLocal ∷ local lent-type valueLocal ∷ []);
     body = seq (assign (place (suc (suc first)) []) (addrOf (place 1 (deref T′.mir ∷ []))))
         (seq (call looker (copy (place (suc (suc first)) []) ∷ showOps args 2) (place (suc first) []))
         (seq (assign (place (suc (suc (suc first))) []) (addrOf (place 1 (deref T′.mir ∷ []))))
@@ -95,22 +90,19 @@ module _ {M : Type 1} (𝓤 : URA M) (H : Heap 𝓤) (A : Atoms 𝓤) (looker ca
   }
 
   abbrev pub signature : Signature
-  signature = record { lifetimes = suc m; outlives = []; params = node-slot ∷ slotsOf ps output; result = plain (λ _. R) }
+  signature = record { lifetimes = suc m; outlives = []; params = node-slot ∷ slotsOf ps passed; result = plain (λ _. R) }
 
   abbrev pub ended : Ended
-  ended = record { signature = signature; kept = (yes, keptOf ps output (yes, tt)) }
-
-  abbrev held : Stays output (yes, tt)
-  held = (gave-slice (j ∷ []) ok (plain (λ _. u8)), tt)
+  ended = record { signature = signature; kept = (yes, keptOf ps passed (yes, tt)) }
 
   abbrev pub stayed : Stays (ended .signature .params) (ended .kept)
-  stayed = (gave-ref (0 ∷ []) tt (plain (λ _. T.the-row)), staysOf ps output (yes, tt) held)
+  stayed = (gave-ref (0 ∷ []) tt (plain (λ _. T.the-row)), staysOf ps passed (yes, tt) (held (suc m) j ok))
 
   abbrev pub rest : Lfts (suc m) → List RattleType
-  rest κs = typesAt (slotsOf ps output) κs
+  rest κs = typesAt (slotsOf ps passed) κs
 
   abbrev pub spelt-out : (κs : Lfts (suc m)) → Spells (rest κs)
-  spelt-out κs = spellsOf ps output κs (slice-vals, tt)
+  spelt-out κs = spellsOf ps passed κs (slice-vals, tt)
 
   abbrev chosen : Lfts 1 → List RattleType
   chosen κ₁ = typesAt (slotsOf (chosenOf args) []) κ₁
@@ -125,8 +117,8 @@ module _ {M : Type 1} (𝓤 : URA M) (H : Heap 𝓤) (A : Atoms 𝓤) (looker ca
   -- the one over a `&mut Node`
   abbrev pub next-ended : Ended
   next-ended = record {
-    signature = record { lifetimes = suc m; outlives = []; params = node-slot ∷ plain (λ _. UInt w) ∷ slotsOf ps output; result = plain (λ _. R) };
-    kept = (yes, (yes, keptOf ps output (yes, tt)));
+    signature = record { lifetimes = suc m; outlives = []; params = node-slot ∷ plain (λ _. UInt w) ∷ slotsOf ps passed; result = plain (λ _. R) };
+    kept = (yes, (yes, keptOf ps passed (yes, tt)));
   }
 
   module _ (found : (κ₁ : Lfts 1) → Node → Denots (chosen κ₁) → ℕ) (answer : (κs : Lfts (suc m)) → Node → ℕ → Denots (rest κs) → R .Denot) (next : (κs : Lfts (suc m)) → Node → ℕ → Denots (rest κs) → Node) (written : (κs : Lfts (suc m)) → Node → ℕ → Denots (rest κs) → List ℕ) where
@@ -137,12 +129,12 @@ module _ {M : Type 1} (𝓤 : URA M) (H : Heap 𝓤) (A : Atoms 𝓤) (looker ca
     next-clauses κs a = record {
       ghost = Unit {0};
       requires = λ _. emp 𝓤;
-      ensures = λ _ r e. fact 𝓤 ((r ≡ answer κs (now (a .0)) (a .1 .0) (a .1 .1)) × (now (e .0) ≡ next κs (now (a .0)) (a .1 .0) (a .1 .1)) × (now (outsP κs ps output (yes, tt) (e .1 .1) .0) ≡ written κs (now (a .0)) (a .1 .0) (a .1 .1)));
+      ensures = λ _ r e. fact 𝓤 ((r ≡ answer κs (now (a .0)) (a .1 .0) (a .1 .1)) × (now (e .0) ≡ next κs (now (a .0)) (a .1 .0) (a .1 .1)) × (now (outsP κs ps passed (yes, tt) (e .1 .1) .0) ≡ written κs (now (a .0)) (a .1 .0) (a .1 .1)));
     }
 
     -- what follows for the function
     abbrev pub Says : (κs : Lfts (suc m)) (a : Args signature κs) → R .Denot → AtExit ended κs → ℕ → Type 0
-    Says κs a r e s = (r ≡ answer κs (now (a .0)) s (a .1)) × (now (e .0) ≡ next κs (now (a .0)) s (a .1)) × (now (outsP κs ps output (yes, tt) (e .1) .0) ≡ written κs (now (a .0)) s (a .1))
+    Says κs a r e s = (r ≡ answer κs (now (a .0)) s (a .1)) × (now (e .0) ≡ next κs (now (a .0)) s (a .1)) × (now (outsP κs ps passed (yes, tt) (e .1) .0) ≡ written κs (now (a .0)) s (a .1))
 
     module _ (Ens : (κs : Lfts (suc m)) (a : Args signature κs) → Res signature κs → AtExit ended κs → Type 0) where
       abbrev pub clauses : Clauses 𝓤 ended
@@ -159,7 +151,7 @@ module _ {M : Type 1} (𝓤 : URA M) (H : Heap 𝓤) (A : Atoms 𝓤) (looker ca
         a = (ref γ h b o, x)
 
         abbrev out : RefT (List ℕ)
-        out = tailOf ps output (κ, κs) x .0
+        out = out-of (suc m) j ok ps (κ, κs) x
 
         abbrev vss : Valss (rest (κ, κs))
         vss = valss (rest (κ, κs)) (spelt-out (κ, κs)) x
@@ -172,7 +164,7 @@ module _ {M : Type 1} (𝓤 : URA M) (H : Heap 𝓤) (A : Atoms 𝓤) (looker ca
 
         -- what the first is asked, for a lifetime that lasts for its call
         abbrev shown : (ν : ℕ) → Denots (chosen (ν ∷ [], tt))
-        shown ν = shownOf output (κ, κs) (ν ∷ [], tt) args x
+        shown ν = shownOf passed (κ, κs) (ν ∷ [], tt) args x
 
         abbrev shown-vals : (ν : ℕ) → Valss (chosen (ν ∷ [], tt))
         shown-vals ν = valss (chosen (ν ∷ [], tt)) (spellsOf (chosenOf args) [] (ν ∷ [], tt) tt) (shown ν)
@@ -190,7 +182,7 @@ module _ {M : Type 1} (𝓤 : URA M) (H : Heap 𝓤) (A : Atoms 𝓤) (looker ca
         lent : Are (rest (κ, κs)) (Ises (rest (κ, κs))) x vss → (ν : ℕ) (δ : GName) → ent 𝓤 (⋆ 𝓤 H A (‵ (flft (ν ∷ []) fullShare) ∷ ‵ (Shr (ν ∷ []) δ h b o) ∷ [])) (Looked .pre (to-look ν δ))
         lent are ν δ =
             qed W (‵ (flft (ν ∷ []) fullShare) ∷ ‵ (Shr (ν ∷ []) δ h b o) ∷ []) ∵
-            nothing ! $ move ! (1 ∷ 0 ∷ []) $ join ! $ use0 W (‵ (owns (chosen (ν ∷ [], tt)) (shown ν) (shown-vals ν))) (shown-made output (κ, κs) (ν ∷ [], tt) W args (slice-vals, tt) x are) $
+            nothing ! $ move ! (1 ∷ 0 ∷ []) $ join ! $ use0 W (‵ (owns (chosen (ν ∷ [], tt)) (shown ν) (shown-vals ν))) (shown-made passed (κ, κs) (ν ∷ [], tt) W args (slice-vals, tt) x are) $
             move ! (2 ∷ 0 ∷ []) $ fjoin ! $ move ! (1 ∷ 0 ∷ []) $ join ! $ frame ! $ done !
 
         handed : (s : ℕ) → ent 𝓤 (⋆ 𝓤 H A (‵ (All s) ∷ ‵ (flft κ q) ∷ raw (toks 𝓤 A m κs qs) ∷ [])) (Next .pre (to-next s))
@@ -198,10 +190,10 @@ module _ {M : Type 1} (𝓤 : URA M) (H : Heap 𝓤) (A : Atoms 𝓤) (looker ca
 
         -- the node and the output at exit
         abbrev last : Node → List ℕ → Lasts ended (κ, κs) a
-        last n ys = (n, lastOf ps output (yes, tt) (κ, κs) x (ys, tt))
+        last n ys = (n, lastOf ps passed (yes, tt) (κ, κs) x (ys, tt))
 
         abbrev final : (s : ℕ) → Lasts next-ended (κ, κs) (ref γ h b o, (s, x)) → List ℕ
-        final s ws = finsP (κ, κs) ps output (yes, tt) x (ws .1 .1) .0
+        final s ws = finsP (κ, κs) ps passed (yes, tt) x (ws .1 .1) .0
 
         -- what says the last values
         abbrev Lasting : Node → List ℕ → Fml
@@ -210,66 +202,66 @@ module _ {M : Type 1} (𝓤 : URA M) (H : Heap 𝓤) (A : Atoms 𝓤) (looker ca
         ends : (s : ℕ) (ws : Lasts next-ended (κ, κs) (ref γ h b o, (s, x))) → ent 𝓤 (sem 𝓤 H A (lasts next-ended (κ, κs) (ref γ h b o, (s, x)) ws)) (sem 𝓤 H A (Lasting (ws .0) (final s ws)))
         ends s ws =
             let left-out : Fml = fsep (finally u8 (out .name) (final s ws)) (feq ℕ (length (final s ws)) (length (out .now))) in
-            let left-all : Fml = lastsOf (κ, κs) (slotsOf ps output) (keptOf ps output (yes, tt)) x (ws .1 .1) in
-            monoR 𝓤 (sem 𝓤 H A (fres γ (T.the-row .coded .code (ws .0)))) (via 𝓤 (sem 𝓤 H A left-all) (snd∗ 𝓤 (emp 𝓤) (sem 𝓤 H A left-all)) (via 𝓤 (sem 𝓤 H A (fsep left-out ftrue)) (endsP (κ, κs) 𝓤 H A ps output (yes, tt) x (ws .1 .1)) (fst∗ 𝓤 (sem 𝓤 H A left-out) (emp 𝓤))))
+            let left-all : Fml = lastsOf (κ, κs) (slotsOf ps passed) (keptOf ps passed (yes, tt)) x (ws .1 .1) in
+            monoR 𝓤 (sem 𝓤 H A (fres γ (T.the-row .coded .code (ws .0)))) (via 𝓤 (sem 𝓤 H A left-all) (snd∗ 𝓤 (emp 𝓤) (sem 𝓤 H A left-all)) (via 𝓤 (sem 𝓤 H A (fsep left-out ftrue)) (endsP (κ, κs) 𝓤 H A ps passed (yes, tt) x (ws .1 .1)) (fst∗ 𝓤 (sem 𝓤 H A left-out) (emp 𝓤))))
 
         exits : (n : Node) (ys : List ℕ) (r : R .Denot) (v : Val) → length ys ≡ length (out .now) → Ens (κ, κs) a r (atExit ended (κ, κs) a (last n ys))
             → ent 𝓤 (⋆ 𝓤 H A (‵ (finally u8 (out .name) ys) ∷ ‵ (fres γ (T.the-row .coded .code n)) ∷ ‵ (R .own r (v ∷ [])) ∷ raw (alive 𝓤 H A (next-ended .signature) (κ, κs) (q, qs)) ∷ [])) (Post v)
         exits n ys r v l e =
             qed W (‵ (finally u8 (out .name) ys) ∷ ‵ (fres γ (T.the-row .coded .code n)) ∷ ‵ (R .own r (v ∷ [])) ∷ raw (alive 𝓤 H A (next-ended .signature) (κ, κs) (q, qs)) ∷ []) ∵
-            suffices ! _ (ends-at 𝓤 H A ended stayed clauses W (((κ, κs), (q, qs), tt, a, (vptr b o ∷ [], vss)), tt) v r (last n ys) (tt, fitOf ps output (yes, tt) held (κ, κs) x (ys, tt) (l, tt))) $ says ! e $
+            suffices ! _ (ends-at 𝓤 H A ended stayed clauses W (((κ, κs), (q, qs), tt, a, (vptr b o ∷ [], vss)), tt) v r (last n ys) (tt, fitOf ps passed (yes, tt) (held (suc m) j ok) (κ, κs) x (ys, tt) (l, tt))) $ says ! e $
             move ! (3 ∷ []) $ frame ! $ nothing ! $ move ! (1 ∷ 0 ∷ []) $ fjoin ! $
-            use1 W (‵ (hasOf (κ, κs) (slotsOf ps output) (keptOf ps output (yes, tt)) (staysOf ps output (yes, tt) held) x (lastOf ps output (yes, tt) (κ, κs) x (ys, tt)) vss)) (hadOf 𝓤 H A W ps output (yes, tt) held (κ, κs) x (ys, tt) vss) $
+            use1 W (‵ (hasOf (κ, κs) (slotsOf ps passed) (keptOf ps passed (yes, tt)) (staysOf ps passed (yes, tt) (held (suc m) j ok)) x (lastOf ps passed (yes, tt) (κ, κs) x (ys, tt)) vss)) (hadOf 𝓤 H A W ps passed (yes, tt) (held (suc m) j ok) (κ, κs) x (ys, tt) vss) $
             move ! (1 ∷ 0 ∷ []) $ fjoin ! $ frame ! $ done !
 
         pub walk : Are (rest (κ, κs)) (Ises (rest (κ, κs))) x vss → ((r : R .Denot) (v : Val) → Is R r (v ∷ []) → Typed ρ v) → Triple 𝓤 (C looker) Looked → Triple 𝓤 (C callee) Next
             → ((s : ℕ) (ν : ℕ) → s ≡ found (ν ∷ [], tt) h (shown ν) → (r : R .Denot) (n : Node) (ys : List ℕ) → Says (κ, κs) a r (atExit ended (κ, κs) a (last n ys)) s → Ens (κ, κs) a r (atExit ended (κ, κs) a (last n ys)))
             → ent 𝓤 (onEntry 𝓤 H A signature (κ, κs) (q, qs) a (vptr b o ∷ [], vss)) (WpFn 𝓤 H C Λ shape (vptr b o ∷ vals) Post)
         walk are typed k-look k-next so =
-            let room : Room u8 (length (out .now)) = areOf ps output (κ, κs) (slice-vals, tt) x are .0 .0 .1 in
+            let room : Room u8 (length (out .now)) = areOf ps passed (κ, κs) (slice-vals, tt) x are .0 .0 .1 in
             qed W ((‵ (flft κ q) ⊛ raw (toks 𝓤 A m κs qs)) ∷ ‵ (owns (MutRef (named 0) κ T.the-row ∷ rest (κ, κs)) a (vptr b o ∷ [], vss)) ∷ []) ∵
             move ! (1 ∷ []) $ fsplit ! $ fsplit3 ! $ drop ! $ move ! (3 ∷ []) $ split ! $ move ! (2 ∷ 3 ∷ 0 ∷ []) $
             -- [obs; the borrow; the token; the other tokens; the rest's]
             enter ! C Λ shape (vptr b o ∷ vals) _ $
-            alloc1 ! (λ l₀. alloc1 ! (λ l₁. alloc-all ! ps {ls = local passed-type valueLocal ∷ local (tyInt w) valueLocal ∷ local shown-type valueLocal ∷ local handed-type valueLocal ∷ local (tyRef erased mut (tyInt w8)) valueLocal ∷ local lent-type valueLocal ∷ []} (λ bs.
+            alloc1 ! (λ l₀. alloc1 ! (λ l₁. alloc-all ! ps {ls = local (passed-type j) valueLocal ∷ local (tyInt w) valueLocal ∷ local shown-type valueLocal ∷ local handed-type valueLocal ∷ local pointer-type valueLocal ∷ local lent-type valueLocal ∷ []} (λ bs.
             alloc1 ! (λ l₂. alloc1 ! (λ l₃. alloc1 ! (λ l₄. alloc1 ! (λ l₅. alloc1 ! (λ l₆. alloc1 ! (λ l₇.
-            let E₂ : Locals 𝓤 H = (passed-type, l₂) ∷ (tyInt w, l₃) ∷ (shown-type, l₄) ∷ (handed-type, l₅) ∷ (tyRef erased mut (tyInt w8), l₆) ∷ (lent-type, l₇) ∷ [] in
+            let E₂ : Locals 𝓤 H = (passed-type j, l₂) ∷ (tyInt w, l₃) ∷ (shown-type, l₄) ∷ (handed-type, l₅) ∷ (pointer-type, l₆) ∷ (lent-type, l₇) ∷ [] in
             let E₁ : Locals 𝓤 H = envOf ps bs E₂ in
             let E : Locals 𝓤 H = (ρ, l₀) ∷ (node-type, l₁) ∷ E₁ in
             let params-at : Skips (noLocal 𝓤 H) E 2 E₁ = skips-two (noLocal 𝓤 H) (ρ, l₀) (node-type, l₁) E₁ in
             let at : Skips (noLocal 𝓤 H) E first E₂ = behind (noLocal 𝓤 H) ps bs E E₂ 2 params-at in
-            alloc0 ! $ params1 ! $ pass1 ! (init ! 13 refl (tt, tt)) $ move ! (12 ∷ []) $ pass-all ! ps output (κ, κs) bs x (slice-vals, tt) {E = E₂} are (pass1 ! (init ! 11 refl (tt, (tt, (record { fits = room .0 }, tt)))) $ pass0 ! $
+            alloc0 ! $ params1 ! $ pass1 ! (init ! 13 refl (tt, tt)) $ move ! (12 ∷ []) $ pass-all ! ps passed (κ, κs) bs x (slice-vals, tt) {E = E₂} are (pass1 ! (init ! 11 refl (tt, (tt, (record { fits = room .0 }, tt)))) $ pass0 ! $
             -- [the parameters; room for the lent output; …; its pointer; …; the node handed on; …; the node shown; …; the number; …; the output; …; _1; …; _0; …; obs; the borrow; the token; the other tokens; the rest's]
             assigns ! (addr ! (from ! (hop ! (look ! 13 refl) (stop !)))) (from-at ! (shown-type, l₄) (at 2) (stop !)) (init ! 7 refl (tt, tt)) $
             move ! (17 ∷ 18 ∷ 19 ∷ []) $ shares-in ! tt h b o (λ ν δ. use2 W (raw (Looked .pre (to-look ν δ))) (lent are ν δ) $
             -- [what the first asks; what is kept; the parameters; …]
-            calls-at ! fm Looked k-look (to-look ν δ) (and-then ! (load ! (from-at ! (shown-type, l₄) (at 2) (stop !)) (look ! 9 refl)) (show-all output (κ, κs) (ν ∷ [], tt) ! 2 args bs x E₂ 2 refl params-at)) (λ v.
+            calls-at ! fm Looked k-look (to-look ν δ) (and-then ! (load ! (from-at ! (shown-type, l₄) (at 2) (stop !)) (look ! 9 refl)) (show-all passed (κ, κs) (ν ∷ [], tt) ! 2 args bs x E₂ 2 refl params-at)) (λ v.
             answered ! tt look-ended look-clauses (to-look ν δ) v (λ s _. s ≡ found (ν ∷ [], tt) h (shown ν)) (λ s _. id⊢ 𝓤 _) (λ s _ sized. peeks ! (UInt w) (Is (UInt w)) (shows 𝓤 H A (UInt w)) s (v ∷ []) (λ s-is.
             -- [the number; …; the token of the call; what is kept; the parameters; …]
             land ! (from-at ! (tyInt w, l₃) (at 1) (stop !)) (init ! 13 refl (uint-lawful 𝓤 H A W w .typed s _ s-is .0)) $ rewrite ! 13 (λ (u : Val). ‵ (fat fullShare (tyInt w) l₃ 0 u)) (ap only (s-is .0)) refl $
             move ! (2 ∷ 3 ∷ []) $ shared-back ! tt h b o $
             -- [obs; the borrow; the token; the number; …; the parameters; room for the lent output; …; its pointer; …; the node handed on; …; the node shown; …; the number; …; the output; …; _1; …; _0; …; the other tokens; the rest's]
             assigns ! (addr ! (from ! (hop ! (look ! 18 refl) (stop !)))) (from-at ! (handed-type, l₅) (at 3) (stop !)) (init ! 10 refl (tt, tt)) $
-            assigns ! (addr ! (from-at ! (passed-type, l₂) (at 0) (fld ! refl (hop ! (look-in ! 16 (sub ! 0 refl (whole !))) (stop !))))) (from-at ! (tyRef erased mut (tyInt w8), l₆) (at 4) (stop !)) (init ! 8 refl (tt, tt)) $
-            assigns ! (agg ! (and-then ! (load ! (from-at ! (tyRef erased mut (tyInt w8), l₆) (at 4) (stop !)) (look ! 8 refl)) (and-then ! (load ! (from-at ! (passed-type, l₂) (at 0) (fld ! refl (stop !))) (look-in ! 16 (sub ! 1 refl (whole !)))) (no-more !))))
+            assigns ! (addr ! (from-at ! (passed-type j, l₂) (at 0) (fld ! refl (hop ! (look-in ! 16 (sub ! 0 refl (whole !))) (stop !))))) (from-at ! (pointer-type, l₆) (at 4) (stop !)) (init ! 8 refl (tt, tt)) $
+            assigns ! (agg ! (and-then ! (load ! (from-at ! (pointer-type, l₆) (at 4) (stop !)) (look ! 8 refl)) (and-then ! (load ! (from-at ! (passed-type j, l₂) (at 0) (fld ! refl (stop !))) (look-in ! 16 (sub ! 1 refl (whole !)))) (no-more !))))
             (from-at ! (lent-type, l₇) (at 5) (stop !)) (init ! 6 refl (tt, (tt, (record { fits = room .0 }, tt)))) $
             move ! (23 ∷ []) $ owned ! (UInt w) (Is (UInt w)) (uint-makes 𝓤 H A W w) s _ (refl, s-is .1) $ fjoin ! $ move ! (1 ∷ 2 ∷ 0 ∷ []) $ feqI ! (List Val) (vptr b o ∷ []) (vptr b o ∷ []) refl $ fjoin3 ! $ fjoin ! $
             move ! (0 ∷ 1 ∷ 21 ∷ []) $ use3 W (raw (Next .pre (to-next s))) (handed s) $
             -- [what the second asks; the number; …; the parameters; …]
             calls-at ! fm Next k-next (to-next s)
-            (and-then ! (load ! (from-at ! (handed-type, l₅) (at 3) (stop !)) (look ! 8 refl)) (and-then ! (load ! (from-at ! (tyInt w, l₃) (at 1) (stop !)) (look ! 12 refl)) (ops-all ! 3 ps output (κ, κs) bs x (slice-vals, tt) E₂ 2 (copy (place (suc (suc (suc (suc (suc first))))) []) ∷ []) refl params-at
+            (and-then ! (load ! (from-at ! (handed-type, l₅) (at 3) (stop !)) (look ! 8 refl)) (and-then ! (load ! (from-at ! (tyInt w, l₃) (at 1) (stop !)) (look ! 12 refl)) (ops-all ! 3 ps passed (κ, κs) bs x (slice-vals, tt) E₂ 2 (copy (place (suc (suc (suc (suc (suc first))))) []) ∷ []) refl params-at
             (and-then ! (load ! (from-at ! (lent-type, l₇) (at 5) (stop !)) (look ! 4 refl)) (no-more !))))) (λ u.
             answered ! tt next-ended next-clauses (to-next s) u (λ r ws. (r ≡ answer (κ, κs) h s x) × (ws .0 ≡ next (κ, κs) h s x) × (final s ws ≡ written (κ, κs) h s x))
-            (λ r ws. subst (λ (e : Outs (κ, κs) output (yes, tt)). ent 𝓤 (next-clauses (κ, κs) (to-next s .0 .3) .ensures tt r (atExit next-ended (κ, κs) (to-next s .0 .3) ws)) (fact 𝓤 ((r ≡ answer (κ, κs) h s x) × (ws .0 ≡ next (κ, κs) h s x) × (now (e .0) ≡ written (κ, κs) h s x)))) (outs-fins (κ, κs) ps output (yes, tt) x (ws .1 .1)) (id⊢ 𝓤 _))
+            (λ r ws. subst (λ (e : Outs (κ, κs) passed (yes, tt)). ent 𝓤 (next-clauses (κ, κs) (to-next s .0 .3) .ensures tt r (atExit next-ended (κ, κs) (to-next s .0 .3) ws)) (fact 𝓤 ((r ≡ answer (κ, κs) h s x) × (ws .0 ≡ next (κ, κs) h s x) × (now (e .0) ≡ written (κ, κs) h s x)))) (outs-fins (κ, κs) ps passed (yes, tt) x (ws .1 .1)) (id⊢ 𝓤 _))
             (λ r ws e. peeks ! R (Is R) (shows 𝓤 H A R) r (u ∷ []) (λ r-is.
             -- [the result; the last values; the tokens; the number; …; the parameters; …]
             land ! (from ! (stop !)) (init ! 20 refl (typed r u r-is)) $ move ! (1 ∷ []) $ use1 W (‵ (Lasting (ws .0) (final s ws))) (ends s ws) $ fsplit ! $ move ! (1 ∷ []) $ fsplit ! $ move ! (1 ∷ []) $ feqL ! (λ l.
             -- [the output's last bytes; the node's last value; the result; the tokens; the number; …; the parameters; …]
             returns ! (look ! 21 refl) $ forget ! 7 refl $ forget ! 9 refl $ forget ! 11 refl $ forget ! 13 refl $ forget ! 15 refl $ forget ! 17 refl $ forget ! 19 refl $ forget ! 21 refl $
-            move ! (21 ∷ 22 ∷ []) $ free1 ! $ move ! (19 ∷ 20 ∷ []) $ free1 ! $ move ! (6 ∷ []) $ free-all ! ps output (κ, κs) bs x {E = E₂} (
+            move ! (21 ∷ 22 ∷ []) $ free1 ! $ move ! (19 ∷ 20 ∷ []) $ free1 ! $ move ! (6 ∷ []) $ free-all ! ps passed (κ, κs) bs x {E = E₂} (
             move ! (16 ∷ 17 ∷ []) $ free1 ! $ move ! (14 ∷ 15 ∷ []) $ free1 ! $ move ! (12 ∷ 13 ∷ []) $ free1 ! $ move ! (10 ∷ 11 ∷ []) $ free1 ! $ move ! (8 ∷ 9 ∷ []) $ free1 ! $ move ! (6 ∷ 7 ∷ []) $ free1 ! $ free0 ! $
             keep ! (0 ∷ 1 ∷ 2 ∷ 3 ∷ []) $ by ! (exits (ws .0) (final s ws) r u l (so s ν sized r (ws .0) (final s ws)
-            (e .0, e .1, subst (λ (f : Outs (κ, κs) output (yes, tt)). now (f .0) ≡ written (κ, κs) h s x) (sym (outs-last (κ, κs) ps output (yes, tt) x (final s ws, tt))) (e .2)))))))))))))))))))))))
+            (e .0, e .1, subst (λ (f : Outs (κ, κs) passed (yes, tt)). now (f .0) ≡ written (κ, κs) h s x) (sym (outs-last (κ, κs) ps passed (yes, tt) x (final s ws, tt))) (e .2)))))))))))))))))))))))
 
 -- the function meets its contract
 module _ {M : Type 1} (𝓤 : URA M) (H : Heap 𝓤) (𝓜 : Model 𝓤 H) (𝓖 : GhostRules 𝓤 H) (𝓡 : Running 𝓤 H 𝓜) (env : Env) (key looker callee : Name) (m j : ℕ) (ok : AllWithin (suc m) (j ∷ [])) (args : List (Arg 𝓤 H (𝓖 .A) (suc m))) (w : Width) (R : RattleType) (ρ : Ty)
@@ -293,16 +285,16 @@ module _ {M : Type 1} (𝓤 : URA M) (H : Heap 𝓤) (𝓜 : Model 𝓤 H) (𝓖
 
   pub looked-first : Closed 𝓤 H (tables 𝓤 H 𝓜 𝓡 env .C) (tables 𝓤 H 𝓜 𝓡 env .Λ) key (shape 𝓤 H A looker callee m j ok args w R ρ) → ((r : R .Denot) (v : Val) → Is R r (v ∷ []) → Typed ρ v)
       → Triple 𝓤 (tables 𝓤 H 𝓜 𝓡 env .C looker) Looker → Triple 𝓤 (tables 𝓤 H 𝓜 𝓡 env .C callee) Callee
-      → ((κs : Lfts (suc m)) (a : Args (the-ended .signature) κs) (s : ℕ) (κ₁ : Lfts 1) → s ≡ found κ₁ (now (a .0)) (shownOf (output 𝓤 H A looker callee m j ok args w R ρ) κs κ₁ args (a .1)) → (r : R .Denot) (e : AtExit the-ended κs)
+      → ((κs : Lfts (suc m)) (a : Args (the-ended .signature) κs) (s : ℕ) (κ₁ : Lfts 1) → s ≡ found κ₁ (now (a .0)) (shownOf (output (suc m) j ok) κs κ₁ args (a .1)) → (r : R .Denot) (e : AtExit the-ended κs)
       → Says 𝓤 H A looker callee m j ok args w R ρ found answer next written κs a r e s → Ens κs a r e)
       → Triple 𝓤 (tables 𝓤 H 𝓜 𝓡 env .C key) (tripleOf 𝓤 H A (the-ended .signature) (closing 𝓤 H A the-ended the-clauses))
   unfolding tablesOf
   looked-first closed typed k-look k-next so =
       let W : Given 𝓤 H A = givenOf 𝓤 H 𝓜 𝓖 in
       let ps : List (Param (suc m)) = paramsOf args in
-      let out : List (Slot (suc m)) = output 𝓤 H A looker callee m j ok args w R ρ in
+      let out : List (Slot (suc m)) = output (suc m) j ok in
       proved 𝓤 H 𝓜 𝓖 𝓡 env key (shape 𝓤 H A looker callee m j ok args w R ρ) the-ended the-clauses (stayed 𝓤 H A looker callee m j ok args w R ρ) closed
-      (goes-gave-ref 𝓤 H A W (suc m) 0 tt (plain (λ _. T.the-row)), goesOf 𝓤 H A W ps out (yes, tt) (held 𝓤 H A looker callee m j ok args w R ρ) (goes-gave-slice 𝓤 H A W (suc m) j ok (plain (λ _. u8)), tt))
+      (goes-gave-ref 𝓤 H A W (suc m) 0 tt (plain (λ _. T.the-row)), goesOf 𝓤 H A W ps out (yes, tt) (held (suc m) j ok) (goes-gave-slice 𝓤 H A W (suc m) j ok (plain (λ _. u8)), tt))
       (λ κs. (ptr-vals, spelt-out 𝓤 H A looker callee m j ok args w R ρ κs)) (λ κs. (mut-tells (named 0) (κs .0) T.the-row, tellsOf ps out κs (slice-vals, tt) ((λ x vs p. p .0 .0), tt)))
       (λ κs qs bounds a _ are. walk 𝓤 H A looker callee m j ok args w R ρ found answer next written Ens W (tables 𝓤 H 𝓜 𝓡 env .C) (tables 𝓤 H 𝓜 𝓡 env .Λ) (fmOf 𝓤 H (W .laws) (tablesOf 𝓤 H 𝓜 (tables 𝓤 H 𝓜 𝓡 env)))
       (κs .0) (κs .1) (qs .0) (qs .1) (a .0 .ptr .0) (a .0 .ptr .1) (a .0 .name) (a .0 .now) (a .1) (are .1) typed k-look k-next (λ s ν sized r n ys said. so κs a s (ν ∷ [], tt) sized r _ said))

@@ -1,5 +1,7 @@
 -- Answers as plain structs (R4): the number, 0 where the call is not refused, and the values that go
 -- with it; a value that an answer does not have is 0.
+use Rattle.header.specs.declared.wrap.Written.{Written}
+use Rattle.header.specs.declared.wrap.Written.the-variants as written
 use Rattle.hearing.specs.declared.HeardAnswer.{HeardAnswer}
 use Rattle.hearing.specs.declared.HeardAnswer.the-variants as heard
 use Rattle.asking.specs.declared.AskAnswer.{AskAnswer}
@@ -18,6 +20,7 @@ use Rattle.bogtrumpet.specs.declared.answers.Sent.{Sent}
 use Rattle.bogtrumpet.specs.declared.answers.Reported.{Reported}
 use Rattle.bogtrumpet.specs.declared.answers.Asked.{Asked}
 use Rattle.bogtrumpet.specs.declared.answers.Heard.{Heard}
+use Rattle.bogtrumpet.specs.declared.answers.Advertised.{Advertised}
 
 -- defaults belong to the settings (R2.10): the settings with the same locators, prefixes and routers, and defaults for the rest
 unfoldable pub defaultsOf : Settings → Settings
@@ -48,3 +51,8 @@ plainAsked (asked.Refused r) = record { number = numberOf r; router = 0 }
 abbrev pub plainHeard : HeardAnswer → Heard
 plainHeard (heard.Router router) = record { number = 0; router = router }
 plainHeard (heard.Refused r) = record { number = numberOf r; router = 0 }
+
+-- advertising answers the length written (R1.17)
+abbrev pub plainAdvertised : Written → Advertised
+plainAdvertised (written.Length length) = record { number = 0; length = length }
+plainAdvertised (written.Refused r) = record { number = numberOf r; length = 0 }

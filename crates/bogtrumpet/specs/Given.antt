@@ -8,6 +8,7 @@ use Rattle.bogtrumpet.specs.declared.answers.Sent.{Sent}
 use Rattle.bogtrumpet.specs.declared.answers.Reported.{Reported}
 use Rattle.bogtrumpet.specs.declared.answers.Asked.{Asked}
 use Rattle.bogtrumpet.specs.declared.answers.Heard.{Heard}
+use Rattle.bogtrumpet.specs.declared.answers.Advertised.{Advertised}
 
 -- of receiving: where the inner packet stands, and its length
 abbrev pub receivedBack : Received → Given
@@ -29,3 +30,7 @@ askedBack a = readBack (a .number) (a .router ∷ [])
 -- of an advertisement: the router that advertised
 abbrev pub heardBack : Heard → Given
 heardBack a = readBack (a .number) (a .router ∷ [])
+
+-- of advertising: the length of the advertisement written
+abbrev pub advertisedBack : Advertised → Given
+advertisedBack a = readBack (a .number) (a .length ∷ [])

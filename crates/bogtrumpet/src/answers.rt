@@ -1,11 +1,12 @@
 // Each call's answer as a struct of C: the number (R4), 0 where the call was not refused, and the values that go with it. A value
 // that an answer does not have is 0.
 use asking::AskAnswer;
+use header::wrap::Written;
 use hearing::HeardAnswer;
 use reports::ReportAnswer;
 use sending::SendAnswer;
 ghost use mathlib.Core.Path.{_≡_};
-ghost use Rattle.bogtrumpet.specs.Answers.{plainReceived, plainSent, plainReported, plainAsked, plainHeard};
+ghost use Rattle.bogtrumpet.specs.Answers.{plainReceived, plainSent, plainReported, plainAsked, plainHeard, plainAdvertised};
 
 // Where in the datagram the inner packet stands.
 #[repr(C)]
@@ -44,6 +45,13 @@ pub struct Asked {
 pub struct Heard {
     pub number: u8,
     pub router: u32,
+}
+
+// The length of the advertisement written.
+#[repr(C)]
+pub struct Advertised {
+    pub number: u8,
+    pub length: usize,
 }
 
 pub fn plain_received(answer: receiving::Received) -> Received
@@ -125,6 +133,18 @@ pub fn plain_heard(answer: HeardAnswer) -> Heard
         HeardAnswer::Refused(refusal) => Heard {
             number: refusal.number(),
             router: 0,
+        },
+    }
+}
+
+pub fn plain_advertised(answer: Written) -> Advertised
+    ensures { λ r. ⌜ r ≡ plainAdvertised answer ⌝ }
+{
+    match answer {
+        Written::Length(length) => Advertised { number: 0, length },
+        Written::Refused(refusal) => Advertised {
+            number: refusal.number(),
+            length: 0,
         },
     }
 }

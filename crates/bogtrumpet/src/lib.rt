@@ -1,18 +1,22 @@
 // The node for C and Rust: its calls under C names over a pointer to the node, which is changed in place. A `&[u8]` is a pointer and
 // a length in C, and so is a `&mut [u8]`. Each call hands the node by value to a function of `steps` and stores what this answers of it.
 pub mod answers;
+pub mod plain;
 mod sizes;
 pub mod steps;
 
+use answers::Advertised;
 use answers::Asked;
 use answers::Heard;
 use answers::Received;
 use answers::Reported;
 use answers::Sent;
 use node::Node;
+use plain::Advertisement;
 use settings::Settings;
 ghost use mathlib.Core.Path.{_≡_};
 ghost use lib.ListN.{length};
+ghost use Rattle.node.specs.Advertise.{advertiseOf, advertiseOutput};
 ghost use Rattle.node.specs.Ask.{askOf, askOutput};
 ghost use Rattle.node.specs.Hear.{hearOf};
 ghost use Rattle.node.specs.Node.{setupGiven, setupOf, pathSize};
@@ -21,7 +25,8 @@ ghost use Rattle.node.specs.Report.{reportOf};
 ghost use Rattle.node.specs.RouterList.{listGiven, replaceOf};
 ghost use Rattle.node.specs.Send.{sendOf, sendOutput, pathSizeToward};
 ghost use Rattle.sending.specs.Sending.{sentOutput};
-ghost use Rattle.bogtrumpet.specs.Answers.{defaultsOf, plainReceived, plainSent, plainReported, plainAsked, plainHeard};
+ghost use Rattle.bogtrumpet.specs.Answers.{defaultsOf, plainReceived, plainSent, plainReported, plainAsked, plainHeard, plainAdvertised};
+ghost use Rattle.bogtrumpet.specs.Plain.{advertisementFrom};
 ghost use Rattle.bogtrumpet.specs.Steps.{sentStep, storedAfter};
 
 // An IPv6 address.
@@ -192,4 +197,19 @@ pub extern "C" fn bogtrumpet_hear(node: &mut Node, packet: &[u8], time: u32) -> 
     let step = steps::heard(*node, packet, time);
     *node = step.node;
     step.answer
+}
+
+// Answers a router solicitation with an advertisement: Node::advertise.
+#[no_mangle]
+pub extern "C" fn bogtrumpet_advertise(
+    node: &Node,
+    packet: &[u8],
+    locator: usize,
+    advertisement: Advertisement,
+    out: &mut [u8],
+) -> Advertised
+    ensures { λ r. ⌜ (r ≡ plainAdvertised (advertiseOf (now (node .entry)) (now (packet .entry)) locator (advertisementFrom advertisement) (length (now (out .entry)))))
+        × (now (out .exit) ≡ advertiseOutput (now (node .entry)) (now (packet .entry)) locator (advertisementFrom advertisement) (now (out .entry))) ⌝ }
+{
+    steps::advertised(*node, packet, locator, advertisement, out)
 }

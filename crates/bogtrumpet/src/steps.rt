@@ -2,15 +2,19 @@
 use super::Address;
 use super::Addresses;
 use super::answers;
+use super::answers::Advertised;
 use super::answers::Asked;
 use super::answers::Heard;
 use super::answers::Received;
 use super::answers::Reported;
 use super::answers::Sent;
+use super::plain;
+use super::plain::Advertisement;
 use node::Node;
 use settings::Settings;
 ghost use mathlib.Core.Path.{_≡_};
 ghost use lib.ListN.{length};
+ghost use Rattle.node.specs.Advertise.{advertiseOf, advertiseOutput};
 ghost use Rattle.node.specs.Ask.{askOf, askOutput};
 ghost use Rattle.node.specs.Hear.{hearOf};
 ghost use Rattle.node.specs.Node.{setupOf};
@@ -18,7 +22,8 @@ ghost use Rattle.node.specs.Receive.{receiveOf};
 ghost use Rattle.node.specs.Report.{reportOf};
 ghost use Rattle.node.specs.RouterList.{replaceOf};
 ghost use Rattle.sending.specs.Sending.{sentOutput};
-ghost use Rattle.bogtrumpet.specs.Answers.{plainReceived};
+ghost use Rattle.bogtrumpet.specs.Answers.{plainReceived, plainAdvertised};
+ghost use Rattle.bogtrumpet.specs.Plain.{advertisementFrom};
 ghost use Rattle.bogtrumpet.specs.Steps.{madeStep, sentStep, reportedStep, replacedStep, askedStep, heardStep};
 
 // A number, and the next node.
@@ -140,4 +145,18 @@ pub fn heard(n: Node, packet: &[u8], time: u32) -> HeardStep
     let node = heard.node;
     let answer = answers::plain_heard(given);
     HeardStep { answer, node }
+}
+
+pub fn advertised(
+    n: Node,
+    packet: &[u8],
+    locator: usize,
+    advertisement: Advertisement,
+    out: &mut [u8],
+) -> Advertised
+    ensures { λ r. ⌜ (r ≡ plainAdvertised (advertiseOf n (now (packet .entry)) locator (advertisementFrom advertisement) (length (now (out .entry)))))
+        × (now (out .exit) ≡ advertiseOutput n (now (packet .entry)) locator (advertisementFrom advertisement) (now (out .entry))) ⌝ }
+{
+    let told = plain::advertisement_from(advertisement);
+    answers::plain_advertised(n.advertise(packet, locator, told, out))
 }
