@@ -6,6 +6,7 @@ from pathlib import Path
 
 sys.dont_write_bytecode = True
 
+import vectors_advertisements as advertisements  # noqa: E402
 import vectors_routers as routers  # noqa: E402
 import vectors_rules as rules  # noqa: E402
 from vectors_cases import cases, lines  # noqa: E402
@@ -13,10 +14,11 @@ from vectors_cases import cases, lines  # noqa: E402
 
 def main():
     for part in (rules.checksums, rules.outer_headers, rules.received, rules.sent, rules.addresses, rules.wrapped, rules.messages,
-                 rules.path_sizes, routers.next_due, routers.replaced, routers.listed, routers.many_routers, routers.lifetimes):
+                 rules.path_sizes, routers.next_due, routers.replaced, routers.listed, routers.many_routers, routers.lifetimes,
+                 advertisements.advertisements, advertisements.solicitations):
         part()
     data, text = b"".join(cases), "\n".join(lines) + "\n"
-    assert len(data) <= 65536, "the program reads 65,536 bytes"
+    assert len(data) <= 131072, "the program reads 131,072 bytes"
     crate = Path(__file__).resolve().parent.parent / "crates" / "test_vectors"
     (crate / "stdin").write_bytes(data)
     (crate / "stdout").write_text(text)

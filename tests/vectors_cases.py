@@ -4,11 +4,11 @@ import random
 import struct
 
 KINDS = ["", "right", "forbidden", "bad_source", "packet_malformed", "may_draw_error", "distinct", "options_whole",
-         "inner_malformed", "dont_fragment"]
+         "inner_malformed", "dont_fragment", "is_solicitation"]
 KIND = {name: i for i, name in enumerate(KINDS)}
 for first, names in [(20, "sum complement read_outer header total source destination largest_packet embedded candidate"
                           " smallest due_after"),
-                     (40, "link_local inner_packet wrap wrap_zeros too_big solicitation"),
+                     (40, "link_local inner_packet wrap wrap_zeros too_big solicitation advertisement"),
                      (50, "list_new list_replaced list_rescheduled lists next")]:
     KIND.update((name, first + i) for i, name in enumerate(names.split()))
 

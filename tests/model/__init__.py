@@ -6,7 +6,7 @@ Each module imports only those above it:
     rules           settings, and what a packet must be and how one is written
     node            the node: its calls, path sizes by the plain record
     formats         the inputs and lines of `replay` and of the program (R17)
-    builders        datagrams, packets, reports and advertisements from their fields
+    builders        datagrams, packets, reports, advertisements and solicitations from their fields
     faults          for each number the changes of fields that bring it about
     calls           lists of calls in the making
     scenarios       runs of calls that show one rule

@@ -1,4 +1,5 @@
-"""Datagrams, packets, size reports and advertisements from their fields, right or wrong ones: each is built here and nowhere else.
+"""Datagrams, packets, size reports, advertisements and solicitations from their fields, right or wrong ones: each is built here and
+nowhere else.
 
 `spoil` is added to the right checksum; with None the field stays 0. `length` and `total` stand in the length fields in place of the
 right lengths.
@@ -35,9 +36,18 @@ def report(candidate, source, neighbour, total=1500, kind=3, code=4, unused=byte
     return (message[:2] + spoiled(checksum_field(message), spoil) + message[4:])[:len(message)]
 
 
-def advertisement(source, destination, lifetime=0, options=(), kind=134, code=0, free=bytes(10), message_cut=None, spoil=0, **fields):
+def advertisement(source, destination, lifetime=0, options=(), kind=134, code=0, free=bytes(10), **fields):
     """A router advertisement in its IPv6 packet; `free` are hop limit, flags, reachable time and retransmission timer."""
-    message = bytes([kind, code, 0, 0]) + free[:2] + u16(lifetime) + free[2:] + b"".join(options)
+    return discovery(source, destination, bytes([kind, code, 0, 0]) + free[:2] + u16(lifetime) + free[2:] + b"".join(options), **fields)
+
+
+def solicitation(source, destination, options=(), kind=133, code=0, free=bytes(4), **fields):
+    """A router solicitation in its IPv6 packet; `free` is its reserved field."""
+    return discovery(source, destination, bytes([kind, code, 0, 0]) + free + b"".join(options), **fields)
+
+
+def discovery(source, destination, message, message_cut=None, spoil=0, **fields):
+    """A message of neighbour discovery, of which `message_cut` bytes are there, in its IPv6 packet."""
     message = message[:message_cut]
     check = checksum_field(pseudo_header(source, destination, len(message)) + message)
     payload = (message[:2] + spoiled(check, spoil) + message[4:])[:len(message)]
@@ -47,7 +57,7 @@ def advertisement(source, destination, lifetime=0, options=(), kind=134, code=0,
     return packet(source, destination, payload, **fields)
 
 
-# ---- Options of an advertisement
+# ---- Options
 
 def option(kind, length, lifetime, rest=b"\1"):
     """Eight bytes a unit; the lifetime stands in bytes 4 to 7."""
@@ -61,3 +71,14 @@ def route_option(length, lifetime):
 def prefix_option(length, lifetime):
     """A small preferred lifetime stands behind the valid one."""
     return (bytes([3, length, 64, 0xc0]) + u32(lifetime) + u32(3) + bytes(8 * length))[:8 * length]
+
+
+# ---- What an operator sets of an advertisement
+
+def operator_prefix(length=64, flags=0xc0, valid=2592000, preferred=604800, prefix=b"\xff" * 16):
+    return length, flags, valid, preferred, prefix
+
+
+def operator_route(length=48, preference=0, lifetime=1800, prefix=b"\xff" * 16):
+    """Preference 0 is medium, 1 high, 2 low."""
+    return length, preference, lifetime, prefix

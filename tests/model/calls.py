@@ -3,11 +3,12 @@
 Where the answer is known from the faults alone it is compared with the model's, so that the model is not the only one to
 say it.
 """
-from .builders import advertisement, datagram, option, packet, prefix_option, report, route_option
-from .faults import PLATEAU_BELOW
+from .builders import advertisement, datagram, operator_prefix, operator_route, option, packet, prefix_option, report, route_option, solicitation
+from .faults import LENGTHS, LIFETIMES, PLATEAU_BELOW
 from .formats import answer, encode_call, encode_settings
 from .node import Node
 from .octets import LINK_LOCAL, dotted, forbidden, isatap_address, link_local
+from .rules import Advertisement
 
 LAST_SECOND = 0xffffffff
 ISATAP_IDENTIFIERS = ("00005efe", "02005efe")
@@ -36,8 +37,15 @@ def report_of(f):
 
 def advertisement_of(f):
     whole = advertisement(f["source6"], f["destination6"], f["lifetime"], f["options"], f["type"], f["code"], f["free"],
-                          f["message_cut"], f["spoil"], version=f["version6"], flow=f["flow"], next_header=f["next_header"],
-                          hop_limit=f["hop_limit"], payload_error=f["payload_error"])
+                          message_cut=f["message_cut"], spoil=f["spoil"], version=f["version6"], flow=f["flow"],
+                          next_header=f["next_header"], hop_limit=f["hop_limit"], payload_error=f["payload_error"])
+    return (whole + f["tail"])[:f["cut"]]
+
+
+def solicitation_of(f):
+    whole = solicitation(f["source6"], f["destination6"], f["options"], f["type"], f["code"], f["free"], message_cut=f["message_cut"],
+                         spoil=f["spoil"], version=f["version6"], flow=f["flow"], next_header=f["next_header"],
+                         hop_limit=f["hop_limit"], payload_error=f["payload_error"])
     return (whole + f["tail"])[:f["cut"]]
 
 
@@ -218,4 +226,40 @@ class Calls:
             f.update(free=f["free"][:2] + advertisement_of(f)[42:44] + f["free"][4:], spoil=f["zero_check"])
         data = advertisement_of(f)
         self.call("advertisement", time, data, want=f"refuse {faults[-1][0]}" if faults else dotted(router))
+        return data
+
+    # Advertising
+
+    def operator_prefix(self):
+        return operator_prefix(self.random.choice(LENGTHS + (self.random.randrange(129),)), self.random.randrange(256),
+                               self.random.choice(LIFETIMES + (self.lifetimes(),)), self.random.choice(LIFETIMES), self.some(16))
+
+    def operator_route(self):
+        return operator_route(self.random.choice(LENGTHS + (self.random.randrange(129),)), self.random.randrange(3),
+                              self.random.choice(LIFETIMES + (self.lifetimes(),)), self.some(16))
+
+    def operator_fields(self):
+        """What the operator sets of an advertisement."""
+        counts = [self.random.choice((0, 1, 2, 3, 8)) for _ in range(2)]
+        return {"flags": self.random.randrange(256), "lifetime": self.random.randrange(65536),
+                "prefixes": [self.operator_prefix() for _ in range(counts[0])], "routes": [self.operator_route() for _ in range(counts[1])]}
+
+    def advertise(self, faults=(), variation=None):
+        asker = self.fresh()
+        f = self.packet_fields(isatap_address(LINK_LOCAL, self.random.choice(ISATAP_IDENTIFIERS), asker), self.some(16), b"")
+        f.update(self.operator_fields(), address=asker, index=self.random.randrange(len(self.settings.locators)), next_header=58,
+                 hop_limit=255, type=133, code=0, spoil=0, message_cut=None, free=self.some(4), short=0,
+                 options=[self.option() for _ in range(self.random.randrange(3))], tail=self.some(self.random.choice((0, 0, 1, 9))))
+        self.change(f, variation or {})
+        for _, changes in faults:
+            self.change(f, changes)
+        if "zero_check" in f and not faults:
+            f.update(free=bytes(4))
+            f.update(free=solicitation_of(f)[42:44] + bytes(2), spoil=f["zero_check"])
+        operator = Advertisement(f["flags"], f["lifetime"], f["prefixes"], f["routes"])
+        written = 56 + 32 * len(operator.prefixes) + sum(8 if one[0] == 0 else 16 if one[0] <= 64 else 24 for one in operator.routes)
+        room = max(0, written - f["short"]) if f["short"] else min(65535, written + self.random.choice((0, 0, 1, 50)))
+        numbers = [number for number in (8, 11, 24, 25, 26, 15) if number in [fault for fault, _ in faults]]
+        data = solicitation_of(f)
+        self.call("advertise", f["index"], room, operator, data, want=f"refuse {numbers[0]}" if numbers else f"written {written}")
         return data

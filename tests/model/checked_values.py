@@ -6,7 +6,7 @@ from . import builders
 from .formats import answer, digest, encode_datagrams, lent, program, replay
 from .node import Node
 from .octets import LINK_LOCAL, LOOPBACK, checksum_field, checksum_right, isatap_address, link_local, pseudo_header, u16
-from .rules import Settings, wrapped
+from .rules import Advertisement, Settings, wrapped
 
 OWN, PEER, ROUTER = bytes((10, 0, 0, 1)), bytes((10, 0, 0, 2)), bytes((10, 0, 0, 9))
 
@@ -16,6 +16,7 @@ ANSWERS = {"receive": ["deliver"] + [f"refuse {number}" for number in range(2, 1
            "report": ["accepted"] + [f"refuse {number}" for number in (16, 17, 18, 19)],
            "routers": ["accepted", "refuse 1"], "ask": ["answered"] + [f"refuse {number}" for number in (11, 22, 15)],
            "advertisement": ["answered"] + [f"refuse {number}" for number in (8, 20, 21)],
+           "advertise": ["written"] + [f"refuse {number}" for number in (8, 11, 24, 25, 26, 15)],
            "size": ["answered"], "settings": ["refuse 1"], "bad": ["input"]}
 
 
@@ -161,8 +162,28 @@ def time_checks():
     yield "half of the router's lifetime", one.routers, [(ROUTER, 0xffffffff + 900)]
 
 
+def advertise_checks():
+    """The circle: a node asks, the router answers, and the node hears it. The answer's bytes by hand, as RFC 4861 and RFC 4191 say."""
+    one, router = node(), Node(Settings([(ROUTER, 0)], [], []))
+    asking, answer = lent(48), lent(506)
+    one.ask(0, 1000, asking)
+    yield "asking again, none due", said(one, "ask", 0, 1000, 0), "refuse 22 811c9dc5"
+    operator = Advertisement(0xff, 0, [(65, 0x7f, 7200, 300, b"\xff" * 16)], [(0, 1, 0xffffffff, b"\xff" * 16), (1, 2, 9000, b"\xff" * 16)])
+    yield "advertising: the length", router.advertise(0, answer, operator, bytes(asking)), "written 112"
+    yield "advertising: the bytes", (bytes(answer[:42]) + bytes(answer[44:112])).hex(), (
+        "6000000000483aff" "fe8000000000000000005efe0a000009" "fe8000000000000000005efe0a000001" "8600" "00c00000" "0000000000000000"
+        "03044140" "00001c20" "0000012c" "00000000" "ffffffffffffffff8000000000000000" "18010008" "ffffffff" "18020118" "00002328" "8000000000000000")
+    yield "advertising: checksum", checksum_right(pseudo_header(link_local(ROUTER), link_local(OWN), 72) + answer[40:112]), True
+    yield "advertising: bytes behind it", bytes(answer[112:]), b"\xa5" * 394
+    yield "advertising: heard", one.advertisement(1000, bytes(answer[:112])), "10.0.0.9"
+    yield "advertising: due after half the valid lifetime", one.routers, [(ROUTER, 1000 + 3600)]
+    most = Advertisement(0, 0, [(64, 0, 0, 0, bytes(16))] * 8, [(65, 0, 0, bytes(16))] * 8)
+    yield "advertising: at most 504 bytes", router.advertise(0, answer, most, bytes(asking)), "written 504"
+
+
 def replay_checks():
     start = u16(1) + OWN + b"\0" + u16(0) + u16(0) + u16(1500) + b"\x40" + u16(120) + u16(1)
+    asking = builders.solicitation(link_local(PEER), link_local(OWN))
     yield "FNV-1a of `foobar`", digest(b"foobar"), "bf9cf968"
     yield "RFC 1071's example", checksum_field(bytes.fromhex("0001f203f4f5f6f7")).hex(), "220d"
     yield "settings without calls", replay(start + b"\0"), []
@@ -172,13 +193,20 @@ def replay_checks():
     yield "size", replay(start + b"\0\x07" + PEER), ["size 1500"]
     calls = (b"\1\0" + u16(60) + example() + b"\2\0" + bytes(4) + link_local(PEER) + u16(60) + u16(40) + packet(40)
              + b"\3\0\0\0\1" + u16(36) + report(700) + b"\4\0\0\0\2" + u16(1) + ROUTER + b"\5\0\0\0\0\3" + u16(0)
-             + b"\6\0\0\0\4" + u16(0) + b"\7" + PEER)
+             + b"\6\0\0\0\4" + u16(0) + b"\7" + PEER + b"\x08\0" + u16(0) + b"\xff" + u16(1800) + u16(1) + bytes(26) + u16(1) + bytes(22)
+             + u16(0) + b"\x08\1" + u16(1) + bytes(3) + u16(0) + u16(0) + u16(48) + asking)
     yield "one call of each kind, by hand", replay(start + b"\0" + calls), [
         "receive deliver 20 40", "send wrapped 60 " + digest(wrapped(packet(40), 1, True, 64, OWN, PEER)),
-        "report accepted 10.0.0.2 700", "routers accepted 1", "ask refuse 15 811c9dc5", "advertisement refuse 8", "size 700"]
+        "report accepted 10.0.0.2 700", "routers accepted 1", "ask refuse 15 811c9dc5", "advertisement refuse 8", "size 700",
+        "advertise refuse 8 811c9dc5", "advertise refuse 11 " + digest(b"\xa5")]
+    for text, routes, given in (("a preference of 2", [2], "advertise refuse 15 811c9dc5"), ("a preference of 3", [3], "bad input"),
+                                ("a preference of 3 in the ninth place", [0] * 8 + [3], "bad input"),
+                                ("nine routes", [0] * 9, "advertise refuse 26 811c9dc5"), ("256 routes", [1] * 256, "advertise refuse 26 811c9dc5")):
+        entries = b"".join(bytes([0, preference]) + bytes(20) for preference in routes)
+        yield text, replay(start + b"\0\x08\0" + u16(0) + bytes(3) + u16(0) + u16(len(routes)) + entries + u16(48) + asking), [given]
 
 
-CHECKS = (size_checks, report_checks, neighbour_checks, receive_checks, program_checks, message_checks, time_checks, replay_checks)
+CHECKS = (size_checks, report_checks, neighbour_checks, receive_checks, program_checks, message_checks, time_checks, advertise_checks, replay_checks)
 
 
 def checked():

@@ -3,8 +3,10 @@ which needs a packet of 65,516 bytes (the named input `longest_packets`), and 18
 
 tests/double_faults.txt has them as text, for other implementations to read.
 """
-from .builders import advertisement, datagram, packet, report
+from .builders import advertisement, datagram, operator_prefix, operator_route, packet, report, solicitation
+from .formats import encode_operator
 from .octets import LINK_LOCAL, LOOPBACK, isatap_address, link_local
+from .rules import Advertisement
 
 OWN, PEER, OTHER = (bytes((10, 0, 0, last)) for last in (1, 2, 3))
 LOCAL_HOST = bytes((127, 0, 0, 1))
@@ -19,6 +21,8 @@ HEAD = """# Calls with two faults. Each line is one call, at time 0, on a new no
 #   report FIRST SECOND MESSAGE
 #   ask FIRST SECOND LOCATOR ROOM
 #   advertisement FIRST SECOND PACKET
+#   advertise FIRST SECOND LOCATOR ROOM ADVERTISEMENT PACKET
+# ADVERTISEMENT, what the operator sets, is laid out as in an input of `replay` (docs/REPLAY.md). `advertise` has no time.
 # 14 is the answer Too Big with its size and the length written: here 1480, and 1280 where the packet's source can get a message.
 """
 
@@ -38,6 +42,11 @@ def reported(first, second, candidate=600, source=OWN, neighbour=PEER, **fields)
 
 def advertised(first, second, source6=link_local(PEER), **fields):
     return first, second, advertisement(source6, link_local(OWN), 1800, **fields)
+
+
+def answered(first, second, index=0, room=600, source6=link_local(PEER), prefixes=(operator_prefix(),), routes=(operator_route(),), **fields):
+    packet = solicitation(source6, link_local(OWN), **fields)
+    return first, second, index, room, Advertisement(0x80, 1800, list(prefixes), list(routes)), packet
 
 
 RECEIVED = [
@@ -75,14 +84,31 @@ ADVERTISED = [
     advertised(20, 21, hop_limit=254), advertised(20, 21, spoil=1), advertised(20, 21, kind=133), advertised(20, 21, code=1),
     advertised(20, 21, options=[b"\1\0" + bytes(6)]), advertised(20, 21, next_header=59), advertised(20, 21, message_cut=15),
     advertised(20, 21, source6=isatap_address(PREFIX, "00005efe", PEER))]
+LINK_LAYER, PREFIXED = [b"\1\1" + bytes(6)], isatap_address(PREFIX, "00005efe", PEER)
+NINE, LONG, LONG_ROUTE = [operator_prefix()] * 9, [operator_prefix(129)], [operator_route(129)]
+ANSWERED = [
+    answered(8, 11, version=4, index=1), answered(8, 11, payload_error=1, index=255), answered(8, 24, version=4, hop_limit=254),
+    answered(8, 24, payload_error=1, kind=134), answered(8, 25, version=4, source6=PREFIXED), answered(8, 26, version=4, prefixes=NINE),
+    answered(8, 15, version=4, room=0),
+    answered(11, 24, index=1, hop_limit=254), answered(11, 24, index=1, spoil=1), answered(11, 24, index=255, source6=bytes(16), options=LINK_LAYER),
+    answered(11, 25, index=1, source6=PREFIXED), answered(11, 26, index=1, routes=LONG_ROUTE), answered(11, 15, index=1, room=0),
+    answered(24, 25, next_header=59, source6=PREFIXED), answered(24, 25, hop_limit=254, source6=PREFIXED), answered(24, 25, spoil=1, source6=PREFIXED),
+    answered(24, 25, kind=134, source6=bytes(16)), answered(24, 25, code=1, source6=LOOPBACK), answered(24, 25, message_cut=7, source6=PREFIXED),
+    answered(24, 25, options=[b"\5\0" + bytes(6)], source6=PREFIXED), answered(24, 25, options=[b"\5\1" + bytes(7)], source6=bytes(16)),
+    answered(24, 25, source6=bytes(16), options=LINK_LAYER), answered(24, 26, hop_limit=254, prefixes=NINE), answered(24, 15, spoil=1, room=0),
+    answered(25, 26, source6=PREFIXED, prefixes=NINE), answered(25, 26, source6=bytes(16), routes=[operator_route()] * 9),
+    answered(25, 26, source6=isatap_address(LINK_LOCAL, "01005efe", PEER), prefixes=LONG), answered(25, 26, source6=LOOPBACK, routes=LONG_ROUTE),
+    answered(25, 15, source6=PREFIXED, room=0), answered(25, 15, source6=bytes(16), room=103),
+    answered(26, 15, prefixes=NINE, room=0), answered(26, 15, prefixes=NINE, room=359), answered(26, 15, routes=[operator_route()] * 9, room=231),
+    answered(26, 15, prefixes=LONG, room=103), answered(26, 15, routes=LONG_ROUTE, room=0)]
 CALLS = [(name, call) for name, calls in (("receive", RECEIVED), ("send", SENT), ("report", REPORTED), ("ask", ASKED),
-                                          ("advertisement", ADVERTISED)) for call in calls]
+                                          ("advertisement", ADVERTISED), ("advertise", ANSWERED)) for call in calls]
 
 
 def arguments(name, call):
-    """The arguments of the call at time 0."""
+    """The arguments of the call, at time 0 if it has a time."""
     rest = list(call[2:])
-    place = {"receive": None, "send": 1, "report": 0, "ask": 1, "advertisement": 0}[name]
+    place = {"send": 1, "report": 0, "ask": 1, "advertisement": 0}.get(name)
     if place is not None:
         rest.insert(place, 0)
     return rest
@@ -96,5 +122,8 @@ def make(calls):
 
 def lines():
     """The text of tests/double_faults.txt."""
-    shown = [" ".join([name] + [(part.hex() or "-") if isinstance(part, bytes) else str(part) for part in call]) for name, call in CALLS]
+    def word(part):
+        part = encode_operator(part) if isinstance(part, Advertisement) else part
+        return (part.hex() or "-") if isinstance(part, bytes) else str(part)
+    shown = [" ".join([name] + [word(part) for part in call]) for name, call in CALLS]
     return (HEAD + "".join(line + "\n" for line in shown)).encode()

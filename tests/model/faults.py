@@ -3,6 +3,7 @@
 A call is built from named fields. A fault is a number with changes to fields; a variation changes fields and keeps the
 call accepted.
 """
+from .builders import operator_prefix, operator_route, option
 from .octets import LINK_LOCAL, LOOPBACK, UNSPECIFIED, isatap_address, link_local
 
 FORBIDDEN = [bytes(parts) for parts in ((0, 0, 0, 0), (127, 0, 0, 0), (127, 0, 0, 1), (127, 255, 255, 255), (224, 0, 0, 0),
@@ -115,5 +116,44 @@ ADVERTISEMENT_FAULTS = (
              *one_of("message_cut", (0, 1, 4, 8, 15)), *one_of("options", BROKEN_OPTIONS),
              *one_of("source6", (off_link, GLOBAL)), {"source6": lambda calls, f: isatap_address(calls.prefix(False), "00005efe", f["address"])})
     + faults(21, UNLISTED, *NOT_ISATAP))
-FAULTS = {"receive": RECEIVE_FAULTS, "send": SEND_FAULTS, "report": REPORT_FAULTS, "advertisement": ADVERTISEMENT_FAULTS}
-VARIATIONS = {"receive": RECEIVE_VARIATIONS, "report": REPORT_VARIATIONS, "advertisement": one_of("zero_check", (0, 0xffff))}
+
+# Advertising; `short` bytes of room missing
+
+LENGTHS = (0, 1, 7, 8, 9, 63, 64, 65, 71, 72, 73, 127, 128)
+LIFETIMES = (0, 1, 0x80000000, 0xfffffffe, 0xffffffff)
+SOURCE_LINK_LAYER = [[b"\1\1" + bytes(6)], [b"\1\2" + bytes(14)], [option(5, 2, 9), b"\1\1" + bytes(6)], [b"\1\4" + bytes(30), option(24, 1, 9)]]
+NO_SOURCE_LINK_LAYER = [[], [b"\2\1" + bytes(6)], [option(5, 2, 1, b"\1")], [b"\0\1" + b"\1" * 6, b"\xff\1\1\1\1\1\1\1"]]
+TOO_MANY = [{"prefixes": [operator_prefix()] * 9}, {"routes": [operator_route()] * 9}, {"prefixes": [operator_prefix()] * 9, "routes": [operator_route()] * 9},
+            {"prefixes": [operator_prefix(0)] * 17, "routes": []}, {"prefixes": [], "routes": [operator_route(0)] * 16}]
+TOO_LONG = [{"prefixes": [operator_prefix(129)]}, {"prefixes": [operator_prefix()] * 7 + [operator_prefix(255)]}, {"prefixes": [operator_prefix(192), operator_prefix()]},
+            {"routes": [operator_route(129)]}, {"routes": [operator_route()] * 7 + [operator_route(255)]}, {"routes": [operator_route(130), operator_route()]}]
+ADVERTISE_FAULTS = (
+    faults(8, *one_of("cut", (0, 39)), *one_of("version6", (4, 7)), {"payload_error": 1, "tail": b""})
+    + faults(11, {"index": lambda calls, f: len(calls.settings.locators)}, {"index": 255})
+    + faults(24, *one_of("next_header", (0, 17, 57, 59)), *one_of("hop_limit", (0, 1, 64, 254)), *one_of("spoil", (1, 0x100, None)), *one_of("type", (132, 134, 135)),
+             *one_of("code", (1, 255)), *one_of("message_cut", (0, 1, 4, 6, 7)), *one_of("options", BROKEN_OPTIONS),
+             *[{"source6": UNSPECIFIED, "options": options} for options in SOURCE_LINK_LAYER])
+    + faults(25, *[{"source6": UNSPECIFIED, "options": options} for options in NO_SOURCE_LINK_LAYER], *NOT_ISATAP,
+             *one_of("source6", (off_link, GLOBAL, LOOPBACK, MULTICAST, LINK_LOCAL + bytes(7) + b"\1", bytes(12) + b"\x0a\1\1\1")),
+             {"source6": lambda calls, f: isatap_address(calls.prefix(False), "00005efe", f["address"])})
+    + faults(26, *TOO_MANY, *TOO_LONG)
+    + faults(15, *one_of("short", (1, 2, 600))))
+ADVERTISE_VARIATIONS = (
+    one_of("zero_check", (0, 0xffff)) + one_of("flags", (0, 0x40, 0x80, 0xc0, 0x3f, 0x7f, 0xff)) + one_of("lifetime", (0, 1, 255, 256, 9001, 65535))
+    + [{"prefixes": [], "routes": []}, {"prefixes": [operator_prefix()] * 8, "routes": [operator_route(128)] * 8}, {"options": [], "tail": b""}]
+    + [{"prefixes": [operator_prefix()] * count, "routes": [operator_route()] * (8 - count)} for count in range(9)]
+    + [{"prefixes": [operator_prefix(length)], "routes": [operator_route(length, length % 3)]} for length in LENGTHS]
+    + [{"prefixes": [operator_prefix(flags=flags)]} for flags in (0, 0x40, 0x80, 0xc0, 0x3f, 0x7f, 0xff)]
+    + [{"routes": [operator_route(length, preference) for length in (0, 64, 128)]} for preference in (0, 1, 2)]
+    + [{"prefixes": [operator_prefix(valid=life, preferred=0x01020304)], "routes": []} for life in LIFETIMES]
+    + [{"prefixes": [operator_prefix(valid=0x05060708, preferred=life)], "routes": []} for life in LIFETIMES]
+    + [{"prefixes": [], "routes": [operator_route(lifetime=life)]} for life in LIFETIMES]
+    + one_of("options", NO_SOURCE_LINK_LAYER + SOURCE_LINK_LAYER) + one_of("free", (bytes(4), b"\xff" * 4)) + one_of("tail", (b"\0", bytes(8), b"\1\0" * 20))
+    + one_of("destination6", (UNSPECIFIED, MULTICAST, GLOBAL))
+    + [{"source6": lambda calls, f, text=text: isatap_address(LINK_LOCAL, text, f["address"])} for text in ("00005efe", "02005efe")]
+    + [{"source6": isatap_address(LINK_LOCAL, text, address)} for address in FORBIDDEN for text in ("00005efe", "02005efe")]
+    + [{"source6": lambda calls, f: link_local(calls.settings.locators[0][0])}])
+FAULTS = {"receive": RECEIVE_FAULTS, "send": SEND_FAULTS, "report": REPORT_FAULTS, "advertisement": ADVERTISEMENT_FAULTS,
+          "advertise": ADVERTISE_FAULTS}
+VARIATIONS = {"receive": RECEIVE_VARIATIONS, "report": REPORT_VARIATIONS, "advertisement": one_of("zero_check", (0, 0xffff)),
+              "advertise": ADVERTISE_VARIATIONS}

@@ -1,14 +1,16 @@
 """The inputs and lines of `replay` (docs/REPLAY.md) and of the program (R17)."""
 from .node import Node
 from .octets import number, u16, u32
-from .rules import Refused, Settings
+from .rules import Advertisement, Refused, Settings
 
 REPLAY_LIMIT = 1 << 20
 PROGRAM_LIMIT = 1 << 16
 
-# Fields: B, H, I numbers of 1, 2, 4 bytes; A an IPv4, N an IPv6 address; D bytes after their length; R a list of addresses
+# Fields: B, H, I numbers of 1, 2, 4 bytes; A an IPv4, N an IPv6 address; D bytes after their length; R a list of addresses;
+# O the operator's advertisement
 CALLS = {1: ("receive", "BD"), 2: ("send", "BINHD"), 3: ("report", "ID"), 4: ("routers", "IR"),
-         5: ("ask", "BIH"), 6: ("advertisement", "ID"), 7: ("size", "A")}
+         5: ("ask", "BIH"), 6: ("advertisement", "ID"), 7: ("size", "A"), 8: ("advertise", "BHOD")}
+ROOMS = {"send": 3, "ask": 2, "advertise": 1}                 # which argument is the room of the output
 
 
 # ---- Writing inputs
@@ -24,13 +26,21 @@ def encode_settings(settings):
     return data + (b"\0" if settings.reporting is None else b"\1" + settings.reporting)
 
 
+def encode_operator(operator):
+    """The operator's advertisement: flags, router lifetime, prefixes and routes, each list after its count."""
+    prefixes = [bytes([length, flags]) + u32(valid) + u32(preferred) + prefix for length, flags, valid, preferred, prefix in operator.prefixes]
+    routes = [bytes([length, preference]) + u32(lifetime) + prefix for length, preference, lifetime, prefix in operator.routes]
+    lists = b"".join(u16(len(items)) + b"".join(items) for items in (prefixes, routes))
+    return bytes([operator.flags]) + u16(operator.lifetime) + lists
+
+
 def encode_call(name, arguments):
     kind = next(kind for kind in CALLS if CALLS[kind][0] == name)
     data = bytes([kind])
     for form, value in zip(CALLS[kind][1], arguments):
         data += {"B": lambda: bytes([value]), "H": lambda: u16(value), "I": lambda: u32(value), "A": lambda: value,
                  "N": lambda: value, "D": lambda: u16(len(value)) + value,
-                 "R": lambda: u16(len(value)) + b"".join(value)}[form]()
+                 "R": lambda: u16(len(value)) + b"".join(value), "O": lambda: encode_operator(value)}[form]()
     return data
 
 
@@ -70,7 +80,7 @@ class Reader:
         if form in widths:
             return self.number(widths[form])
         return {"A": lambda: self.take(4), "N": lambda: self.take(16), "R": lambda: self.many(4),
-                "D": lambda: self.take(self.number(2))}[form]()
+                "D": lambda: self.take(self.number(2)), "O": self.operator}[form]()
 
     def lists(self):
         """Locators, prefixes and routers, in both programs first."""
@@ -83,6 +93,15 @@ class Reader:
         if flag > 1:
             raise BadInput
         return Settings(*lists, link, ttl, interval, identification, self.take(16) if flag else None)
+
+    def operator(self):
+        """A count above 8 is no bad input; a preference above 2 is, wherever it stands."""
+        flags, lifetime = self.number(1), self.number(2)
+        prefixes = [(one[0], one[1], number(one[2:6]), number(one[6:10]), one[10:]) for one in self.many(26)]
+        routes = [(one[0], one[1], number(one[2:6]), one[6:]) for one in self.many(22)]
+        if any(preference > 2 for _, preference, _, _ in routes):
+            raise BadInput
+        return Advertisement(flags, lifetime, prefixes, routes)
 
     def call(self):
         kind = self.number(1)
@@ -110,8 +129,8 @@ def answer(node, name, arguments):
     """The line that `replay` prints for one call."""
     output = None
     arguments = list(arguments)
-    if name in ("send", "ask"):
-        place = {"send": 3, "ask": 2}[name]
+    if name in ROOMS:
+        place = ROOMS[name]
         output = arguments[place] = lent(arguments[place])
     try:
         line = str(getattr(node, {"routers": "replace_routers"}.get(name, name))(*arguments))

@@ -1,11 +1,12 @@
 """Whole inputs by chance: lists of calls, bad inputs, inputs of the program (R17)."""
 import random
 
+from .builders import operator_route
 from .calls import Calls
 from .faults import FAULTS, FORBIDDEN, GLOBAL, NEARLY_FORBIDDEN, VARIATIONS
 from .formats import REPLAY_LIMIT, encode_call, encode_datagrams, encode_lists, encode_settings, replay
 from .octets import LINK_LOCAL, LOOPBACK, forbidden, isatap_address
-from .rules import Settings
+from .rules import Advertisement, Settings
 from .scenarios import PREFIXES, SCENARIOS, neighbours, neighbours_moved, plain_settings, times_near_the_end
 
 
@@ -58,6 +59,8 @@ def mutate_call(calls, name, data):
     elif name == "send":
         calls.call(name, 0, time, calls.some(8) + LINK_LOCAL if calls.random.random() < 0.1 else
                    isatap_address(LINK_LOCAL, "02005efe", calls.neighbour()), calls.random.choice((len(data) + 20, 1280, 9300)), data)
+    elif name == "advertise":
+        calls.call(name, 0, calls.random.choice((55, 56, 504, 600)), Advertisement(**calls.operator_fields()), data)
     else:
         calls.call(name, time, data)
 
@@ -110,18 +113,22 @@ def longest(length=REPLAY_LIMIT):
 
 
 def bad(seed):
-    """Cut off, of an unknown kind, with a flag above 1, or too long; sometimes with settings that would be refused."""
+    """Cut off, of an unknown kind, with a flag above 1 or a preference above 2, or too long; sometimes with settings that would be refused."""
     chooser = random.Random(seed)
-    good, way = generate(seed, 15), chooser.randrange(8)
+    good, way = generate(seed, 15), chooser.randrange(10)
     settings = encode_settings(plain_settings())
     if way == 0:
         return longest(REPLAY_LIMIT + chooser.choice((1, 2, 5000)))
     if way < 3:
-        return good + bytes([chooser.choice((0, 8, 9, 255))]) + bytes(chooser.randrange(9))
+        return good + bytes([chooser.choice((0, 9, 10, 255))]) + bytes(chooser.randrange(9))
     if way == 3:
         return settings[:-1] + bytes([chooser.choice((2, 255))]) + chooser.choice((b"", GLOBAL)) + encode_call("size", [bytes(4)])
     if way == 4:
         return encode_settings(Settings([], [], [])) + b"\x09"
+    if way < 7:
+        routes = [operator_route(preference=chooser.randrange(3)) for _ in range(chooser.choice((0, 1, 7, 8, 9, 300)))]
+        routes.insert(chooser.randrange(len(routes) + 1), operator_route(preference=chooser.choice((3, 4, 255))))
+        return good + encode_call("advertise", (0, 600, Advertisement(routes=routes), b"")) + encode_call("size", [bytes(4)])
     data = good
     while replay(data) != ["bad input"]:                      # a cut between two calls is not bad
         data = good[:chooser.randrange(len(good))]

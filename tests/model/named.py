@@ -3,13 +3,16 @@ import random
 from pathlib import Path
 
 from . import double_faults
-from .builders import datagram, packet
+from .builders import datagram, operator_prefix, operator_route, packet
 from .calls import Calls
 from .faults import FAULTS, GLOBAL, MULTICAST, VARIATIONS
 from .formats import REPLAY_LIMIT, encode_call, encode_datagrams, encode_lists, encode_settings, program, replay, text
 from .generator import bad, generate, longest, program_input, with_faults
+from .many_options import advertised_with_many_options, asked_from_nearly_unspecified, asked_from_unspecified, asked_with_many_options
 from .octets import LINK_LOCAL, LOOPBACK, UNSPECIFIED, isatap_address, link_local, u16
-from .rules import Settings
+from .rules import Advertisement, Settings, solicitation
+from .scenarios import advertise_many, advertise_rooms, advertise_trailing, advertised_to_another, advertising_changes_nothing
+from .scenarios import heard_from_another
 from .scenarios import PREFIXES, advertised_due_time, advertised_earlier, ageing, ask, asking, dropped_router
 from .scenarios import advertised_alone, each_locator, each_prefix, each_router, earlier_times, identifications, long_ages
 from .scenarios import longest_lifetime, longest_packets, near_neighbours, neighbours, neighbours_moved, path_sizes, plain_settings
@@ -126,6 +129,19 @@ NAMED = {
     "earlier_times": earlier_times,
     "identifications": identifications,
     "advertised_alone": advertised_alone,
+    "advertise_refusals": lambda calls: each_fault(calls, "advertise"),
+    "advertise_two_faults": lambda calls: each_pair(calls, "advertise", 4),
+    "advertise_written": lambda calls: each_variation(calls, "advertise"),
+    "advertise_trailing": advertise_trailing,
+    "advertise_rooms": advertise_rooms,
+    "advertise_many": advertise_many,
+    "advertise_to_another": advertised_to_another,
+    "advertise_changes_nothing": advertising_changes_nothing,
+    "heard_from_another": heard_from_another,
+    "advertise_many_options": asked_with_many_options,
+    "advertise_many_options_from_unspecified": asked_from_unspecified,
+    "advertise_from_nearly_unspecified": asked_from_nearly_unspecified,
+    "advertisement_many_options": advertised_with_many_options,
     "no_calls": lambda calls: None,
 }
 EIGHT = [(bytes((198, 18, place, 9)), interface) for place, interface in enumerate((0, 7, 255, 7, 3, 0, 128, 31))]
@@ -152,11 +168,40 @@ def named_inputs():
     for name, changes in ALLOWED_SETTINGS.items():
         yield "settings_" + name, scenario_bytes(name, changes, sends)
     good = scenario_bytes("good", {}, no_calls_but_some)
+    yield from {f"advertise_{name}": good + data for name, data in longest_lists()}.items()
+    yield from {f"bad_input_advertise_{name}": good + data for name, data in bad_advertisings()}.items()
     yield from {"bad_input_empty": b"", "bad_input_cut_settings": good[:11], "bad_input_cut": good[:-1],
-                "bad_input_kind_0": good + b"\0", "bad_input_kind_8": good + b"\x08", "bad_input_flag": encode_settings(plain_settings())[:-1] + b"\2",
+                "bad_input_kind_0": good + b"\0", "bad_input_kind_9": good + b"\x09" + bytes(70), "bad_input_flag": encode_settings(plain_settings())[:-1] + b"\2",
                 "bad_input_flag_before_address": encode_settings(plain_settings())[:-1] + b"\2" + GLOBAL,
-                "bad_input_refused_settings": encode_settings(plain_settings(ttl=0)) + b"\x08",
+                "bad_input_refused_settings": encode_settings(plain_settings(ttl=0)) + b"\x09",
+                "bad_input_refused_settings_preference_3":
+                    encode_settings(plain_settings(ttl=0)) + advertising(Advertisement(routes=[operator_route(preference=3)])),
                 "bad_input_reporting_cut": encode_settings(plain_settings(reporting=GLOBAL))[:-1]}.items()
+
+
+def advertising(operator, packet=b"", behind=encode_call("size", [bytes(4)])):
+    return encode_call("advertise", (0, 600, operator, packet)) + behind
+
+
+def longest_lists():
+    """Nearly as many prefixes or routes as an input can have, and a call behind them."""
+    asked = solicitation(bytes((10, 9, 8, 7)), bytes((10, 0, 0, 1)))
+    yield "40000_prefixes", advertising(Advertisement(prefixes=[operator_prefix()] * 40000), asked)
+    yield "47000_routes", advertising(Advertisement(routes=[operator_route(preference=2)] * 47000), asked)
+    yield "20000_and_20000", advertising(Advertisement(0xc0, 9, [operator_prefix()] * 20000, [operator_route(0, 1)] * 20000), asked)
+
+
+def bad_advertisings():
+    """A preference above 2 wherever it stands, whatever the call would be given; cuts in each part."""
+    for count, place in ((1, 0), (8, 7), (9, 8), (256, 255), (300, 256), (47000, 46999)):
+        routes = [operator_route()] * place + [operator_route(preference=3)] + [operator_route()] * (count - place - 1)
+        yield f"preference_3_in_{place}", advertising(Advertisement(routes=routes))
+    yield "preference_255", advertising(Advertisement(prefixes=[operator_prefix()] * 9, routes=[operator_route(preference=255)]))
+    whole = advertising(Advertisement(0, 0, [operator_prefix()] * 2, [operator_route()] * 2), bytes(48), b"")
+    for length in (1, 2, 4, 5, 7, 8, 9, 60, 61, 62, 63, 84, 105, 106, 107, 108, len(whole) - 1):
+        yield f"cut_{length}", whole[:length]
+    yield "cut_in_65535_routes", advertising(Advertisement(), b"", b"")[:9] + u16(65535) + bytes(200)
+    yield "cut_in_65535_prefixes", advertising(Advertisement(), b"", b"")[:7] + u16(65535) + bytes(200)
 
 
 def no_calls_but_some(calls):

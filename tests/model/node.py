@@ -1,7 +1,7 @@
 """The node: one tunnel end. Path sizes are the plain record: every accepted report, in order."""
 from .octets import LINK_LOCAL, checksum_right, dotted, forbidden, number, pseudo_header
-from .rules import gets_no_message, inner_length, inner_source_bad, need, outer_header, reported_candidate, smallest_lifetime
-from .rules import solicitation, too_big_message, wrapped
+from .rules import check_solicitation, gets_no_message, inner_length, inner_source_bad, need, outer_header, reported_candidate
+from .rules import router_advertisement, smallest_lifetime, solicitation, too_big_message, wrapped
 
 
 class Node:
@@ -136,3 +136,16 @@ class Node:
         wait = 3600 if smallest is None else max(self.settings.interval, smallest // 2)
         self.set_due(router, self.latest + wait)
         return dotted(router)
+
+    def advertise(self, index, output, operator, asked):
+        """Order 8 as in receiving, 11, 24, 25, 26, 15 (R22.1); writes into `output`. It has no time, and the node stays as it is."""
+        packet = asked[:inner_length(asked)]
+        source = self.locator(index)
+        check_solicitation(packet)
+        asker = packet[8:24]
+        need(asker[:8] == LINK_LOCAL and self.settings.isatap(asker), 25)
+        operator.check()
+        answer = router_advertisement(source, asker, operator)
+        need(len(answer) <= len(output), 15)
+        output[:len(answer)] = answer
+        return f"written {len(answer)}"

@@ -1,7 +1,9 @@
 """Settings, what a packet must be, and how one is written; no state."""
-from .octets import LINK_LOCAL, LOOPBACK, UNSPECIFIED, checksum_field, forbidden, link_local, number, pseudo_header, u16, u32
+from .octets import LINK_LOCAL, LOOPBACK, UNSPECIFIED, checksum_field, checksum_right, forbidden, link_local, number, pseudo_header
+from .octets import u16, u32
 
 PLATEAUS = (65535, 32000, 17914, 8166, 4352, 2002, 1492, 1006, 508, 296, 68)
+PREFERENCES = (0x00, 0x08, 0x18)                              # medium, high, low (R22.11)
 
 
 class Refused(Exception):
@@ -57,6 +59,21 @@ class Settings:
     def isatap(self, address):
         """An on-link prefix, then 00 or 02, 00, 5E, FE, then the IPv4 address (R6.1)."""
         return self.on_link(address[:8]) and address[8] in (0, 2) and address[9:12] == b"\0\x5e\xfe"
+
+
+class Advertisement:
+    """What the operator sets of an advertisement. Prefixes are (length, flags, valid lifetime, preferred lifetime, prefix), routes are
+    (length, preference, lifetime, prefix). Of a byte of flags 80 is M or L, 40 is O or A, and the other bits are not looked at."""
+
+    def __init__(self, flags=0, lifetime=0, prefixes=(), routes=()):
+        self.flags, self.lifetime, self.prefixes, self.routes = flags, lifetime, prefixes, routes
+
+    def check(self):
+        """Up to 8 of each, none longer than 128 bits; 26 where not (R22.7)."""
+        need(len(self.prefixes) <= 8, 26)
+        need(len(self.routes) <= 8, 26)
+        need(all(length <= 128 for length, *_ in self.prefixes), 26)
+        need(all(length <= 128 for length, *_ in self.routes), 26)
 
 
 def outer_header(datagram):
@@ -119,18 +136,65 @@ def wrapped(packet, identification, keep_whole, ttl, source, destination):
     return start + checksum_field(start + b"\0\0" + end) + end + packet
 
 
-def smallest_lifetime(message):
-    """Walks the options of an advertisement; None if no lifetime counts, 20 if they do not end exactly."""
-    lifetimes, options = [number(message[6:8])], message[16:]
+def walked(options, refusal):
+    """Each option; that number if one has length 0 or they do not end exactly (R15.4)."""
+    found = []
     while options:
-        need(len(options) >= 2, 20)
-        kind, length = options[0], options[1]
-        need(length > 0, 20)
-        need(8 * length <= len(options), 20)
-        if (kind == 3 and length == 4) or (kind == 24 and 1 <= length <= 3):
-            lifetimes.append(number(options[4:8]))
+        need(len(options) >= 2, refusal)
+        length = options[1]
+        need(length > 0, refusal)
+        need(8 * length <= len(options), refusal)
+        found.append(options[:8 * length])
         options = options[8 * length:]
+    return found
+
+
+def smallest_lifetime(message):
+    """The smallest lifetime of an advertisement; None if none counts, 20 if its options are not whole."""
+    lifetimes = [number(message[6:8])]
+    for option in walked(message[16:], 20):
+        kind, length = option[0], option[1]
+        if (kind == 3 and length == 4) or (kind == 24 and 1 <= length <= 3):
+            lifetimes.append(number(option[4:8]))
     return min((life for life in lifetimes if life not in (0, 0xffffffff)), default=None)
+
+
+def check_solicitation(packet):
+    """A valid router solicitation, or 24 (R22.4, R22.5)."""
+    source, message = packet[8:24], packet[40:]
+    need(packet[6] == 58, 24)
+    need(packet[7] == 255, 24)
+    need(checksum_right(pseudo_header(source, packet[24:40], len(message)) + message), 24)
+    need(len(message) >= 8, 24)
+    need(message[0] == 133, 24)
+    need(message[1] == 0, 24)
+    kinds = [option[0] for option in walked(message[8:], 24)]
+    need(source != UNSPECIFIED or 1 not in kinds, 24)
+
+
+def first_bits(length, prefix):
+    """The bits past the length are 0 (R22.12)."""
+    return (number(prefix) >> 128 - length << 128 - length).to_bytes(16, "big")
+
+
+def written_prefix(length, flags, valid, preferred, prefix):
+    """Type 3, length 4 (R22.10)."""
+    return bytes([3, 4, length, flags & 0xc0]) + u32(valid) + u32(preferred) + bytes(4) + first_bits(length, prefix)
+
+
+def written_route(length, preference, lifetime, prefix):
+    """Type 24, the shortest length that holds the prefix (R22.11)."""
+    units = 1 if length == 0 else 2 if length <= 64 else 3
+    start = bytes([24, units, length, PREFERENCES[preference]]) + u32(lifetime)
+    return start + first_bits(length, prefix)[:8 * units - 8]
+
+
+def router_advertisement(source, asker, operator):
+    """Our link-local address to the asker's as it stands, hop limit 255, type 134, code 0; prefixes, then routes (R22.9)."""
+    start = bytes([134, 0, 0, 0]) + bytes([0, operator.flags & 0xc0]) + u16(operator.lifetime) + bytes(8)
+    prefixes = [written_prefix(*prefix) for prefix in operator.prefixes]
+    routes = [written_route(*route) for route in operator.routes]
+    return icmpv6_packet(link_local(source), asker, 255, start + b"".join(prefixes + routes))
 
 
 def reported_candidate(message, quoted):

@@ -1,9 +1,12 @@
 """Runs of calls that each show one rule; the answers are worked out here, beside the model."""
-from .builders import option, packet, prefix_option, route_option
+from .builders import operator_prefix, operator_route, option, packet, prefix_option, route_option
+from .builders import solicitation as asking_packet
 from .calls import ISATAP_IDENTIFIERS, LAST_SECOND
 from .faults import FORBIDDEN, GLOBAL, PLATEAU_BELOW
+from .formats import lent
+from .node import Node
 from .octets import LINK_LOCAL, LOOPBACK, UNSPECIFIED, dotted, isatap_address, link_local, number, pseudo_header, u16
-from .rules import Settings, solicitation, too_big_message, wrapped
+from .rules import Advertisement, Settings, router_advertisement, solicitation, too_big_message, wrapped
 
 PREFIXES = [bytes.fromhex(text) for text in ("20010db800000001", "20010db800000002", "2002c00002010000", "fec0000000000000",
                                              "fe80000000000000", "ff02000000000000", "0000000000000000", "fe80000000000100")]
@@ -282,6 +285,7 @@ def each_locator(calls):
         calls.send([(13, {"index": 0, "next_hop": link_local(address)})])
         calls.report(variation={"source": address}, neighbour=calls.fresh())
         calls.report([(17, {"neighbour": address})])
+        calls.advertise((), {"index": place})
 
 
 def each_router(calls):
@@ -365,6 +369,10 @@ def second_carries(calls):
     message = solicitation(own, start + b"\0\0")
     calls.call("routers", 0, [start + word(pseudo_header(message[8:24], message[24:40], 8) + message[40:], message[42:44])])
     ask(calls, index=0)
+    operator = Advertisement(0xc0, 1800, [operator_prefix()], [operator_route()])
+    message = router_advertisement(own, link_local(start + b"\0\0"), operator)
+    asker = start + word(pseudo_header(message[8:24], message[24:40], len(message) - 40) + message[40:], message[42:44])
+    calls.call("advertise", 0, 104, operator, asking_packet(link_local(asker), GLOBAL), want="written 104")
 
 
 def advertised_earlier(calls):
@@ -456,7 +464,100 @@ def zero_checksums(calls):
     message = solicitation(own, start + b"\0\0")
     calls.call("routers", 0, [start + message[42:44]])
     ask(calls, index=0)
+    operator = Advertisement(0x40, 9000, [operator_prefix(1)], [operator_route(127, 2)])
+    message = router_advertisement(own, link_local(start + b"\0\0"), operator)
+    calls.call("advertise", 0, 112, operator, asking_packet(link_local(start + message[42:44]), GLOBAL), want="written 112")
+
+
+# ---- Advertising
+
+def advertisements(interval):
+    """What an operator sets, and how long a node that hears it waits, by hand from R16; preferred lifetimes do not count."""
+    def prefixes(*lifetimes):
+        return [operator_prefix(valid=valid, preferred=preferred) for valid, preferred in lifetimes]
+    many = 0xffffffff
+    routes = [operator_route(length, preference, 20000 + length) for preference, length in enumerate((0, 64, 128))]
+    return [(Advertisement(), 3600), (Advertisement(0xff, 1), interval), (Advertisement(0x80, 2 * interval + 3), interval + 1),
+            (Advertisement(0x40, 65535), max(interval, 32767)), (Advertisement(0, 0, prefixes((30003, 2))), 15001),
+            (Advertisement(0, 0, prefixes((0, 7300))), 3600), (Advertisement(0, 0, prefixes((many, 7300), (0, 7300))), 3600),
+            (Advertisement(0, 0, prefixes((many, 0), (1, many))), interval), (Advertisement(0, 0, [], [operator_route(0, 1, 30001)]), 15000),
+            (Advertisement(0, 0, [], [operator_route(64, 2, many), operator_route(65, 0, 0)]), 3600), (Advertisement(0, 0, [], routes), 10000),
+            (Advertisement(0, 9000, prefixes((20000, 20000)), routes), max(interval, 4500)),
+            (Advertisement(0, 30000, prefixes(*[(20020 + place, 3) for place in range(8)]), [operator_route(128, 2, 20016)] * 7 + routes[:1]), 10000)]
+
+
+def heard_from_another(calls):
+    """What another node writes, a node that lists it takes, and asks again when the operator's lifetimes say."""
+    router = calls.fresh()
+    calls.call("routers", calls.time(), [router], want="accepted 1")
+    other, asked = Node(Settings([(router, 0)], [], [])), solicitation(calls.settings.locators[0][0], router)
+    for operator, wait in advertisements(calls.settings.interval):
+        output = lent(504)
+        length = int(other.advertise(0, output, operator, asked).split()[1])
+        calls.call("advertisement", calls.node.latest, bytes(output[:length]), want=dotted(router))
+        ask_when_due(calls, router, calls.node.latest + wait)
+
+
+def advertised_to_another(calls):
+    """The same ones, written by this node for another that asks."""
+    for place, (locator, _) in enumerate(calls.settings.locators):
+        asked = solicitation(calls.fresh(), locator)
+        for operator, _ in advertisements(calls.settings.interval):
+            calls.call("advertise", place, 504, operator, asked, want="written")
+
+
+def advertise_rooms(calls):
+    """One byte short and just fitting, for no option and for the most and longest."""
+    asked = solicitation(calls.fresh(), calls.settings.locators[0][0])
+    most = Advertisement(0xc0, 1800, [operator_prefix()] * 8, [operator_route(128)] * 8)
+    for operator, length in ((Advertisement(), 56), (Advertisement(0, 0, [], [operator_route(0)]), 64), (most, 504)):
+        for room, want in ((0, "refuse 15"), (length - 1, "refuse 15"), (length, f"written {length}"), (length + 1, f"written {length}"),
+                           (65535, f"written {length}")):
+            calls.call("advertise", 0, room, operator, asked, want=want)
+
+
+def advertise_trailing(calls):
+    """Bytes behind the payload are passed over: they are no options and are not summed up."""
+    for tail in (b"\0", b"\1", b"\1\0", b"\1\1" + bytes(6), b"\5\0" + bytes(6), bytes(1400)):
+        calls.advertise((), {"tail": tail})
+        calls.advertise((), {"tail": tail, "options": []})
+        calls.advertise([(25, {"tail": tail, "options": [], "source6": UNSPECIFIED})])
+        calls.advertise([(24, {"tail": tail, "options": [], "payload_error": len(tail)})])
+        calls.advertise([(8, {"tail": tail, "options": [], "payload_error": len(tail) + 1})])
+
+
+def advertise_many(calls):
+    """Counts of 9 and more are 26 where the call comes to that, also those whose low byte is 8 or less."""
+    asked = solicitation(calls.fresh(), calls.settings.locators[0][0])
+    for count in (9, 256, 264):
+        for operator in (Advertisement(0, 0, [operator_prefix()] * count), Advertisement(0, 0, [], [operator_route(0)] * count)):
+            calls.call("advertise", 0, 600, operator, asked, want="refuse 26")
+    operator = Advertisement(0, 0, [operator_prefix(255)] * 9, [operator_route(255, 2)] * 256)
+    for index, room, packet_, want in ((0, 0, asked, 26), (0, 600, asked + b"\0", 26), (0, 600, asked[:47], 8), (255, 600, asked, 11),
+                                       (0, 600, asked[:-1] + b"\1", 24), (0, 600, asking_packet(GLOBAL, GLOBAL), 25)):
+        calls.call("advertise", index, room, operator, packet_, want=f"refuse {want}")
+
+
+ADVERTISE_REFUSED = ((8, {"version6": 4}), (11, {"index": 255}), (24, {"hop_limit": 254}), (25, {"source6": GLOBAL}),
+                     (26, {"prefixes": [operator_prefix(129)]}), (15, {"short": 1}))
+
+
+def advertising_changes_nothing(calls):
+    """Neither an answer nor a refusal changes the latest time, a size, a due time, the router list or the identification."""
+    router, neighbour, start = calls.fresh(), calls.fresh(), calls.node.latest
+    calls.call("routers", start, [router], want="accepted 1")
+    calls.report(neighbour=neighbour, candidate=500, time=start)
+    ask(calls, time=start + 599, want=dotted(router))
+    for faults in ((), *[[fault] for fault in ADVERTISE_REFUSED]):
+        for source6 in (link_local(router), link_local(neighbour), link_local(calls.fresh())):
+            calls.advertise(faults, {"source6": source6})
+        size_is(calls, neighbour, 500)
+        ask(calls, want="refuse 22")
+        calls.send(n=40, time=0)
+    raise_time(calls, calls.node.latest + calls.settings.interval)
+    calls.advertise()
+    ask(calls, time=0, want=dotted(router))                   # an earlier time is still read as the latest
 
 
 SCENARIOS = [path_sizes, plateaus, zero_checksums, ageing, times_going_back, asking, advertised_due_time, advertised_earlier,
-             router_lists, dropped_router]
+             router_lists, dropped_router, heard_from_another, advertising_changes_nothing]

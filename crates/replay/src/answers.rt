@@ -1,6 +1,7 @@
 // The line of each answer.
 use crate::line::Line;
 use asking::AskAnswer;
+use header::wrap::Written;
 use hearing::HeardAnswer;
 use node::router_list::ListAnswer;
 use receiving::Received;
@@ -57,6 +58,17 @@ pub(crate) fn advertisement(answer: HeardAnswer) -> Line {
     match answer {
         HeardAnswer::Router(router) => Line::new(b"advertisement").address(router),
         HeardAnswer::Refused(refusal) => Line::new(b"advertisement refuse").refusal(refusal),
+    }
+}
+
+pub(crate) fn advertise(answer: Written, digest: u32) -> Line {
+    match answer {
+        Written::Length(length) => Line::new(b"advertise written")
+            .number(length as u64)
+            .digest(digest),
+        Written::Refused(refusal) => Line::new(b"advertise refuse")
+            .refusal(refusal)
+            .digest(digest),
     }
 }
 

@@ -1,13 +1,19 @@
 // The calls. Each function takes the bytes from the call's kind on; a byte past the end reads as 0.
+use crate::answering::Answering;
 use crate::answers;
 use crate::line::Line;
 use crate::outputs;
+use crate::spool;
 use header::fields;
 use input::section;
 use node::Node;
 
-// The bytes of the longest call that is read whole, a sending. Of a longer list of routers no more than the first sixteen are read.
+// The bytes of the longest call that is read whole, a sending. Of a longer list of routers no more than the first sixteen are read, and of
+// the call that answers a solicitation the packet alone.
 pub(crate) const LONGEST: usize = 26 + 65535;
+
+// The kind of the call that answers a solicitation.
+const ADVERTISE: u8 = 8;
 
 // A call's line, and the next node.
 pub(crate) struct Made {
@@ -15,8 +21,13 @@ pub(crate) struct Made {
     pub(crate) node: Node,
 }
 
+// Whether the call answers a solicitation. The other functions on a whole call take one that does not.
+pub(crate) fn advertises(c: &[u8]) -> bool {
+    fields::byte(c, 0) == ADVERTISE
+}
+
 // The bytes of the call with its kind; 0 where the kind is unknown.
-fn size_of(c: &[u8]) -> usize {
+pub(crate) fn size_of(c: &[u8]) -> usize {
     let kind = fields::byte(c, 0);
     match kind {
         1 => 4 + fields::word(c, 2) as usize,
@@ -29,9 +40,16 @@ fn size_of(c: &[u8]) -> usize {
     }
 }
 
-// The index behind the call at an index, or that one where the kind is unknown or the call is cut off by the end.
-pub(crate) fn behind(c: &[u8], at: usize, end: usize) -> usize {
-    let size = size_of(c);
+// The bytes of the call at an index that answers the solicitation behind its length; 0 where a preference is unknown.
+pub(crate) fn size_with(call: Answering, at: usize, c: &[u8]) -> usize {
+    if !call.known {
+        return 0;
+    }
+    spool::inside(spool::above(call.packet, at)) + 2 + fields::word(c, 0) as usize
+}
+
+// The index behind a call of so many bytes at an index, or that one where it has none or is cut off by the end.
+pub(crate) fn behind(size: usize, at: usize, end: usize) -> usize {
     if end < at {
         return at;
     }
@@ -131,6 +149,20 @@ fn advertisement(node: Node, c: &[u8]) -> Made {
     let line = answers::advertisement(answer);
     let next = heard.node;
     Made { line, node: next }
+}
+
+// Answers the solicitation behind its length. An output is lent from the space.
+pub(crate) fn advertise(node: Node, call: Answering, c: &[u8], space: &mut [u8]) -> Made {
+    let room = lists::least(call.room, space.len());
+    advertise_to(node, call, c, &mut space[..room])
+}
+
+fn advertise_to(node: Node, call: Answering, c: &[u8], out: &mut [u8]) -> Made {
+    outputs::blank(out);
+    let advertisement = call.advertisement;
+    let answer = node.advertise(counted(c, 0), call.locator, advertisement, out);
+    let line = answers::advertise(answer, outputs::digest(out));
+    Made { line, node }
 }
 
 // The size in force toward a neighbour.

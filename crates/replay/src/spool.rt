@@ -92,6 +92,16 @@ pub(crate) fn above(a: usize, b: usize) -> usize {
     if b < a { a - b } else { 0 }
 }
 
+// An index, or one just past the longest input.
+pub(crate) fn inside(at: usize) -> usize
+    ensures { λ r. ⌜ r ≤ 1048577 ⌝ }
+{
+    if LIMIT < at {
+        return LIMIT + 1;
+    }
+    at
+}
+
 impl Spool {
     // The bytes from an index on, as many as fit or there are.
     pub(crate) fn read(self, at: usize, buf: &mut [u8]) -> Reading {

@@ -4,16 +4,15 @@ use crate::spool::Spool;
 use header::fields;
 use input::section;
 use settings::Settings;
-ghost use Prim.Native.Nat.{_≤_};
 
-// A section's count and its longest list that is accepted: eight prefixes, or sixteen routers.
-const HEAD: usize = 66;
+// A section's count and its longest list that is accepted: eight prefixes of an advertisement.
+const HEAD: usize = 210;
 
 // The first bytes of a section, and the index behind the whole of it.
-struct Section {
-    bytes: [u8; HEAD],
-    behind: usize,
-    failed: bool,
+pub(crate) struct Section {
+    pub(crate) bytes: [u8; HEAD],
+    pub(crate) behind: usize,
+    pub(crate) failed: bool,
 }
 
 pub(crate) struct Start {
@@ -37,29 +36,19 @@ pub(crate) fn read(spool: Spool) -> Start {
     Start {
         settings,
         known: flag <= 1,
-        calls: inside(routers.behind) + 8 + 16 * flag as usize,
+        calls: spool::inside(routers.behind) + 8 + 16 * flag as usize,
         failed: locators.failed | prefixes.failed | routers.failed | numbers.failed,
     }
 }
 
-// An index, or one just past the longest input.
-fn inside(at: usize) -> usize
-    ensures { λ r. ⌜ r ≤ 1048577 ⌝ }
-{
-    if spool::LIMIT < at {
-        return spool::LIMIT + 1;
-    }
-    at
-}
-
 // The section at an index, whose records have so many bytes.
-fn section_at(spool: Spool, at: usize, record: u8) -> Section {
+pub(crate) fn section_at(spool: Spool, at: usize, record: u8) -> Section {
     let mut bytes = [0; HEAD];
     let read = spool.read(at, &mut bytes);
     let records = fields::word(&bytes, 0) as usize * record as usize;
     Section {
         bytes,
-        behind: inside(at) + 2 + records,
+        behind: spool::inside(at) + 2 + records,
         failed: read.failed,
     }
 }

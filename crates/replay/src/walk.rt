@@ -1,5 +1,8 @@
 // A walk through the calls of the input, once to see that they are whole, and once to make them.
+use crate::answering;
+use crate::answering::Answering;
 use crate::calls;
+use crate::calls::Made;
 use crate::line;
 use crate::line::Line;
 use crate::spool::Spool;
@@ -58,43 +61,80 @@ pub(crate) fn through(
 }
 
 impl Walk {
-    // The window holds the next call, as far as it is read.
-    fn filled(mut self, spool: Spool, window: &mut [u8]) -> Walk {
-        let ahead = above(self.held, above(self.at, self.from));
-        if (calls::LONGEST <= ahead) | (above(spool.size, self.at) <= ahead) {
+    // The window holds the input from an index on, as far as a call is read.
+    fn filled(mut self, at: usize, spool: Spool, window: &mut [u8]) -> Walk {
+        let ahead = above(self.held, above(at, self.from));
+        if (calls::LONGEST <= ahead) | (above(spool.size, at) <= ahead) {
             return self;
         }
-        let read = spool.read(self.at, window);
-        self.from = self.at;
+        let read = spool.read(at, window);
+        self.from = at;
         self.held = read.count;
         self.failed = read.failed;
         self
     }
 
+    // What the window holds from an index on.
+    fn ahead(self, at: usize, window: &[u8]) -> &[u8] {
+        fields::tail(section::front(window, self.held), above(at, self.from))
+    }
+
     // Past the next call.
     fn turn(self, spool: Spool, window: &mut [u8], out: &mut [u8], lines: &mut [u8]) -> Walk {
-        let walk = self.filled(spool, window);
+        let walk = self.filled(self.at, spool, window);
+        if calls::advertises(walk.ahead(walk.at, window)) {
+            return walk.past_lists(spool, window, out, lines);
+        }
         walk.past(spool.size, window, out, lines)
     }
 
     // Past the call that the window holds, of an input of so many bytes.
     fn past(mut self, size: usize, window: &[u8], out: &mut [u8], lines: &mut [u8]) -> Walk {
-        let c = fields::tail(section::front(window, self.held), above(self.at, self.from));
-        let next = calls::behind(c, self.at, size);
+        let c = self.ahead(self.at, window);
+        let next = calls::behind(calls::size_of(c), self.at, size);
         if self.failed {
             return self;
         }
         if self.making {
-            return self.made(next, c, out, lines);
+            let node = self.node;
+            return self.made(next, calls::make(node, c, out), lines);
         }
         self.at = next;
         self
     }
 
-    // The call made, and its line written. The next call is at the index.
-    fn made(mut self, next: usize, c: &[u8], out: &mut [u8], lines: &mut [u8]) -> Walk {
-        let node = self.node;
-        let made = calls::make(node, c, out);
+    // Past the next call, which answers a solicitation: the window holds its packet once its lists are read.
+    fn past_lists(self, spool: Spool, window: &mut [u8], out: &mut [u8], lines: &mut [u8]) -> Walk {
+        let call = answering::read(spool, self.at);
+        let mut walk = self.filled(call.packet, spool, window);
+        walk.failed = walk.failed | call.failed;
+        walk.answered(call, spool.size, window, out, lines)
+    }
+
+    // Past the call whose packet the window holds, of an input of so many bytes.
+    fn answered(
+        mut self,
+        call: Answering,
+        size: usize,
+        window: &[u8],
+        out: &mut [u8],
+        lines: &mut [u8],
+    ) -> Walk {
+        let c = self.ahead(call.packet, window);
+        let next = calls::behind(calls::size_with(call, self.at, c), self.at, size);
+        if self.failed {
+            return self;
+        }
+        if self.making {
+            let node = self.node;
+            return self.made(next, calls::advertise(node, call, c, out), lines);
+        }
+        self.at = next;
+        self
+    }
+
+    // The call is made: its line is written. The next call is at the index.
+    fn made(mut self, next: usize, made: Made, lines: &mut [u8]) -> Walk {
         let after = made.node;
         self.node = after;
         let line = made.line;

@@ -4,6 +4,7 @@
 // A case is its kind 1, the length of its name 2, one less than its own length 2, its name; then how a number is written 1,
 // four numbers n 2, m 2, x 4 and y 4, and the bytes that it is about. A byte past the end reads as 0.
 mod answers;
+mod operator;
 mod rules;
 mod tables;
 mod writers;
@@ -11,12 +12,23 @@ mod writers;
 use header::fields;
 use input::section;
 use routers::RouterList;
+ghost use mathlib.Core.Path.{_≡_};
+ghost use lib.ListN.{length};
 
 // The bytes of a case before its name.
 const HEAD: usize = 5;
 
+// The most bytes of cases.
+const LIMIT: usize = 131072;
+
+fn space() -> [u8; LIMIT]
+    ensures { λ r. ⌜ 131072 ≡ length r ⌝ }
+{
+    [0; LIMIT]
+}
+
 fn main() {
-    let mut space = io::large_buffer();
+    let mut space = space();
     let n = io::read_full(0, &mut space);
     run(&space[..n]);
 }

@@ -7,8 +7,9 @@ use address::prefixes;
 use header::fields;
 use header::inner;
 use header::outer;
+use hearing::solicitation;
 use input::section;
-use lifetimes::Smallest;
+use options::Smallest;
 use paths::Candidate;
 
 pub(crate) fn answer(kind: u8, c: &[u8]) {
@@ -33,8 +34,9 @@ fn test(kind: u8, n: u16, x: u32, d: &[u8]) -> bool {
         4 => inner::packet_malformed(d.len(), inner::inner_header(d)),
         5 => inner::may_draw_error(d),
         6 => routers::distinct(section::routers(d), n as usize),
-        7 => lifetimes::options_whole(d),
+        7 => options::options_whole(d),
         8 => inner::inner_malformed(d.len(), inner::inner_header(d)),
+        10 => solicitation::solicitation(d),
         _ => paths::packets::dont_fragment(n),
     }
 }
@@ -50,9 +52,9 @@ fn number(kind: u8, n: u16, m: u16, x: u32, d: &[u8]) -> u64 {
         29 => candidate(n, m),
         30 => smallest(n, d),
         _ => {
-            let read = lifetimes::options_read(n, d);
+            let read = options::options_read(n, d);
             let smallest = read.smallest;
-            lifetimes::due_after(x, m, smallest)
+            options::due_after(x, m, smallest)
         }
     }
 }
@@ -85,7 +87,7 @@ fn candidate(n: u16, m: u16) -> u64 {
 }
 
 fn smallest(n: u16, d: &[u8]) -> u64 {
-    let read = lifetimes::options_read(n, d);
+    let read = options::options_read(n, d);
     let answer = read.smallest;
     match answer {
         Smallest::Seconds(seconds) => seconds as u64,

@@ -1,6 +1,7 @@
 // Cases of the bytes that the library hands over or writes.
 use crate::answers;
 use crate::answers::NONE;
+use crate::operator;
 use header::fields;
 use header::inner;
 use header::outer;
@@ -61,8 +62,14 @@ fn write(kind: u8, c: &[u8], out: &mut [u8]) -> Written {
         42 => wrap::wrap(outer_fields(d), fields::tail(d, 13), out),
         43 => wrap_zeros(m, d, out),
         44 => messages::too_big(fields::address(d, 0), m, fields::tail(d, 16), out),
-        _ => messages::solicitation(fields::address(d, 0), fields::address(d, 16), out),
+        45 => messages::solicitation(fields::address(d, 0), fields::address(d, 16), out),
+        _ => advertisement(d, out),
     }
+}
+
+fn advertisement(d: &[u8], out: &mut [u8]) -> Written {
+    let set = operator::advertisement(fields::tail(d, 32));
+    advertisements::write(fields::address(d, 0), fields::address(d, 16), set, out)
 }
 
 // A packet of m zeros wrapped.

@@ -8,7 +8,7 @@ import sys
 from pathlib import Path
 from types import ModuleType
 
-from . import orders, programs, receiving, routers, sending, settings, sizes, times  # noqa: F401
+from . import advertising, orders, programs, receiving, routers, sending, settings, sizes, times  # noqa: F401
 from .edits import WRONG
 
 MODULES = ("octets", "rules", "node", "formats")

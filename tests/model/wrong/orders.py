@@ -55,3 +55,32 @@ wrong("node", "order of advertisements: 21 before 8", "        packet = packet[:
       "        need(len(packet) < 40 or self.listed(packet[20:24]), 21)\n        packet = packet[:inner_length(packet)]\n")
 wrong("node", "order of advertisements: 21 before the options are walked", "        smallest = smallest_lifetime(message)\n",
       "        need(self.settings.isatap(source) and self.listed(source[12:]), 21)\n        smallest = smallest_lifetime(message)\n")
+swapped("order of advertising: 11 before 8", "packet = asked[:inner_length(asked)]", "source = self.locator(index)")
+wrong("node", "order of advertising: 24 before 8", "        packet = asked[:inner_length(asked)]\n",
+      "        need(len(asked) < 40 or asked[6] == 58 and asked[7] == 255, 24)\n        packet = asked[:inner_length(asked)]\n")
+wrong("node", "order of advertising: 25 before 8", "        packet = asked[:inner_length(asked)]\n",
+      "        need(len(asked) < 40 or asked[8:16] == LINK_LOCAL, 25)\n        packet = asked[:inner_length(asked)]\n")
+for number, test in ((26, "operator.check()"), (15, "need(56 <= len(output), 15)")):
+    wrong("node", f"order of advertising: {number} before 8", "        packet = asked[:inner_length(asked)]\n",
+          f"        {test}\n        packet = asked[:inner_length(asked)]\n")
+    wrong("node", f"order of advertising: {number} before 11", "        source = self.locator(index)\n        check_solicitation(packet)\n",
+          f"        {test}\n        source = self.locator(index)\n        check_solicitation(packet)\n")
+    wrong("node", f"order of advertising: {number} before 24", "        check_solicitation(packet)\n", f"        {test}\n        check_solicitation(packet)\n")
+    wrong("node", f"order of advertising: {number} before 25", "        asker = packet[8:24]\n", f"        {test}\n        asker = packet[8:24]\n")
+swapped("order of advertising: 24 before 11", "source = self.locator(index)", "check_solicitation(packet)")
+wrong("node", "order of advertising: 25 before 11", "        source = self.locator(index)\n        check_solicitation(packet)\n",
+      "        need(packet[8:16] == LINK_LOCAL, 25)\n        source = self.locator(index)\n        check_solicitation(packet)\n")
+wrong("node", "order of advertising: 25 before 24", "        check_solicitation(packet)\n",
+      "        need(packet[8:16] == LINK_LOCAL and self.settings.isatap(packet[8:24]), 25)\n        check_solicitation(packet)\n")
+wrong("node", "order of advertising: 15 before 26", "        operator.check()\n",
+      "        need(56 + 32 * len(operator.prefixes) <= len(output), 15)\n        operator.check()\n")
+wrong("node", "order of advertising: room for the first eight before 26", "        operator.check()\n",
+      "        need(56 + 32 * min(8, len(operator.prefixes)) + 16 * min(8, len(operator.routes)) <= len(output), 15)\n        operator.check()\n")
+wrong("node", "order of advertising: 11 last of all",
+      "        source = self.locator(index)\n        check_solicitation(packet)\n        asker = packet[8:24]\n"
+      "        need(asker[:8] == LINK_LOCAL and self.settings.isatap(asker), 25)\n        operator.check()\n",
+      "        check_solicitation(packet)\n        asker = packet[8:24]\n"
+      "        need(asker[:8] == LINK_LOCAL and self.settings.isatap(asker), 25)\n        operator.check()\n        source = self.locator(index)\n")
+wrong("node", "order of advertising: 8 last of all",
+      "        packet = asked[:inner_length(asked)]\n        source = self.locator(index)\n",
+      "        source = self.locator(index)\n        operator.check()\n        packet = asked[:inner_length(asked)]\n")

@@ -118,19 +118,11 @@ for name, old, new in (
          "self.routers = [(one, self.latest + wait) for one, _ in self.routers]")):
     wrong("node", "advertisements: " + name, old, new)
 for name, old, new in (
-        ("an option of one byte taken", "need(len(options) >= 2, 20)", "if len(options) < 2: break"),
-        ("an option of length 0 ends the walk", "need(length > 0, 20)", "if length == 0: break"),
-        ("an option of length 0 taken for one of eight bytes", "need(length > 0, 20)", "length = max(1, length)"),
-        ("an option past the end taken", "        need(8 * length <= len(options), 20)\n",
-         "        if 8 * length > len(options):\n            break\n"),
-        ("options not walked", "    while options:\n", "    while False:\n"),
-        ("the first option alone walked", "options = options[8 * length:]", "options = b''"),
-        ("lengths in bytes", "        need(8 * length <= len(options), 20)\n", "        need(8 * length <= len(options) + 7, 20)\n"),
-        ("router lifetime not counted", "lifetimes, options = [number(message[6:8])]", "lifetimes, options = []"),
-        ("router lifetime of 65,535 not counted", "lifetimes, options = [number(message[6:8])]",
-         "lifetimes, options = [number(message[6:8]) % 65535]"),
-        ("router lifetime in the wrong bytes", "lifetimes, options = [number(message[6:8])]",
-         "lifetimes, options = [number(message[4:6])]"),
+        ("router lifetime not counted", "lifetimes = [number(message[6:8])]", "lifetimes = []"),
+        ("router lifetime of 65,535 not counted", "lifetimes = [number(message[6:8])]",
+         "lifetimes = [number(message[6:8]) % 65535]"),
+        ("router lifetime in the wrong bytes", "lifetimes = [number(message[6:8])]",
+         "lifetimes = [number(message[4:6])]"),
         ("prefix options not counted", "if (kind == 3 and length == 4) or", "if"),
         ("prefix options of length 3 counted", "(kind == 3 and length == 4)", "(kind == 3 and length in (3, 4))"),
         ("prefix options of length 5 counted", "(kind == 3 and length == 4)", "(kind == 3 and length in (4, 5))"),
@@ -143,9 +135,9 @@ for name, old, new in (
         ("route options of length 4 counted", "1 <= length <= 3", "1 <= length <= 4"),
         ("options of type 25 counted as routes", "(kind == 24 and", "(kind in (24, 25) and"),
         ("options of type 23 counted as routes", "(kind == 24 and", "(kind in (23, 24) and"),
-        ("preferred lifetime of prefixes counted", "lifetimes.append(number(options[4:8]))",
-         "lifetimes.append(number(options[8:12] if kind == 3 else options[4:8]))"),
-        ("lifetimes of options in two bytes", "lifetimes.append(number(options[4:8]))", "lifetimes.append(number(options[6:8]))"),
+        ("preferred lifetime of prefixes counted", "lifetimes.append(number(option[4:8]))",
+         "lifetimes.append(number(option[8:12] if kind == 3 else option[4:8]))"),
+        ("lifetimes of options in two bytes", "lifetimes.append(number(option[4:8]))", "lifetimes.append(number(option[6:8]))"),
         ("the largest lifetime", "return min((life", "return max((life"),
         ("the last lifetime", "return min((life for life in lifetimes if life not in (0, 0xffffffff)), default=None)",
          "return ([None] + [life for life in lifetimes if life not in (0, 0xffffffff)])[-1]"),
@@ -156,3 +148,25 @@ for name, old, new in (
         ("a lifetime of 0xfffffffe not counted", "if life not in (0, 0xffffffff)", "if life not in (0, 0xfffffffe, 0xffffffff)"),
         ("a lifetime of 1 not counted", "if life not in (0, 0xffffffff)", "if life not in (0, 1, 0xffffffff)")):
     wrong("rules", "advertisements: " + name, old, new)
+
+# ---- The walk over options, of advertisements and of solicitations
+
+for call, number in (("advertisements", 20), ("solicitations", 24)):
+    for name, old, new in (
+            ("an option of one byte taken", "        need(len(options) >= 2, refusal)\n",
+             "        if len(options) < 2 and refusal == {0}:\n            break\n        need(len(options) >= 2, refusal)\n"),
+            ("an option of length 0 ends the walk", "        need(length > 0, refusal)\n",
+             "        if length == 0 and refusal == {0}:\n            break\n        need(length > 0, refusal)\n"),
+            ("an option of length 0 taken for one of eight bytes", "        need(length > 0, refusal)\n",
+             "        length = max(1, length) if refusal == {0} else length\n        need(length > 0, refusal)\n"),
+            ("an option past the end taken", "        need(8 * length <= len(options), refusal)\n",
+             "        if 8 * length > len(options) and refusal == {0}:\n            break\n        need(8 * length <= len(options), refusal)\n"),
+            ("options not walked", "    while options:\n", "    while options and refusal != {0}:\n"),
+            ("the first option alone walked", "options = options[8 * length:]", "options = b'' if refusal == {0} else options[8 * length:]"),
+            ("lengths in bytes", "need(8 * length <= len(options), refusal)", "need(8 * length <= len(options) + 7 * (refusal == {0}), refusal)")):
+        wrong("rules", f"{call}: {name}", old, new.format(number))
+    for count in (3, 12, 20, 24):
+        for name, old, new in (
+                ("more than {1} options refused", "    return found\n", "    need(len(found) <= {1} or refusal != {0}, refusal)\n    return found\n"),
+                ("options behind the first {1} not walked", "    while options:\n", "    while options and (len(found) < {1} or refusal != {0}):\n")):
+            wrong("rules", f"{call}: {name.format(number, count)}", old, new.format(number, count))
