@@ -3,11 +3,13 @@
 use crate::check::Check;
 use crate::measure::Row;
 use crate::nodes::Nodes;
-use crate::packets::{address, advertisement, datagram, option, packet, put, put16, put32, repair_outer, size_report};
+use crate::packets::{address, advertisement, datagram, option, packet, put, put16, put32};
+use crate::packets::{repair_outer, size_report, solicitation};
 use crate::plain::rules::link_local;
 use crate::plain::Address;
-use crate::work::{nodes, work, Call, Turn, Work, KEPT, OTHER, OWN, PREFIXES, ROOM, ROUTERS};
+use crate::work::{nodes, work, Advertised, Call, Turn, Work, KEPT, OTHER, OWN, PREFIXES, ROOM, ROUTERS};
 use crate::{inside, plain_way, pointer_way};
+use bogtrumpet::raw::{AdvertisedPrefix, AdvertisedRoute, Advertisement};
 
 /// Four sources that pass: by fe80::/64, by either prefix, and a listed router's.
 fn passing(turn: u32) -> (u32, Address) {
@@ -120,17 +122,55 @@ fn hears(check: &mut Check) -> Vec<Work> {
     works
 }
 
+/// Lengths of the prefixes of eight routes, for options of each length.
+const ROUTES: [u8; 8] = [0, 16, 32, 48, 56, 64, 96, 128];
+
+/// So many prefixes of 64 bits and so many routes.
+fn advertised(count: usize) -> Advertisement {
+    let mut advertised = Advertisement {
+        prefix_count: count,
+        route_count: count,
+        lifetime: 1800,
+        managed: 1,
+        ..Advertisement::default()
+    };
+    for (place, prefix) in advertised.prefixes.iter_mut().enumerate() {
+        let bytes = address(&PREFIXES[place % 2], 0, OTHER + place as u32);
+        *prefix = AdvertisedPrefix { bytes, valid: 7200, preferred: 3600, length: 64, on_link: 1, autonomous: 1 };
+    }
+    for (place, route) in advertised.routes.iter_mut().enumerate() {
+        let bytes = address(&PREFIXES[place % 2], 0, OTHER + place as u32);
+        *route = AdvertisedRoute { bytes, lifetime: 7200, length: ROUTES[place], preference: place as u8 % 3 };
+    }
+    advertised
+}
+
+/// Solicitations without an option, from four askers.
+fn advertises(check: &mut Check) -> Vec<Work> {
+    let mut works = Vec::new();
+    for (name, count) in [("advertise, no options", 0), ("advertise, 8 + 8 options", 8)] {
+        let nodes = nodes(check, 0);
+        let mut work = work(name.into(), Call::Advertise, 0, nodes, |turn| {
+            solicitation(&mut check.random, &link_local(OTHER + turn), &[])
+        });
+        work.advertised = Advertised::new(advertised(count));
+        works.push(work);
+    }
+    works
+}
+
 /// Makes the calls of some turns on both nodes: answers, outputs and next states must be the same, and the number the row's.
 fn compare(check: &mut Check, work: &Work) {
     let mut nodes = Nodes { library: work.nodes.library, plain: work.nodes.plain };
     for turn in 0..256 {
-        let Turn { input, next_hop, interface, locator, time, .. } = work.turn(turn, &mut []);
+        let Turn { input, next_hop, advertised, interface, locator, time, .. } = work.turn(turn, &mut []);
         let number = match work.call {
             Call::Receive => nodes.receive(check, input, interface),
             Call::Send => nodes.send(check, input, *next_hop, locator, time, ROOM),
             Call::Report => nodes.report(check, input, time),
             Call::Ask => nodes.ask(check, locator, time, ROOM),
             Call::Hear => nodes.hear(check, input, time),
+            Call::Advertise => nodes.advertise(check, input, locator, &advertised.library, ROOM).err().unwrap_or(0),
         };
         assert_eq!(number, work.number, "{}, turn {turn}", work.name);
     }
@@ -142,6 +182,7 @@ pub fn rows(check: &mut Check) -> Vec<Row> {
     works.extend(reports(check));
     works.push(ask(check));
     works.extend(hears(check));
+    works.extend(advertises(check));
     let row = |work: Work| {
         compare(check, &work);
         let work: &'static Work = Box::leak(Box::new(work));

@@ -46,7 +46,7 @@ fn many(work: &Work, out: &mut [u8], count: u32) -> Option<u64> {
         match work.call {
             Call::Receive => Some(bench_receive(node, all, length, size, INTERFACE, count)),
             Call::Send => Some(bench_send(node, all, length, size, next_hop, LOCATOR, START, output, room, count)),
-            Call::Report | Call::Ask | Call::Hear => None,
+            Call::Report | Call::Ask | Call::Hear | Call::Advertise => None,
         }
     }
 }
@@ -56,7 +56,7 @@ fn plain_many(work: &Work, out: &mut [u8], count: u32) -> u64 {
     let mut node = work.nodes.plain;
     let mut sum = 0;
     for turn in 0..count {
-        let Turn { input, next_hop, interface, locator, time, out } = work.turn(turn, out);
+        let Turn { input, next_hop, advertised, interface, locator, time, out } = work.turn(turn, out);
         let answer = match work.call {
             Call::Receive => node.receive(input, interface).map(|part| part.len() as u64),
             Call::Send => node.send(input, next_hop, locator, time, out).map(|sent| match sent {
@@ -66,6 +66,7 @@ fn plain_many(work: &Work, out: &mut [u8], count: u32) -> u64 {
             Call::Report => node.report(input, time).map(|(_, size)| size.into()),
             Call::Ask => node.ask(locator, time, out).map(u64::from),
             Call::Hear => node.hear(input, time).map(u64::from),
+            Call::Advertise => node.advertise(input, locator, &advertised.plain, out).map(|length| length as u64),
         };
         sum += answer.unwrap_or_else(|_| number(&answer).into());
     }

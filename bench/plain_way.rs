@@ -1,7 +1,7 @@
 //! The calls in plain Rust: each call a function of its own, the node by reference.
 
 use crate::measure::Turns;
-use crate::plain::{Address, Node, Refusal, Sent};
+use crate::plain::{Address, Advertisement, Node, Refusal, Sent};
 use crate::work::{turns, Call, Work};
 use std::hint::black_box;
 use std::ops::Range;
@@ -16,6 +16,9 @@ pub fn way(work: &'static Work) -> Turns {
         Call::Report => turns(work, node, |node, turn| _ = black_box(&report(node, turn.input, turn.time))),
         Call::Ask => turns(work, node, |node, turn| _ = black_box(&ask(node, turn.locator, turn.time, turn.out))),
         Call::Hear => turns(work, node, |node, turn| _ = black_box(&hear(node, turn.input, turn.time))),
+        Call::Advertise => turns(work, node, |node, turn| {
+            _ = black_box(&advertise(node, turn.input, turn.locator, &turn.advertised.plain, turn.out));
+        }),
     }
 }
 
@@ -49,6 +52,17 @@ fn ask(node: &mut Node, locator: usize, time: u32, out: &mut [u8]) -> Result<u32
 #[inline(never)]
 fn hear(node: &mut Node, packet: &[u8], time: u32) -> Result<u32, Refusal> {
     node.hear(packet, time)
+}
+
+#[inline(never)]
+fn advertise(
+    node: &Node,
+    packet: &[u8],
+    locator: usize,
+    advertised: &Advertisement,
+    out: &mut [u8],
+) -> Result<usize, Refusal> {
+    node.advertise(packet, locator, advertised, out)
 }
 
 #[inline(never)]

@@ -16,5 +16,8 @@ pub fn way(work: &'static Work) -> Turns {
         Call::Report => turns(work, node, |node, turn| _ = black_box(&node.report(turn.input, turn.time))),
         Call::Ask => turns(work, node, |node, turn| _ = black_box(&node.ask(turn.locator, turn.time, turn.out))),
         Call::Hear => turns(work, node, |node, turn| _ = black_box(&node.hear(turn.input, turn.time))),
+        Call::Advertise => turns(work, node, |node, turn| {
+            _ = black_box(&node.advertise(turn.input, turn.locator, turn.advertised.library, turn.out));
+        }),
     }
 }

@@ -2,10 +2,11 @@
 
 use crate::check::Check;
 use crate::measure::Turns;
-use crate::nodes::Nodes;
+use crate::nodes::{plain_advertisement, Nodes};
 use crate::packets::size_report;
 use crate::plain::rules::link_local;
-use crate::plain::{Address, Locator, Settings};
+use crate::plain::{self, Address, Locator, Settings};
+use bogtrumpet::raw;
 use std::hint::black_box;
 
 pub const INTERFACE: u8 = 1;
@@ -25,10 +26,23 @@ const NEXT_HOP: u32 = KEPT + 32;
 pub const LINK_SIZE: u16 = 9000;
 const REPORTED: u16 = 1500;
 
+/// What an operator has advertised, as either way is handed it.
+pub struct Advertised {
+    pub plain: plain::Advertisement,
+    pub library: raw::Advertisement,
+}
+
+impl Advertised {
+    pub fn new(library: raw::Advertisement) -> Advertised {
+        Advertised { plain: plain_advertisement(&library), library }
+    }
+}
+
 /// What one turn is given.
 pub struct Turn<'a> {
     pub input: &'a [u8],
     pub next_hop: &'a Address,
+    pub advertised: &'a Advertised,
     pub interface: u8,
     pub locator: usize,
     pub time: u32,
@@ -41,6 +55,7 @@ pub enum Call {
     Report,
     Ask,
     Hear,
+    Advertise,
 }
 
 /// One call, made with its inputs in turn.
@@ -54,6 +69,7 @@ pub struct Work {
     pub all: &'static [u8],
     pub inputs: [&'static [u8]; 4],
     pub next_hop: Address,
+    pub advertised: Advertised,
     /// Seconds from turn to turn.
     pub step: u32,
 }
@@ -62,7 +78,8 @@ impl Work {
     /// What a turn is given.
     pub fn turn<'a>(&'a self, turn: u32, out: &'a mut [u8]) -> Turn<'a> {
         let (input, time) = (self.inputs[turn as usize % 4], START + turn * self.step);
-        Turn { input, next_hop: &self.next_hop, interface: INTERFACE, locator: LOCATOR, time, out }
+        let Work { next_hop, advertised, .. } = self;
+        Turn { input, next_hop, advertised, interface: INTERFACE, locator: LOCATOR, time, out }
     }
 }
 
@@ -71,7 +88,8 @@ pub fn work(name: String, call: Call, number: u8, nodes: Nodes, input: impl FnMu
     let all = (0..4).flat_map(input).collect::<Vec<u8>>().leak();
     let size = all.len() / 4;
     let inputs = [0, 1, 2, 3].map(|place| &all[place * size..][..size]);
-    Work { name, call, number, nodes, all, inputs, next_hop: link_local(NEXT_HOP), step: 0 }
+    let advertised = Advertised::new(raw::Advertisement::default());
+    Work { name, call, number, nodes, all, inputs, next_hop: link_local(NEXT_HOP), advertised, step: 0 }
 }
 
 /// A tunnel end with two locators, two prefixes and four routers, and `kept` neighbours in its path table.
@@ -99,7 +117,8 @@ pub fn turns<N: Copy + 'static>(work: &'static Work, start: N, call: impl Fn(&mu
         let mut node = start;
         let mut time = START;
         for (_, input) in (0..turns).zip(work.inputs.iter().cycle()) {
-            let turn = Turn { input, next_hop: &work.next_hop, interface, locator, time, out: &mut out };
+            let Work { next_hop, advertised, .. } = work;
+            let turn = Turn { input, next_hop, advertised, interface, locator, time, out: &mut out };
             call(&mut node, turn);
             time += work.step;
         }

@@ -2,6 +2,7 @@
 //! is one of the call's numbers, a refusal leaves the output alone and changes the latest time only, a part lies in the datagram; and
 //! answer, node and output are the same when the call is made once more elsewhere in memory.
 
+use crate::advertised;
 use crate::check::{hex, same, Check};
 use crate::packets;
 use crate::totals::Call;
@@ -53,7 +54,7 @@ pub fn any_node(check: &mut Check) {
     writing(check, &node, &packet, Address { bytes: source }, number, time);
 }
 
-/// Sending and asking.
+/// Sending, asking and advertising.
 fn writing(check: &mut Check, node: &Node, packet: &[u8], next_hop: Address, locator: usize, time: u32) {
     let room = check.random.one_of(&[0, 47, 48, 79, 80, 1279, 1280, 1600]);
     let tried = Tried { node, bytes: packet, room, time, name: "send" };
@@ -67,6 +68,25 @@ fn writing(check: &mut Check, node: &Node, packet: &[u8], next_hop: Address, loc
     let asked = tried.twice(check, |node, _, out| node.ask(locator, time, out));
     tried.refused(asked.answer.number, &asked);
     tried.count(check, asked.answer.number, &[0, 11, 22, 15]);
+    advertising(check, node, next_hop, locator);
+}
+
+/// Advertising to the address, or to one that is nearly it.
+fn advertising(check: &mut Check, node: &Node, mut asker: Address, locator: usize) {
+    if check.random.once_in(4) {
+        asker.bytes[check.random.below(12)] ^= 1 << check.random.below(8);
+    }
+    let mut packet = packets::solicitation(&mut check.random, &asker.bytes, &[]);
+    packet[41] = check.random.once_in(4).into();
+    packets::repair_icmpv6(&mut packet);
+    let advertised = advertised::any(&mut check.random);
+    let room = check.random.one_of(&[0, 55, 56, 120, 300, advertised::LONGEST]);
+    let tried = Tried { node, bytes: &packet, room, time: 0, name: "advertise" };
+    let gave = tried.twice(check, |node, bytes, out| node.advertise(bytes, locator, advertised, out));
+    tried.refused(gave.answer.number, &gave);
+    same("node", node, &gave.node, &|| tried.words());
+    same("length in the room", &true, &(gave.answer.length <= room), &|| tried.words());
+    tried.count(check, gave.answer.number, &[0, 8, 11, 24, 25, 26, 15]);
 }
 
 /// A call and what it is lent.

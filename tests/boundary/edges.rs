@@ -9,7 +9,7 @@ use crate::plain::{Address, Locator, Settings};
 use crate::random::Random;
 use crate::stateless;
 
-const LOCATOR: u32 = 0x0a00_0001;
+pub const LOCATOR: u32 = 0x0a00_0001;
 const NEIGHBOUR: u32 = 0x0a01_0001;
 const ROUTER: u32 = 0x0a02_0001;
 const PREFIX: [u8; 8] = [0x20, 0x01, 0x0d, 0xb8, 0, 0, 0, 1];
@@ -23,6 +23,7 @@ pub fn edges(check: &mut Check) {
     routers(check);
     lifetimes(check);
     option_kinds(check);
+    option_counts(check);
     places(check);
     messages(check);
     refused_settings(check);
@@ -41,7 +42,7 @@ pub fn settings() -> Settings {
     settings.defaults()
 }
 
-fn node(check: &mut Check, settings: &Settings) -> Nodes {
+pub fn node(check: &mut Check, settings: &Settings) -> Nodes {
     Nodes::new(check, settings).expect("settings within the rules")
 }
 
@@ -191,6 +192,20 @@ fn lifetimes(check: &mut Check) {
     }
 }
 
+/// Up to 40 options, of which the one in each place has the smallest lifetime, or the only one that counts.
+fn option_counts(check: &mut Check) {
+    let mut nodes = node(check, &settings());
+    for (count, units) in (1..=40).flat_map(|count| [1, 2].map(|units| (count, units))) {
+        for (counts, larger) in (0..count).flat_map(|place| [0, 2000].map(|larger| (place, larger))) {
+            let lifetime = |place| if place == counts { 1000 } else { larger };
+            let options: Vec<_> =
+                (0..count).flat_map(|place| packets::option(&mut check.random, 24, units, lifetime(place))).collect();
+            let packet = packets::advertisement(&mut check.random, &link_local(ROUTER), 0, &options);
+            nodes.hear(check, &packet, 0);
+        }
+    }
+}
+
 /// Every type of option with every length about the right ones, alone and before and behind another.
 fn option_kinds(check: &mut Check) {
     let mut nodes = node(check, &settings());
@@ -324,7 +339,7 @@ fn refused_settings(check: &mut Check) {
 }
 
 /// Gives the bytes with each single byte changed in each way, and cut at each length.
-fn changed(bytes: &[u8], first: usize, mut tried: impl FnMut(Vec<u8>)) {
+pub fn changed(bytes: &[u8], first: usize, mut tried: impl FnMut(Vec<u8>)) {
     for at in 0..first.min(bytes.len()) {
         for value in 0..=255 {
             let mut changed = bytes.to_vec();

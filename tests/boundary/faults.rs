@@ -2,7 +2,9 @@
 
 use crate::check::{same, Check};
 use crate::nodes::Nodes;
+use crate::plain::rules::{address_at, u16_at, u32_at};
 use crate::plain::{Locator, Settings};
+use bogtrumpet::raw::Advertisement;
 
 const CALLS: &str = include_str!("../double_faults.txt");
 
@@ -29,8 +31,39 @@ fn given(check: &mut Check, words: &[&str]) -> u8 {
         "report" => nodes.report(check, &bytes(last), 0),
         "ask" => nodes.ask(check, number(words[3]), 0, number(words[4])),
         "advertisement" => nodes.hear(check, &bytes(last), 0),
+        "advertise" => {
+            let (locator, room, advertised) = (number(words[3]), number(words[4]), advertised(&bytes(words[5])));
+            nodes.advertise(check, &bytes(last), locator, &advertised, room).err().unwrap_or(0)
+        }
         other => panic!("no call: {other}"),
     }
+}
+
+/// The operator's advertisement, of which all is there, as docs/REPLAY.md has it.
+fn advertised(mut bytes: &[u8]) -> Advertisement {
+    let mut next = |length| bytes.split_off(..length).expect("so many bytes");
+    let mut advertised = Advertisement::default();
+    let flags = next(1)[0];
+    (advertised.managed, advertised.other) = (flags & 0x80, flags & 0x40);
+    advertised.lifetime = u16_at(next(2), 0);
+    advertised.prefix_count = u16_at(next(2), 0).into();
+    for place in 0..advertised.prefix_count {
+        let entry = next(26);
+        if let Some(prefix) = advertised.prefixes.get_mut(place) {
+            (prefix.length, prefix.on_link, prefix.autonomous) = (entry[0], entry[1] & 0x80, entry[1] & 0x40);
+            (prefix.valid, prefix.preferred) = (u32_at(entry, 2), u32_at(entry, 6));
+            prefix.bytes = address_at(entry, 10);
+        }
+    }
+    advertised.route_count = u16_at(next(2), 0).into();
+    for place in 0..advertised.route_count {
+        let entry = next(22);
+        if let Some(route) = advertised.routes.get_mut(place) {
+            (route.length, route.preference) = (entry[0], entry[1]);
+            (route.lifetime, route.bytes) = (u32_at(entry, 2), address_at(entry, 6));
+        }
+    }
+    advertised
 }
 
 fn number(word: &str) -> usize {

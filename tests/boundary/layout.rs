@@ -1,6 +1,9 @@
 //! The structs of the Rust package have their fields where the C header has them, and texts and constants are the same.
 
+use crate::advertised;
 use crate::check::same;
+use crate::nodes::{HIGH, LOW};
+use crate::plain::rules::ENTRIES;
 use bogtrumpet::raw::*;
 use bogtrumpet::Refusal;
 use std::ffi::{c_char, CStr};
@@ -9,7 +12,7 @@ use std::mem::offset_of;
 extern "C" {
     static bogtrumpet_layout: [usize; 0];
     static bogtrumpet_layout_length: usize;
-    static bogtrumpet_constants: [usize; 8];
+    static bogtrumpet_constants: [usize; 12];
     fn bogtrumpet_text(number: u8) -> *const c_char;
 }
 
@@ -34,9 +37,13 @@ pub fn compare() {
         bogtrumpet::SOLICITATION_LENGTH,
         bogtrumpet::MAX_TOO_BIG_LENGTH,
         bogtrumpet::MAX_SENT_LENGTH,
+        ENTRIES,
+        advertised::LONGEST,
+        HIGH.into(),
+        LOW.into(),
     ];
     // SAFETY: through.c's table has that length.
-    same("constants", unsafe { &bogtrumpet_constants }, &constants, &|| "the header and the package".into());
+    same("constants", unsafe { &bogtrumpet_constants }, &constants, &|| "the header, the package and the rules".into());
 }
 
 fn texts() {
@@ -66,11 +73,15 @@ fn places() {
         Paths: neighbours sizes times count;
         Node: service paths latest;
         Addresses: routers count;
+        AdvertisedPrefix: bytes valid preferred length on_link autonomous;
+        AdvertisedRoute: bytes lifetime length preference;
+        Advertisement: prefixes prefix_count routes route_count lifetime managed other;
         Received: number offset length;
         Sent: number size length message_length;
         Reported: number neighbour size;
         Asked: number router;
         Heard: number router;
+        Advertised: number length;
         Prefixes: bytes count;
         Embedded: found address;
         OuterRead: number protocol header total source destination;

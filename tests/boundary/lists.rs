@@ -1,5 +1,6 @@
 //! Random lists of calls on one node: mostly valid, often nearly so.
 
+use crate::advertised;
 use crate::check::Check;
 use crate::nodes::{self, Nodes};
 use crate::packets::{self, put, put16, put32, EDGES};
@@ -15,6 +16,8 @@ const LINK_SIZES: [u16; 14] = [576, 577, 1279, 1280, 1299, 1300, 1301, 1302, 149
 /// A node and those around it.
 struct World {
     nodes: Nodes,
+    /// A node that hears what this one advertises.
+    hearer: Nodes,
     settings: Settings,
     neighbours: Vec<u32>,
     routers: Vec<u32>,
@@ -36,14 +39,15 @@ pub fn list(check: &mut Check, calls: usize) {
         settings = settings.defaults();
     }
     let Some(nodes) = Nodes::new(check, &settings) else { return };
+    let hearer = advertised::hearer(check, &settings);
     let random = &mut check.random;
     let count = random.one_of(&[2, 10, 40, 63, 64, 65, 66, 80, 130]);
     let neighbours = (0..count).map(|i| 0x0a01_0000 + i as u32).collect();
     let routers = (0..20).map(|i| 0x0a02_0000 + i).chain(settings.routers).collect();
     let pace = random.one_of(&[0, 1, 1, 3, 10, 100, 700]);
-    let mut world = World { nodes, settings, neighbours, routers, pace };
+    let mut world = World { nodes, hearer, settings, neighbours, routers, pace };
     // A list has its own habits, so that tables fill in some and age in others.
-    let mut weights = [0; 6];
+    let mut weights = [0; 7];
     weights.iter_mut().for_each(|weight| *weight = random.one_of(&[1, 4, 16]));
     if random.once_in(6) {
         let start = random.one_of(&[u32::MAX - 3000, u32::MAX - 600, 1 << 31]);
@@ -57,7 +61,7 @@ pub fn list(check: &mut Check, calls: usize) {
     }
 }
 
-fn call(check: &mut Check, world: &mut World, weights: &[usize; 6]) {
+fn call(check: &mut Check, world: &mut World, weights: &[usize; 7]) {
     let mut choice = check.random.below(weights.iter().sum());
     let mut kind = 0;
     while choice >= weights[kind] {
@@ -70,7 +74,8 @@ fn call(check: &mut Check, world: &mut World, weights: &[usize; 6]) {
         2 => report(check, world),
         3 => replace(check, world),
         4 => ask(check, world),
-        _ => hear(check, world),
+        5 => hear(check, world),
+        _ => advertise(check, world),
     }
     let neighbour = any_address(&mut check.random, world);
     world.nodes.path_size(check, neighbour);
@@ -406,16 +411,25 @@ fn hear(check: &mut Check, world: &mut World) {
         packets::address(&LINK_LOCAL, random.one_of(&[0, 2]), router)
     };
     let mut options = Vec::new();
-    for _ in 0..random.one_of(&[0, 1, 1, 2, 3, 6]) {
+    for _ in 0..option_count(random) {
         options.extend(option(random, world.settings.interval));
     }
     let router_lifetime = lifetime(random, world.settings.interval).min(65535) as u16;
     let mut packet = packets::advertisement(random, &source, router_lifetime, &options);
     if random.once_in(4) {
-        damage_advertisement(random, &mut packet);
+        damage_message(random, &mut packet, 56);
     }
     let time = time(random, world);
     world.nodes.hear(check, &packet, time);
+}
+
+/// How many options a message has: mostly a few, now and then up to 40.
+fn option_count(random: &mut Random) -> usize {
+    if random.once_in(8) {
+        random.between(0, 40)
+    } else {
+        random.one_of(&[0, 0, 1, 1, 2, 3, 5, 6])
+    }
 }
 
 fn option(random: &mut Random, interval: u16) -> Vec<u8> {
@@ -441,20 +455,68 @@ fn lifetime(random: &mut Random, interval: u16) -> u32 {
     }
 }
 
-fn damage_advertisement(random: &mut Random, packet: &mut Vec<u8>) {
+/// Changes one thing of a message whose options start at the place.
+fn damage_message(random: &mut Random, packet: &mut Vec<u8>, options: usize) {
     let payload = packet.len() as u16 - 40;
     match random.below(10) {
         0 => packet[6] = random.one_of(&[0, 57, 59]),
         1 => packet[7] = random.one_of(&[0, 64, 254]),
-        2 => packet[40] = random.one_of(&[133, 135, 2]),
+        2 => packet[40] = packet[40].wrapping_add(random.one_of(&[1, 2, 124, 255])),
         3 => packet[41] = 1,
         4 => put16(packet, 4, payload.wrapping_sub(random.between(0, 24) as u16)),
         5 => put16(packet, 4, payload + random.below(9) as u16),
-        6 if packet.len() > 57 => packet[57] = random.below(8) as u8,
+        6 if packet.len() > options + 1 => packet[options + 1] = random.below(8) as u8,
         7 => packet.extend([0; 3]),
         _ => packets::damage(random, packet),
     }
     if !random.once_in(5) {
         packets::repair_icmpv6(packet);
     }
+}
+
+fn advertise(check: &mut Check, world: &mut World) {
+    let random = &mut check.random;
+    let packet = solicitation(random, world);
+    let locator = locator_number(random, world);
+    let advertised = advertised::any(random);
+    let needed = nodes::plain_advertisement(&advertised);
+    let needed = world.nodes.plain.advertise(&packet, locator, &needed, &mut [0; advertised::LONGEST]);
+    let room = match (needed, random.below(12)) {
+        (Ok(length), 0) => length - 1,
+        (Ok(length), 1) => length + random.between(1, 300),
+        (Ok(length), 2..) => length,
+        (Err(_), _) => random.one_of(&[0, 55, 56, advertised::LONGEST]),
+    };
+    let written = world.nodes.advertise(check, &packet, locator, &advertised, room);
+    if let Ok(written) = written {
+        let time = time(&mut check.random, world);
+        let writer = world.settings.locators[locator].address;
+        advertised::heard(check, &mut world.hearer, writer, &advertised, &written, time);
+    }
+}
+
+/// A packet that asks, mostly from a link-local ISATAP address.
+fn solicitation(random: &mut Random, world: &World) -> Vec<u8> {
+    let embedded = any_address(random, world);
+    let asker = match random.below(12) {
+        0 => [0; 16],
+        1 => other_source(random),
+        2 => embedding(random, &world.settings, embedded),
+        _ => packets::address(&LINK_LOCAL, random.one_of(&[0, 2]), embedded),
+    };
+    let mut options = Vec::new();
+    let (count, source_too) = (option_count(random), !random.once_in(3));
+    let source_at = random.below(count + 1);
+    for place in 0..count {
+        let any = random.next() as u8;
+        let kind = if source_too && place == source_at { 1 } else { random.one_of(&[2, 2, 3, 24, any]) };
+        let units = random.between(1, 4) as u8;
+        let lifetime = random.next() as u32;
+        options.extend(packets::option(random, kind, units, lifetime));
+    }
+    let mut packet = packets::solicitation(random, &asker, &options);
+    if random.once_in(3) {
+        damage_message(random, &mut packet, 48);
+    }
+    packet
 }

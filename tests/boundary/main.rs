@@ -7,6 +7,8 @@
 //! `lists` leaves the edges out. One line of totals, or the first difference and status 1. Status 1 too if a run of a million calls
 //! or more never met an answer that can come. `stack` has a line for each call, and status 1 if one needs more than the limit.
 
+mod advertise_edges;
+mod advertised;
 mod any_node;
 mod check;
 mod edges;
@@ -45,6 +47,7 @@ fn compare(check: &mut Check, calls: u64, with_edges: bool) {
     faults::faults(check);
     if with_edges {
         edges::edges(check);
+        advertise_edges::edges(check);
         rules::edges(check);
     }
     while check.totals.calls < calls {

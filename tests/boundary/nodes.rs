@@ -1,9 +1,10 @@
 //! A node of the library beside one of plain Rust. Each call is made on both; answers, next states and outputs must be the same.
 
 use crate::check::{hex, same, same_input, same_node, Check};
+use crate::plain::rules::{Preference, Prefix, Route};
 use crate::plain::{self, Address, Refusal};
 use crate::totals::{Call, TOO_BIG_SILENT};
-use bogtrumpet::raw::{self, Asked, Heard, Received, Reported, Sent};
+use bogtrumpet::raw::{self, Advertised, Asked, Heard, Received, Reported, Sent};
 
 pub struct Nodes {
     pub library: raw::Node,
@@ -33,6 +34,39 @@ pub fn boundary_settings(settings: &plain::Settings) -> raw::Settings {
         interval: settings.interval,
         identification: settings.identification,
         reporting: settings.reporting,
+    }
+}
+
+/// The preferences of a route; any other byte is medium.
+pub const HIGH: u8 = 1;
+pub const LOW: u8 = 2;
+
+/// The operator's advertisement as plain Rust has it: any byte but 0 sets a flag.
+pub fn plain_advertisement(given: &raw::Advertisement) -> plain::Advertisement {
+    plain::Advertisement {
+        managed: given.managed != 0,
+        other: given.other != 0,
+        lifetime: given.lifetime,
+        prefixes: given.prefixes.map(|prefix| Prefix {
+            bytes: prefix.bytes,
+            length: prefix.length,
+            on_link: prefix.on_link != 0,
+            autonomous: prefix.autonomous != 0,
+            valid: prefix.valid,
+            preferred: prefix.preferred,
+        }),
+        prefix_count: given.prefix_count,
+        routes: given.routes.map(|route| Route {
+            bytes: route.bytes,
+            length: route.length,
+            preference: match route.preference {
+                HIGH => Preference::High,
+                LOW => Preference::Low,
+                _ => Preference::Medium,
+            },
+            lifetime: route.lifetime,
+        }),
+        route_count: given.route_count,
     }
 }
 
@@ -171,6 +205,31 @@ impl Nodes {
         self.next(library.number, *node, time, &call);
         check.totals.count(Call::Hear, library.number.into());
         library.number
+    }
+
+    /// What was written, or the number.
+    pub fn advertise(
+        &self,
+        check: &mut Check,
+        packet: &[u8],
+        locator: usize,
+        advertised: &raw::Advertisement,
+        room: usize,
+    ) -> Result<Vec<u8>, u8> {
+        let (loan, node) = check.lend_node(&self.library, packet, room);
+        let library = node.advertise(loan.input, locator, *advertised, loan.library);
+        let plain = self.plain.advertise(packet, locator, &plain_advertisement(advertised), loan.plain);
+        let call = || {
+            let arguments = format!("locator {locator} {advertised:?} room {room}");
+            format!("advertise {} {arguments}, {}", hex(packet), self.state())
+        };
+        let expected = Advertised { number: number(&plain), length: plain.unwrap_or(0) };
+        same("answer", &expected, &library, &call);
+        loan.same_output(packet, &call);
+        same_node(&self.library, node, &call);
+        let written = loan.library[..library.length].to_vec();
+        check.totals.count(Call::Advertise, library.number.into());
+        plain.map(|_| written).map_err(|refusal| refusal as u8)
     }
 
     pub fn path_size(&self, check: &mut Check, neighbour: u32) -> u16 {

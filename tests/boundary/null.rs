@@ -1,6 +1,7 @@
 //! (NULL, 0) for each lent slice: the same answers as for an empty one.
 
 use crate::check::{same, Check};
+use crate::packets;
 use crate::plain::rules;
 use crate::totals::Call;
 use bogtrumpet::raw::{self, *};
@@ -38,6 +39,7 @@ pub fn null_slices(check: &mut Check, settings: Settings) {
     same("numbers", &[2, 8, 15, 16, 15, 8, 2, 2, 8, 15, 15], &numbers, &call);
     same("node", &start, &node, &call);
     large_and_silent(&mut node, hop);
+    advertises(check, &node, hop);
     sums(check);
     wraps(check);
     check.totals.count(Call::Null, 0);
@@ -49,6 +51,22 @@ fn large_and_silent(node: &mut Node, hop: Address) {
     (packet[0], packet[4], packet[5]) = (0x60, 0x24, 0x2c);
     let answer = unsafe { bogtrumpet_send(node, packet.as_ptr(), packet.len(), hop, 0, 0, null_mut(), 0) };
     same("no message", &(14, 0), &(answer.number, answer.message_length), &|| "send 9300 from :: to (NULL, 0)".into());
+}
+
+/// No packet that asks, then no output.
+fn advertises(check: &mut Check, node: &Node, asker: Address) {
+    let packet = packets::solicitation(&mut check.random, &asker.bytes, &[]);
+    let (loan, node) = check.lend_node(node, &packet, 56);
+    let (none, all) = (Advertisement::default(), (loan.input.as_ptr(), loan.input.len()));
+    let (out, room) = (loan.library.as_mut_ptr(), loan.library.len());
+    let (unasked, unlent) = unsafe {
+        let unasked = bogtrumpet_advertise(node, null(), 0, 0, none, out, room);
+        (unasked, bogtrumpet_advertise(node, all.0, all.1, 0, none, null_mut(), 0))
+    };
+    let call = || "advertise (NULL, 0), and to (NULL, 0)".into();
+    same("numbers", &(8, 15), &(unasked.number, unlent.number), &call);
+    same("lengths", &(0, 0), &(unasked.length, unlent.length), &call);
+    loan.same_output(&packet, &call);
 }
 
 fn sums(check: &mut Check) {

@@ -107,11 +107,23 @@ pub fn repair_report(message: &mut [u8]) {
 
 /// A router advertisement from this source with these options behind its first 16 bytes.
 pub fn advertisement(random: &mut Random, source: &Address, lifetime: u16, options: &[u8]) -> Vec<u8> {
-    let mut packet = packet(random, 56 + options.len(), 58, source);
-    packet[7] = 255;
-    put(&mut packet, 40, &[134, 0]);
+    let mut packet = router_message(random, source, 134, 16, options);
     put16(&mut packet, 46, lifetime);
-    put(&mut packet, 56, options);
+    repair_icmpv6(&mut packet);
+    packet
+}
+
+/// A router solicitation from this source with these options behind its first 8 bytes.
+pub fn solicitation(random: &mut Random, source: &Address, options: &[u8]) -> Vec<u8> {
+    router_message(random, source, 133, 8, options)
+}
+
+/// A message of that type with these options behind its first `front` bytes, of which those that no rule names are random.
+fn router_message(random: &mut Random, source: &Address, kind: u8, front: usize, options: &[u8]) -> Vec<u8> {
+    let mut packet = packet(random, 40 + front + options.len(), 58, source);
+    packet[7] = 255;
+    put(&mut packet, 40, &[kind, 0]);
+    put(&mut packet, 40 + front, options);
     repair_icmpv6(&mut packet);
     packet
 }
@@ -135,7 +147,7 @@ fn repair(bytes: &mut [u8], at: usize, start: u32) {
     put16(bytes, at, if sum == 0xffff && bytes[0] & 1 == 0 { 0xffff } else { !sum });
 }
 
-/// An advertisement's option of `units` times 8 bytes, with a lifetime where prefix and route options have theirs.
+/// A message's option of `units` times 8 bytes, with a lifetime where prefix and route options have theirs.
 pub fn option(random: &mut Random, kind: u8, units: u8, lifetime: u32) -> Vec<u8> {
     let mut option = vec![0; 8 * usize::from(units).max(1)];
     random.fill(&mut option);

@@ -5,7 +5,7 @@
 pub mod rules;
 
 use rules::{address_at, forbidden, isatap, u16_at, u32_at, Outer, OUTER_HEADER, TUNNELLED};
-pub use rules::{Address, Refusal};
+pub use rules::{Address, Advertisement, Refusal};
 use std::ops::Range;
 
 pub const LOCATORS: usize = 8;
@@ -353,6 +353,21 @@ impl Node {
         let wait = lifetime.map_or(RENEWAL, |lifetime| (lifetime / 2).max(u32::from(self.settings.interval)));
         router.due = u64::from(self.latest) + u64::from(wait);
         Ok(advertiser)
+    }
+
+    /// Writes the operator's advertisement for the packet that asks and gives its length; 8, 11, 24, 25, 26, 15.
+    pub fn advertise(
+        &self,
+        packet: &[u8],
+        locator: usize,
+        advertised: &Advertisement,
+        out: &mut [u8],
+    ) -> Result<usize, Refusal> {
+        let packet = &packet[..rules::inner_length(packet)?];
+        let source = self.locator(locator)?;
+        let asker = rules::solicited(packet)?;
+        isatap(&[], &asker).ok_or(Refusal::Asker)?;
+        rules::advertisement(source, &asker, advertised, out)
     }
 
     /// The size in force toward the neighbour at the latest time.

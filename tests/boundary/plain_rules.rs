@@ -31,6 +31,9 @@ pub enum Refusal {
     Unlisted = 21,
     NoneDue = 22,
     TooLong = 23,
+    NoSolicitation = 24,
+    Asker = 25,
+    Entries = 26,
 }
 
 pub const OUTER_HEADER: usize = 20;
@@ -42,6 +45,15 @@ const UNSPECIFIED: Address = [0; 16];
 const LOOPBACK: Address = [0, 0, 0, 0, 0, 0, 0, 0, 0, 0, 0, 0, 0, 0, 0, 1];
 /// The most of a packet that a Too Big quotes.
 const QUOTED: usize = 1232;
+/// The first byte of a router's two messages.
+const SOLICITATION: u8 = 133;
+const ADVERTISEMENT: u8 = 134;
+/// The types of the options that the rules name.
+const SOURCE_LINK_LAYER: u8 = 1;
+const PREFIX: u8 = 3;
+const ROUTE: u8 = 24;
+/// The most prefixes of an advertisement, and the most routes.
+pub const ENTRIES: usize = 8;
 
 /// The 16-bit field at `at`.
 pub fn u16_at(bytes: &[u8], at: usize) -> u16 {
@@ -268,38 +280,195 @@ pub fn too_big(reporting: &Address, size: u16, packet: &[u8], out: &mut [u8]) ->
 /// Writes a router solicitation from our link-local address to the router's and gives its length; 15.
 pub fn solicitation(locator: u32, router: u32, out: &mut [u8]) -> Result<usize, Refusal> {
     let out = out.get_mut(..48).ok_or(Refusal::Room)?;
-    out[40..48].copy_from_slice(&[133, 0, 0, 0, 0, 0, 0, 0]);
+    out[40..48].copy_from_slice(&[SOLICITATION, 0, 0, 0, 0, 0, 0, 0]);
     finish_message(out, 255, &link_local(locator), &link_local(router));
     Ok(48)
 }
 
-/// The lifetime to renew a router by: the smallest that counts of an advertisement, `None` if none does; 20.
-pub fn advertised_lifetime(packet: &[u8]) -> Result<Option<u32>, Refusal> {
-    let refused = Err(Refusal::NoAdvertisement);
+/// The message of a packet that is valid but for its source and options: of that type, and at least so long.
+#[inline]
+fn router_message(packet: &[u8], kind: u8, least: usize) -> Option<&[u8]> {
     let message = &packet[INNER_HEADER..];
-    if packet[6] != ICMPV6 || packet[7] != 255 || !is_link_local(&address_at(packet, 8)) {
-        return refused;
-    }
-    if message.len() < 16 || message[0] != 134 || message[1] != 0 || !icmpv6_right(packet) {
-        return refused;
-    }
-    let mut smallest = counted(u32::from(u16_at(message, 6)));
-    let mut options = &message[16..];
+    let valid = packet[6] == ICMPV6
+        && packet[7] == 255
+        && message.len() >= least
+        && message[0] == kind
+        && message[1] == 0
+        && icmpv6_right(packet);
+    valid.then_some(message)
+}
+
+/// Hands over each option; `None` where one has length 0 or they do not end where the bytes do.
+#[inline]
+fn each_option(mut options: &[u8], mut seen: impl FnMut(&[u8])) -> Option<()> {
     while !options.is_empty() {
         if options.len() < 2 || options[1] == 0 || usize::from(options[1]) * 8 > options.len() {
-            return refused;
+            return None;
         }
         let (option, rest) = options.split_at(usize::from(options[1]) * 8);
-        if matches!((option[0], option[1]), (3, 4) | (24, 1..=3)) {
+        seen(option);
+        options = rest;
+    }
+    Some(())
+}
+
+/// The lifetime to renew a router by: the smallest that counts of an advertisement, `None` if none does; 20.
+pub fn advertised_lifetime(packet: &[u8]) -> Result<Option<u32>, Refusal> {
+    let message = router_message(packet, ADVERTISEMENT, 16).ok_or(Refusal::NoAdvertisement)?;
+    if !is_link_local(&address_at(packet, 8)) {
+        return Err(Refusal::NoAdvertisement);
+    }
+    let mut smallest = counted(u32::from(u16_at(message, 6)));
+    each_option(&message[16..], |option| {
+        if matches!((option[0], option[1]), (PREFIX, 4) | (ROUTE, 1..=3)) {
             let lifetime = counted(u32_at(option, 4));
             smallest = smallest.into_iter().chain(lifetime).min();
         }
-        options = rest;
-    }
+    })
+    .ok_or(Refusal::NoAdvertisement)?;
     Ok(smallest)
 }
 
 /// A lifetime, unless it is one of those that do not count.
 fn counted(lifetime: u32) -> Option<u32> {
     (lifetime != 0 && lifetime != u32::MAX).then_some(lifetime)
+}
+
+/// Who asks by a router solicitation; 24.
+pub fn solicited(packet: &[u8]) -> Result<Address, Refusal> {
+    let message = router_message(packet, SOLICITATION, 8).ok_or(Refusal::NoSolicitation)?;
+    let mut with_source = false;
+    each_option(&message[8..], |option| with_source |= option[0] == SOURCE_LINK_LAYER)
+        .ok_or(Refusal::NoSolicitation)?;
+    let asker = address_at(packet, 8);
+    if asker == UNSPECIFIED && with_source {
+        return Err(Refusal::NoSolicitation);
+    }
+    Ok(asker)
+}
+
+/// A prefix that a router advertises.
+#[derive(Clone, Copy, Debug, Default, PartialEq, Eq)]
+pub struct Prefix {
+    pub bytes: Address,
+    pub length: u8,
+    pub on_link: bool,
+    pub autonomous: bool,
+    pub valid: u32,
+    pub preferred: u32,
+}
+
+#[derive(Clone, Copy, Debug, Default, PartialEq, Eq)]
+pub enum Preference {
+    High,
+    #[default]
+    Medium,
+    Low,
+}
+
+/// A route that a router advertises.
+#[derive(Clone, Copy, Debug, Default, PartialEq, Eq)]
+pub struct Route {
+    pub bytes: Address,
+    pub length: u8,
+    pub preference: Preference,
+    pub lifetime: u32,
+}
+
+/// What an operator has advertised; a count above its array's length is refused with the rest.
+#[derive(Clone, Copy, Debug, Default, PartialEq, Eq)]
+pub struct Advertisement {
+    pub managed: bool,
+    pub other: bool,
+    pub lifetime: u16,
+    pub prefixes: [Prefix; ENTRIES],
+    pub prefix_count: usize,
+    pub routes: [Route; ENTRIES],
+    pub route_count: usize,
+}
+
+impl Advertisement {
+    /// The prefixes and routes that count; 26.
+    fn entries(&self) -> Result<(&[Prefix], &[Route]), Refusal> {
+        let prefixes = self.prefixes.get(..self.prefix_count).ok_or(Refusal::Entries)?;
+        let routes = self.routes.get(..self.route_count).ok_or(Refusal::Entries)?;
+        let mut lengths = prefixes.iter().map(|prefix| prefix.length).chain(routes.iter().map(|route| route.length));
+        if lengths.any(|length| length > 128) {
+            return Err(Refusal::Entries);
+        }
+        Ok((prefixes, routes))
+    }
+}
+
+/// The first `length` bits, and 0 behind them.
+fn masked(bytes: &Address, length: u8) -> Address {
+    let mask = u128::MAX.checked_shl(128 - u32::from(length)).unwrap_or(0);
+    (u128::from_be_bytes(*bytes) & mask).to_be_bytes()
+}
+
+impl Prefix {
+    const OPTION: usize = 32;
+
+    fn write(&self, option: &mut [u8]) {
+        let flags = u8::from(self.on_link) << 7 | u8::from(self.autonomous) << 6;
+        option[..4].copy_from_slice(&[PREFIX, 4, self.length, flags]);
+        option[4..8].copy_from_slice(&self.valid.to_be_bytes());
+        option[8..12].copy_from_slice(&self.preferred.to_be_bytes());
+        option[12..16].fill(0);
+        option[16..].copy_from_slice(&masked(&self.bytes, self.length));
+    }
+}
+
+impl Route {
+    /// The option's length: the shortest that holds the prefix.
+    fn option(&self) -> usize {
+        8 + 8 * usize::from(self.length.div_ceil(64))
+    }
+
+    fn write(&self, option: &mut [u8]) {
+        let preference = match self.preference {
+            Preference::High => 0x08,
+            Preference::Medium => 0x00,
+            Preference::Low => 0x18,
+        };
+        let units = (self.option() / 8) as u8;
+        option[..4].copy_from_slice(&[ROUTE, units, self.length, preference]);
+        option[4..8].copy_from_slice(&self.lifetime.to_be_bytes());
+        let prefix = masked(&self.bytes, self.length);
+        // Copies of a length that is known: one move each.
+        match option.len() {
+            8 => (),
+            16 => option[8..].copy_from_slice(&prefix[..8]),
+            _ => option[8..].copy_from_slice(&prefix),
+        }
+    }
+}
+
+/// Writes the advertisement from our link-local address to the asker and gives its length; 26, 15.
+pub fn advertisement(
+    locator: u32,
+    asker: &Address,
+    advertised: &Advertisement,
+    out: &mut [u8],
+) -> Result<usize, Refusal> {
+    let (prefixes, routes) = advertised.entries()?;
+    let length = 56 + Prefix::OPTION * prefixes.len() + routes.iter().map(Route::option).sum::<usize>();
+    let out = out.get_mut(..length).ok_or(Refusal::Room)?;
+    let flags = u8::from(advertised.managed) << 7 | u8::from(advertised.other) << 6;
+    out[40..46].copy_from_slice(&[ADVERTISEMENT, 0, 0, 0, 0, flags]);
+    out[46..48].copy_from_slice(&advertised.lifetime.to_be_bytes());
+    out[48..56].fill(0);
+    let mut rest = &mut out[56..];
+    for prefix in prefixes {
+        let (option, behind) = rest.split_at_mut(Prefix::OPTION);
+        prefix.write(option);
+        rest = behind;
+    }
+    for route in routes {
+        let (option, behind) = rest.split_at_mut(route.option());
+        route.write(option);
+        rest = behind;
+    }
+    finish_message(out, 255, &link_local(locator), asker);
+    Ok(length)
 }

@@ -1,6 +1,7 @@
 //! The stack that each exported call needs on the worst inputs that one can think of: longest, most options, full tables. It is painted
 //! below the call and looked through afterwards.
 
+use crate::advertised;
 use crate::packets;
 use crate::plain::rules::link_local;
 use crate::random::Random;
@@ -16,8 +17,9 @@ const LOCATOR: u32 = 0x0a00_0001;
 const NEIGHBOUR: u32 = 0x0a01_0001;
 const ROUTER: u32 = 0x0a02_0001;
 const PREFIX: [u8; 8] = [0x20, 0x01, 0x0d, 0xb8, 0, 0, 0, 7];
-/// The options of an advertisement as long as one can be.
+/// The options of an advertisement as long as one can be, and of a solicitation.
 const OPTIONS: usize = 65_512;
+const ASKED_OPTIONS: usize = 65_520;
 
 /// The bytes of stack between here and the deepest place that the call wrote to: its own frames, its arguments and its answer.
 #[inline(never)]
@@ -77,6 +79,7 @@ fn all() -> Needs {
     sending(&mut needs, &mut random, node);
     reports(&mut needs, &mut random, node);
     routers(&mut needs, &mut random, node);
+    advertising(&mut needs, &mut random, &node);
     rules(&mut needs, &mut random);
     needs
 }
@@ -160,15 +163,24 @@ fn routers(needs: &mut Needs, random: &mut Random, start: Node) {
         needs.call("ask", || node.ask(7, 1001, &mut []));
     }
     for router in [ROUTER + 15, NEIGHBOUR] {
-        for (kind, units) in [(1, 1), (24, 1), (24, 3), (3, 4), (5, 255)] {
-            let mut options = Vec::new();
-            while options.len() < OPTIONS {
-                let units = units.min((OPTIONS - options.len()) / 8);
-                options.extend(packets::option(random, kind, units as u8, 4000));
-            }
+        for (kind, units) in KINDS {
+            let options = options(random, kind, units, OPTIONS);
             advertisements(needs, &packets::advertisement(random, &link_local(router), 1800, &options), start);
         }
     }
+}
+
+/// Types of options and their lengths, to fill a message with.
+const KINDS: [(u8, usize); 5] = [(1, 1), (24, 1), (24, 3), (3, 4), (5, 255)];
+
+/// Options of one type, of that length as long as it fits, and together of the size.
+fn options(random: &mut Random, kind: u8, units: usize, size: usize) -> Vec<u8> {
+    let mut options = Vec::new();
+    while options.len() < size {
+        let units = units.min((size - options.len()) / 8);
+        options.extend(packets::option(random, kind, units as u8, 4000));
+    }
+    options
 }
 
 /// The longest advertisement as it is, and with each thing wrong that is judged before or behind its options.
@@ -184,6 +196,40 @@ fn advertisements(needs: &mut Needs, packet: &[u8], start: Node) {
                 packets::repair_icmpv6(&mut packet);
             }
             needs.call("hear", || node.hear(&packet, 1001));
+        }
+    }
+}
+
+/// As much as there can be, to the longest solicitations, from an asker and from `::`, and to the longest packet; as they are, and with
+/// each thing wrong that is judged before or behind their options.
+fn advertising(needs: &mut Needs, random: &mut Random, node: &Node) {
+    let mut full = advertised::any(random);
+    (full.prefix_count, full.route_count) = (8, 8);
+    for place in 0..8 {
+        (full.prefixes[place].length, full.routes[place].length) = (127, 65 + 9 * place as u8);
+    }
+    let mut out = [0; advertised::LONGEST];
+    for (kind, units) in KINDS {
+        for (source, surplus) in [(link_local(NEIGHBOUR), 0), ([0; 16], 0), (link_local(NEIGHBOUR), 7)] {
+            let mut options = options(random, kind, units, ASKED_OPTIONS);
+            options.resize(ASKED_OPTIONS + surplus, kind);
+            let packet = packets::solicitation(random, &source, &options);
+            let number = node.advertise(&packet, 7, full, &mut out).number;
+            assert!(number == 0 || surplus > 0 || source == [0; 16], "the longest that is answered");
+            let last = packet.len() - surplus - 7;
+            for (at, value) in [(0, 0x60), (0, 0x40), (6, 59), (7, 64), (8, 0x20), (41, 1), (last, 0), (49, 0), (42, 0)]
+            {
+                let mut packet = packet.clone();
+                packet[at] = value;
+                needs.call("advertise", || node.advertise(&packet, 7, full, &mut out));
+                packets::repair_icmpv6(&mut packet);
+                needs.call("advertise", || node.advertise(&packet, 7, full, &mut out));
+            }
+            for advertised in [full, Advertisement { route_count: 9, ..full }, Advertisement::default()] {
+                for (locator, room) in [(7, 0), (7, advertised::LONGEST - 1), (8, 0)] {
+                    needs.call("advertise", || node.advertise(&packet, locator, advertised, &mut out[..room]));
+                }
+            }
         }
     }
 }

@@ -25,6 +25,9 @@ FORWARD(uint8_t, replace_routers, (node_t *n, struct bogtrumpet_addresses list, 
 FORWARD(struct bogtrumpet_asked, ask, (node_t *n, size_t locator, uint32_t time, uint8_t *out, size_t room),
         (n, locator, time, out, room))
 FORWARD(struct bogtrumpet_heard, hear, (node_t *n, bytes_t p, size_t length, uint32_t time), (n, p, length, time))
+FORWARD(struct bogtrumpet_advertised, advertise,
+        (const node_t *n, bytes_t p, size_t length, size_t locator, struct bogtrumpet_advertisement a, uint8_t *out, size_t room),
+        (n, p, length, locator, a, out, room))
 FORWARD(uint16_t, path_size, (const node_t *n, uint32_t neighbour), (n, neighbour))
 FORWARD(uint16_t, checksum, (uint32_t start, bytes_t b, size_t length), (start, b, length))
 FORWARD(bool, checksum_right, (bytes_t b, size_t length), (b, length))
@@ -45,10 +48,11 @@ FORWARD(struct bogtrumpet_written, solicitation, (uint32_t locator, uint32_t rou
 const char *bogtrumpet_text(uint8_t number);
 const char *bogtrumpet_text(uint8_t number) { return bogtrumpet_number_text(number); }
 
-const size_t bogtrumpet_constants[8] = {
+const size_t bogtrumpet_constants[12] = {
     BOGTRUMPET_MAX_LOCATORS, BOGTRUMPET_MAX_PREFIXES, BOGTRUMPET_MAX_ROUTERS, BOGTRUMPET_MAX_NEIGHBOURS,
     BOGTRUMPET_OUTER_HEADER_LENGTH, BOGTRUMPET_SOLICITATION_LENGTH, BOGTRUMPET_MAX_TOO_BIG_LENGTH,
-    BOGTRUMPET_MAX_SENT_LENGTH,
+    BOGTRUMPET_MAX_SENT_LENGTH, BOGTRUMPET_MAX_ADVERTISED, BOGTRUMPET_MAX_ADVERTISEMENT_LENGTH,
+    BOGTRUMPET_PREFERENCE_HIGH, BOGTRUMPET_PREFERENCE_LOW,
 };
 
 /* The place of each field and the size of each struct, in the header's order; layout.rs has the same list. */
@@ -67,11 +71,18 @@ const size_t bogtrumpet_layout[] = {
     AT(paths, neighbours), AT(paths, sizes), AT(paths, times), AT(paths, count), SIZE(paths),
     AT(node, service), AT(node, paths), AT(node, latest), SIZE(node),
     AT(addresses, routers), AT(addresses, count), SIZE(addresses),
+    AT(advertised_prefix, bytes), AT(advertised_prefix, valid), AT(advertised_prefix, preferred),
+    AT(advertised_prefix, length), AT(advertised_prefix, on_link), AT(advertised_prefix, autonomous), SIZE(advertised_prefix),
+    AT(advertised_route, bytes), AT(advertised_route, lifetime), AT(advertised_route, length),
+    AT(advertised_route, preference), SIZE(advertised_route),
+    AT(advertisement, prefixes), AT(advertisement, prefix_count), AT(advertisement, routes), AT(advertisement, route_count),
+    AT(advertisement, lifetime), AT(advertisement, managed), AT(advertisement, other), SIZE(advertisement),
     AT(received, number), AT(received, offset), AT(received, length), SIZE(received),
     AT(sent, number), AT(sent, size), AT(sent, length), AT(sent, message_length), SIZE(sent),
     AT(reported, number), AT(reported, neighbour), AT(reported, size), SIZE(reported),
     AT(asked, number), AT(asked, router), SIZE(asked),
     AT(heard, number), AT(heard, router), SIZE(heard),
+    AT(advertised, number), AT(advertised, length), SIZE(advertised),
     AT(prefixes, bytes), AT(prefixes, count), SIZE(prefixes),
     AT(embedded, found), AT(embedded, address), SIZE(embedded),
     AT(outer_read, number), AT(outer_read, protocol), AT(outer_read, header), AT(outer_read, total),

@@ -7,9 +7,9 @@ struct Kind {
     answers: &'static [usize],
 }
 
-/// Too Big with no message: counted apart from 14.
-pub const TOO_BIG_SILENT: usize = 24;
-const ANSWERS: usize = 25;
+/// Too Big with no message: counted apart from 14, behind the last number.
+pub const TOO_BIG_SILENT: usize = 27;
+const ANSWERS: usize = 28;
 
 macro_rules! kinds {
     ($($constant:ident $name:literal $answers:expr;)*) => {
@@ -28,6 +28,8 @@ kinds! {
     Replace "replace_routers" [0, 1];
     Ask "ask" [0, 11, 22, 15];
     Hear "hear" [0, 8, 20, 21];
+    Advertise "advertise" [0, 8, 11, 24, 25, 26, 15];
+    RoundTrip "heard as written" [0];
     PathSize "path_size" [0, 1];
     Checksum "checksum" [0];
     ChecksumRight "checksum_right" [0, 1];
@@ -41,7 +43,7 @@ kinds! {
     TooBig "too_big" [0, 8, 15];
     Solicitation "solicitation" [0, 15];
     Null "with (NULL, 0)" [0];
-    AnyNode "on any node" [0, 1, 11, 14, 15, 17, 19, 21, 22];
+    AnyNode "on any node" [0, 1, 11, 14, 15, 17, 19, 21, 22, 24, 25, 26];
 }
 
 pub struct Totals {
