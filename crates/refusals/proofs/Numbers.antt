@@ -7,7 +7,7 @@ use lib.Dec.{eqb}
 use Rattle.refusals.specs.Given.{refused, readBack}
 use Rattle.refusals.specs.Refusals.{numberOf}
 use Rattle.refusals.specs.declared.Refusal.{Refusal}
-use Rattle.refusals.specs.declared.Refusal.the-variants.{Settings, OuterMalformed, OuterChecksum, OtherProtocol, Piece, NotForUs, OuterSourceForbidden, InnerMalformed, InnerSourceBad, OuterSourceWrong, NoLocator, NextHopNotIsatap, TunnelEndForbidden, OutputShort, ReportMalformed, QuoteNotOurs, SizeUnusable, SizeNotBelow, AdvertisementInvalid, AdvertiserNotListed, NoRouterDue, WrappedTooLong, SolicitationInvalid, AskerNotIsatap, OptionsBad}
+use Rattle.refusals.specs.declared.Refusal.the-variants.{Settings, OuterMalformed, OuterChecksum, OtherProtocol, Piece, NotForUs, OuterSourceForbidden, InnerMalformed, InnerSourceBad, OuterSourceWrong, NoLocator, NextHopNotIsatap, TunnelEndForbidden, OutputShort, ReportMalformed, QuoteNotOurs, SizeUnusable, SizeNotBelow, AdvertisementInvalid, AdvertiserNotListed, NoRouterDue, WrappedTooLong, SolicitationInvalid, AskerNotIsatap, OptionsBad, PieceWaits, NoPlace, PiecesDisagree, PieceUnfit}
 
 neither : (r : Refusal) → (eqb (numberOf r) 0 ≡ false) × (eqb (numberOf r) 14 ≡ false)
 neither Settings = (refl, refl)
@@ -35,6 +35,10 @@ neither WrappedTooLong = (refl, refl)
 neither SolicitationInvalid = (refl, refl)
 neither AskerNotIsatap = (refl, refl)
 neither OptionsBad = (refl, refl)
+neither PieceWaits = (refl, refl)
+neither NoPlace = (refl, refl)
+neither PiecesDisagree = (refl, refl)
+neither PieceUnfit = (refl, refl)
 
 pub never-zero : (r : Refusal) → eqb (numberOf r) 0 ≡ false
 never-zero r = neither r .0

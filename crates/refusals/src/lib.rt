@@ -29,6 +29,10 @@ pub enum Refusal {
     SolicitationInvalid,
     AskerNotIsatap,
     OptionsBad,
+    PieceWaits,
+    NoPlace,
+    PiecesDisagree,
+    PieceUnfit,
 }
 
 // What a row of tests says: nothing against the input, or the first refusal.
@@ -68,6 +72,10 @@ impl Refusal {
             Refusal::SolicitationInvalid => 24,
             Refusal::AskerNotIsatap => 25,
             Refusal::OptionsBad => 26,
+            Refusal::PieceWaits => 27,
+            Refusal::NoPlace => 28,
+            Refusal::PiecesDisagree => 29,
+            Refusal::PieceUnfit => 30,
         }
     }
 }

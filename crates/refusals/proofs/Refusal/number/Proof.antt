@@ -7,7 +7,7 @@ pub number-spec : {M : Type 1} → statement M
 number-spec =
     tie.close
     (tie.spec
-    (search needs) (search needs) (search needs) (search needs) (search needs) (search needs) (search needs) (search needs) (search needs) (search needs) (search needs) (search needs) (search needs) (search needs) (search needs) (search needs) (search needs) (search needs) (search needs) (search needs) (search needs) (search needs) (search needs) (search needs) (search needs)
+    (search needs) (search needs) (search needs) (search needs) (search needs) (search needs) (search needs) (search needs) (search needs) (search needs) (search needs) (search needs) (search needs) (search needs) (search needs) (search needs) (search needs) (search needs) (search needs) (search needs) (search needs) (search needs) (search needs) (search needs) (search needs) (search needs) (search needs) (search needs) (search needs)
     (λ c. rw (c .enum-told .given .1))
     (λ c. rw (c .enum-told2 .given .1))
     (λ c. rw (c .enum-told3 .given .1))
@@ -32,4 +32,8 @@ number-spec =
     (λ c. rw (c .enum-told22 .given .1))
     (λ c. rw (c .enum-told23 .given .1))
     (λ c. rw (c .enum-told24 .given .1))
-    (λ c. rw (c .enum-told25 .given .1)))
+    (λ c. rw (c .enum-told25 .given .1))
+    (λ c. rw (c .enum-told26 .given .1))
+    (λ c. rw (c .enum-told27 .given .1))
+    (λ c. rw (c .enum-told28 .given .1))
+    (λ c. rw (c .enum-told29 .given .1)))
