@@ -38,7 +38,7 @@ writtenAt-more at w p d l h e f =
     f ∙ rw (e, ← l) (writtenAt-fits (length w) p (written w d) (rw (length-written w d (omega arith)) (omega arith)) ∙ over-next w p d)
 
 -- a write inside of a list leaves its length
-pub length-over : (at : ℕ) (p w : List ℕ) → at + length p ≤ length w → length (over at p w) ≡ length w
+pub length-over : {A : Type 0} (at : ℕ) (p w : List A) → at + length p ≤ length w → length (over at p w) ≡ length w
 length-over at p w h = simp (length-append, length-take, length-drop) (omega arith)
 
 over-inside : (at : ℕ) (w p d : List ℕ) → at + length p ≤ length w → over at p (written w d) ≡ written (over at p w) d

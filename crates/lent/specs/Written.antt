@@ -10,7 +10,7 @@ abbrev pub written : List ℕ → List ℕ → List ℕ
 written w d = w ++ drop (length w) d
 
 -- d with p written over it from the index at on
-abbrev pub over : ℕ → List ℕ → List ℕ → List ℕ
+abbrev pub over : {A : Type 0} → ℕ → List A → List A → List A
 over at p d = take at d ++ (p ++ drop (at + length p) d)
 
 -- d with p written over it from the index at on, or d itself where p does not fit

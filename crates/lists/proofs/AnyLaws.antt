@@ -1,12 +1,13 @@
--- How a loop finds out whether some element of a list passes a test, or two elements of it are the same. Assumes nothing.
-use Prim.Native.Nat.{ℕ, _+_, _≤_, _<_, min}
-use mathlib.Core.Path.{_≡_, sym, ap, _∙_}
-use mathlib.Core.Bool.{Bool, true, false, _||_, or-assoc, or-false}
-use mathlib.Core.List.{List, [], _∷_}
+-- How a loop finds out whether some element of a list passes a test, or two elements of it are the same; and whether all do, or
+-- some, of two lists one behind the other and of a list of equal elements. Assumes nothing.
+use Prim.Native.Nat.{ℕ, zero, suc, _+_, _≤_, _<_, min}
+use mathlib.Core.Path.{_≡_, refl, sym, ap, _∙_}
+use mathlib.Core.Bool.{Bool, true, false, _||_, _&&_, or-assoc, or-false, and-assoc, and-true}
+use mathlib.Core.List.{List, [], _∷_, _++_}
 use native.Mathlib.Omega.{arith}
 use native.Mathlib.Numerals.{add-one}
-use lib.ListN.{length, getD, take, drop, length-take, drop-of-length-le}
-use Rattle.lists.specs.Any.{anyOf, twice}
+use lib.ListN.{length, getD, take, drop, replicate, length-take, drop-of-length-le}
+use Rattle.lists.specs.Any.{anyOf, allOf, twice}
 use Rattle.lists.proofs.Parts.{take-least}
 use lib.Seq.{drop-cons, getD-take, length-take-le}
 
@@ -50,3 +51,29 @@ module _ {A : Type 0} where
     twice-turn same found =
         or-assoc found (anyOf (same (getD xs i d)) (drop (i + 1) (take n xs))) (twice same (drop (i + 1) (take n xs)))
         ∙ ap (λ (l : List A). found || twice same l) (sym front-from)
+
+or-same : (b : Bool) → (b || b) ≡ b
+or-same true = refl
+or-same false = refl
+
+and-same : (b : Bool) → (b && b) ≡ b
+and-same true = refl
+and-same false = refl
+
+module _ {A : Type 0} (p : A → Bool) where
+  -- all of two lists one behind the other
+  pub all-append : (xs ys : List A) → allOf p (xs ++ ys) ≡ (allOf p xs && allOf p ys)
+  all-append [] ys = refl
+  all-append (x ∷ xs) ys = rw (all-append xs ys) (sym (and-assoc (p x) (allOf p xs) (allOf p ys)))
+
+  -- some of equal elements, of which there is one at least
+  pub any-replicate : (a : A) (n : ℕ) → 0 < n → anyOf p (replicate n a) ≡ p a
+  any-replicate a zero h = absurd (omega arith)
+  any-replicate a (suc zero) h = or-false (p a)
+  any-replicate a (suc (suc n)) h = rw (any-replicate a (suc n) (omega arith)) (or-same (p a))
+
+  -- all of them
+  pub all-replicate : (a : A) (n : ℕ) → 0 < n → allOf p (replicate n a) ≡ p a
+  all-replicate a zero h = absurd (omega arith)
+  all-replicate a (suc zero) h = and-true (p a)
+  all-replicate a (suc (suc n)) h = rw (all-replicate a (suc n) (omega arith)) (and-same (p a))

@@ -2,3 +2,5 @@ pub mod Parts
 pub mod Tests
 pub mod AnyLaws
 pub mod Decides
+pub mod First
+pub mod PartTests

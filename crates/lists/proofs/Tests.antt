@@ -1,6 +1,18 @@
--- What tests that are joined say of each: by `||` where all fail, by `&&` where all pass. Assumes nothing.
+-- What a test says either way; and what tests that are joined say of each: by `||` where all fail, by `&&` where all pass.
+-- Assumes nothing.
 use mathlib.Core.Path.{_≡_, refl}
-use mathlib.Core.Bool.{Bool, true, false, _||_, _&&_}
+use mathlib.Core.Logic.{_⊎_, inl, inr}
+use mathlib.Core.Bool.{Bool, true, false, cond, _||_, _&&_}
+
+-- a test comes out one way or the other
+pub tested : (b : Bool) → (b ≡ true) ⊎ (b ≡ false)
+tested true = inl refl
+tested false = inr refl
+
+-- what holds whichever way a test comes out
+pub by-test : {A : Type 0} (P : A → Type 0) (t : Bool) (a b : A) → (t ≡ true → P a) → (t ≡ false → P b) → P (cond t a b)
+by-test P true a b f g = f refl
+by-test P false a b f g = g refl
 
 pub or-left : (a b : Bool) → (a || b) ≡ false → a ≡ false
 or-left true b h = h

@@ -1,5 +1,6 @@
--- Whether some element of a list passes a test or has a property, or two elements of it are the same.
-use mathlib.Core.Bool.{Bool, false, _||_}
+-- Whether some or all elements of a list pass a test or have a property, which is the first, or whether two of them are the same.
+use Prim.Native.Nat.{ℕ, suc}
+use mathlib.Core.Bool.{Bool, true, false, cond, _&&_, _||_}
 use mathlib.Core.List.{List, [], _∷_, List·Memᴰ}
 
 module _ {A : Type 0} where
@@ -7,6 +8,16 @@ module _ {A : Type 0} where
   abbrev pub anyOf : (A → Bool) → List A → Bool
   anyOf p [] = false
   anyOf p (x ∷ xs) = p x || anyOf p xs
+
+  -- every element passes the test
+  abbrev pub allOf : (A → Bool) → List A → Bool
+  allOf p [] = true
+  allOf p (x ∷ xs) = p x && allOf p xs
+
+  -- the place of the first element that passes the test, or their number
+  abbrev pub firstWith : (A → Bool) → List A → ℕ
+  firstWith p [] = 0
+  firstWith p (x ∷ xs) = cond (p x) 0 (suc (firstWith p xs))
 
   -- some element is the same as a later one
   abbrev pub twice : (A → A → Bool) → List A → Bool

@@ -1,1 +1,2 @@
 pub mod Any
+pub mod Parts
