@@ -1,0 +1,5 @@
+mod Bits
+mod Ranges
+mod Words
+pub mod Laws
+pub mod Facts
