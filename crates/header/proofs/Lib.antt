@@ -1,4 +1,5 @@
 pub mod OuterLaws
+pub mod Readers
 pub mod InnerLaws
 pub mod DrawsLaws
 pub mod Padded

@@ -55,7 +55,11 @@ protocolRows o = (not (eqb (o .protocol) ipv6), OtherProtocol) ∷ []
 abbrev pub pieceRows : Outer → List (Bool × Refusal)
 pieceRows o = (not (eqb (o .fragment) 0), Piece) ∷ []
 
--- the first of 2 to 5 that a datagram of n bytes gets, which starts with d and has the fields o
+-- the first of 2 to 4 that a datagram of n bytes gets, which starts with d and has the fields o
+unfoldable pub headerCheck : ℕ → List ℕ → Outer → Check
+headerCheck n d o = firstOf (headerRows n d o ++ protocolRows o)
+
+-- the first of 2 to 5 that it gets
 unfoldable pub outerCheck : ℕ → List ℕ → Outer → Check
 outerCheck n d o = firstOf (headerRows n d o ++ (protocolRows o ++ pieceRows o))
 
@@ -68,9 +72,18 @@ outerGiven (Refused refusal) = refused refusal
 abbrev pub readWith : Check → Outer → OuterRead
 readWith check o = stopOr Refused check (Header o)
 
--- the fields of a datagram's outer header, or the first refusal
+-- the fields of a datagram's outer header, a piece's too, or the first of 2 to 4
+unfoldable pub headerReadOf : List ℕ → OuterRead
+headerReadOf d = readWith (headerCheck (length d) d (outerOf d)) (outerOf d)
+
+-- the fields of a datagram's outer header, or the first of 2 to 5
 unfoldable pub outerReadOf : List ℕ → OuterRead
 outerReadOf d = readWith (outerCheck (length d) d (outerOf d)) (outerOf d)
+
+-- what follows from a header that is read; of a refusal, that refusal in the form of the call's answer
+abbrev pub readOr : {A : Type 0} → (Refusal → A) → OuterRead → (Outer → A) → A
+readOr refuse (Header o) follows = follows o
+readOr refuse (Refused refusal) follows = refuse refusal
 
 -- bytes after the total length are padding. The inner packet starts after the header, options included (R5.3, R5.9).
 unfoldable pub payloadOf : List ℕ → Outer → List ℕ

@@ -8,7 +8,7 @@ ghost use mathlib.Core.Path.{_≡_};
 ghost use Prim.Native.Nat.{_≤_};
 ghost use lib.ListN.{length};
 ghost use Rattle.header.specs.Numbers.{outerHeader};
-ghost use Rattle.header.specs.Outer.{outerOf, isOuterMalformed, isSumWrong, outerCheck, outerGiven, outerReadOf, payloadOf, quoteOf, isQuoteMalformed};
+ghost use Rattle.header.specs.Outer.{outerOf, isOuterMalformed, isSumWrong, headerCheck, outerGiven, headerReadOf, outerReadOf, payloadOf, quoteOf, isQuoteMalformed};
 
 // The fields of an IPv4 header, lengths in bytes.
 pub struct Outer {
@@ -100,9 +100,9 @@ pub fn sum_wrong(d: &[u8], o: Outer) -> bool
     !checksum::right(&d[..end])
 }
 
-// Numbers 2 to 5 of a datagram of n bytes that starts with d.
-pub fn check_outer(n: usize, d: &[u8], o: Outer) -> Check
-    ensures { λ r. ⌜ r ≡ outerCheck n (now (d .entry)) o ⌝ }
+// Numbers 2 to 4 of a datagram of n bytes that starts with d.
+pub fn check_header(n: usize, d: &[u8], o: Outer) -> Check
+    ensures { λ r. ⌜ r ≡ headerCheck n (now (d .entry)) o ⌝ }
 {
     if malformed(n, o) {
         return Check::Stop(Refusal::OuterMalformed);
@@ -113,24 +113,37 @@ pub fn check_outer(n: usize, d: &[u8], o: Outer) -> Check
     if o.protocol != IPV6 {
         return Check::Stop(Refusal::OtherProtocol);
     }
-    if o.fragment != 0 {
-        return Check::Stop(Refusal::Piece);
-    }
     Check::Pass
+}
+
+// The outer header of a datagram, a piece's too, or the first of the numbers 2 to 4.
+pub fn read_header(d: &[u8]) -> OuterRead
+    ensures { λ r. ⌜ r ≡ headerReadOf (now (d .entry)) ⌝ }
+{
+    if d.len() < OUTER_HEADER {
+        return OuterRead::Refused(Refusal::OuterMalformed);
+    }
+    let o = full_header(d);
+    let check = check_header(d.len(), d, o);
+    match check {
+        Check::Pass => OuterRead::Header(o),
+        Check::Stop(refusal) => OuterRead::Refused(refusal),
+    }
 }
 
 // The outer header of a datagram, or the first of the numbers 2 to 5.
 pub fn read_outer(d: &[u8]) -> OuterRead
     ensures { λ r. ⌜ r ≡ outerReadOf (now (d .entry)) ⌝ }
 {
-    if d.len() < OUTER_HEADER {
-        return OuterRead::Refused(Refusal::OuterMalformed);
-    }
-    let o = full_header(d);
-    let check = check_outer(d.len(), d, o);
-    match check {
-        Check::Pass => OuterRead::Header(o),
-        Check::Stop(refusal) => OuterRead::Refused(refusal),
+    let read = read_header(d);
+    match read {
+        OuterRead::Header(o) => {
+            if o.fragment != 0 {
+                return OuterRead::Refused(Refusal::Piece);
+            }
+            OuterRead::Header(o)
+        }
+        OuterRead::Refused(refusal) => OuterRead::Refused(refusal),
     }
 }
 

@@ -1,7 +1,7 @@
 -- Demand 2 holds of receiving. Assumes nothing.
 use Prim.Native.Nat.{ℕ, _-_, _≤_, _<_}
 use mathlib.Core.Path.{_≡_, refl, ap, _∙_}
-use mathlib.Core.Bool.{Bool, false}
+use mathlib.Core.Bool.{Bool}
 use mathlib.Core.List.{List}
 use native.Mathlib.Omega.{arith}
 use borrow.Author.Tests.{eqb-true, not-false, eq-eqb}
@@ -11,45 +11,21 @@ use Rattle.lists.proofs.Parts.{drop-take}
 use Rattle.lists.proofs.Decides.{fails, refutes, decides-eq, decides-not, decides-lack}
 use Rattle.checksum.specs.Sum.{isRightFrom}
 use Rattle.refusals.specs.Refusals.{firstOf, AnswersFirst}
-use Rattle.refusals.proofs.Laws.{AllFalse, all-false, stop-passed, RowsDecide, end, row, answers-first}
+use Rattle.refusals.proofs.Laws.{AllFalse, all-false, stop-passed, RowsDecide, row, answers-first}
 use Rattle.refusals.specs.declared.Refusal.{Refusal}
 use Rattle.refusals.specs.declared.Check.the-variants.{Pass}
 use Rattle.header.specs.Fields.{wordAt}
-use Rattle.header.specs.Outer.{outerOf, isOuterMalformed, isSumWrong, payloadOf}
-use Rattle.header.proofs.OuterLaws.{outer-whole, whole-outer}
-use Rattle.header.specs.Inner.{innerOf, isInnerMalformed}
-use Rattle.header.proofs.InnerLaws.{inner-whole, whole-inner}
+use Rattle.header.specs.Outer.{outerOf, isSumWrong, payloadOf}
+use Rattle.header.specs.Inner.{innerOf}
 use Rattle.settings.proofs.Facts.{decides-forbidden-to, decides-our-locator, decides-bad-source-to}
 use Rattle.settings.specs.declared.Settings.{Settings}
 use Rattle.routers.specs.declared.Router.{Router}
 use Rattle.receiving.specs.Receive.{receiveRows, receivedOf, partOf}
-use Rattle.receiving.specs.Facts.{headerLength, totalLength, behindHeader, encapsulated, innerLength, OuterWhole, InnerWhole, receiveFacts}
+use Rattle.receiving.specs.Facts.{headerLength, totalLength, behindHeader, encapsulated, innerLength, receiveFacts}
 use Rattle.receiving.specs.Admitted.{Admits, delivered, DeliveredExactly}
 use Rattle.receiving.specs.declared.Received.{Received}
-use Rattle.receiving.specs.declared.Received.the-variants.{Delivered, Refused}
-use Rattle.receiving.proofs.Facts.{decides-source-right}
-
-module _ (d : List ℕ) where
-  outer-whole-bytes : isOuterMalformed (length d) (outerOf d) ≡ false → OuterWhole d
-  unfolding outerOf
-  outer-whole-bytes h =
-      let w = outer-whole (length d) (outerOf d) h in
-      record { some = w .some; version = w .version; words = w .words; whole = w .whole; inside = w .inside; all = w .all }
-
-  bytes-whole-outer : OuterWhole d → isOuterMalformed (length d) (outerOf d) ≡ false
-  unfolding outerOf
-  bytes-whole-outer w =
-      whole-outer (length d) (outerOf d) (record { some = w .some; version = w .version; words = w .words; whole = w .whole; inside = w .inside; all = w .all })
-
-  inner-whole-bytes : isInnerMalformed (length d) (innerOf d) ≡ false → InnerWhole d
-  unfolding innerOf
-  inner-whole-bytes h =
-      let w = inner-whole (length d) (innerOf d) h in
-      record { some = w .some; version = w .version; whole = w .whole }
-
-  bytes-whole-inner : InnerWhole d → isInnerMalformed (length d) (innerOf d) ≡ false
-  unfolding innerOf
-  bytes-whole-inner w = whole-inner (length d) (innerOf d) (record { some = w .some; version = w .version; whole = w .whole })
+use Rattle.receiving.specs.declared.Received.the-variants.{Delivered, Joined, Refused}
+use Rattle.receiving.proofs.Facts.{outer-whole-bytes, bytes-whole-outer, inner-whole-bytes, bytes-whole-inner, decides-source-right, inner-decides}
 
 module _ (s : Settings) (routers : List Router) (d : List ℕ) (interface : ℕ) where
   abbrev inner : List ℕ
@@ -67,10 +43,7 @@ module _ (s : Settings) (routers : List Router) (d : List ℕ) (interface : ℕ)
       (row (decides-not _ (decides-eq _ _))
       (row (decides-not _ (decides-eq _ _))
       (row (decides-not _ (decides-our-locator s _ _))
-      (row (decides-forbidden-to s _)
-      (row (decides-lack _ (inner-whole-bytes inner) (bytes-whole-inner inner))
-      (row (decides-bad-source-to s _)
-      (row (decides-not _ (decides-source-right s _ _ routers)) end))))))))
+      (row (decides-forbidden-to s _) (inner-decides s routers _ inner))))))
 
   pub first-fact : AnswersFirst Refused (receiveFacts s routers d interface (encapsulated d)) (Delivered (headerLength d) (innerLength (encapsulated d))) (receivedOf s routers d interface)
   unfolding receivedOf outerOf innerOf payloadOf
@@ -147,8 +120,18 @@ module _ (s : Settings) (routers : List Router) (d : List ℕ) (interface : ℕ)
         let b = behindHeader d in
         rw (exactly, length-take) (omega (arith, a .innerWhole .some, ap length rest, length-take m b))
 
+  -- pieces are not joined by a datagram that is judged by itself
+  never-joined : (offset size : ℕ) → receivedOf s routers d interface ≡ Joined offset size → ⊥
+  unfolding receivedOf
+  never-joined offset size h =
+      let passed = stop-passed Refused (firstOf rows) _ (Joined offset size) (λ r e. let z : _≡_ {A = ℕ} 0 1 = cc in omega arith) h in
+      let e = passed .1 in
+      let z : _≡_ {A = ℕ} 0 1 = cc in
+      omega arith
+
   only-if : (r : Received) → receivedOf s routers d interface ≡ r → 0 < length (partOf r d) → Admits s routers d interface
   only-if (Delivered offset size) e h = only-placed offset size e
+  only-if (Joined offset size) e h = absurd (omega arith)
   only-if (Refused r) e h = absurd (omega arith)
 
   never-refused : (r : Refusal) → receivedOf s routers d interface ≡ Refused r → Admits s routers d interface → ⊥
@@ -159,6 +142,7 @@ module _ (s : Settings) (routers : List Router) (d : List ℕ) (interface : ℕ)
 
   refused : (r : Received) → receivedOf s routers d interface ≡ r → (Admits s routers d interface → ⊥) → (q : Refusal) × (receivedOf s routers d interface ≡ Refused q)
   refused (Delivered offset size) e n = absurd (n (only-placed offset size e))
+  refused (Joined offset size) e n = absurd (never-joined offset size e)
   refused (Refused q) e n = (q, e)
 
 -- receiving does exactly what the rules say, for all settings, router lists, datagrams and interfaces

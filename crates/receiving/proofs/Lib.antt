@@ -1,6 +1,10 @@
 -- What the proofs of several functions use, and the laws that callers cite.
 pub mod Stages
+pub mod InPlace
 pub mod LinkLocal
 pub mod Facts
 pub mod Delivered
 pub mod Cases
+pub mod Calls
+pub mod Collected
+pub mod Changes

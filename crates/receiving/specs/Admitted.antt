@@ -6,6 +6,7 @@ use mathlib.Core.List.{List}
 use lib.ListN.{length, take}
 use Rattle.refusals.specs.Refusals.{AnswersFirst}
 use Rattle.refusals.specs.declared.Refusal.{Refusal}
+use Rattle.header.specs.Fields.{quadAt}
 use Rattle.settings.specs.declared.Settings.{Settings}
 use Rattle.routers.specs.declared.Router.{Router}
 use Rattle.receiving.specs.Receive.{receivedOf, partOf}
@@ -22,7 +23,7 @@ pub record Admitted (s : Settings) (routers : List Router) (d : List ℕ) (inter
   pub outerSource : OuterBad s d → ⊥
   pub innerWhole : InnerWhole p
   pub innerSource : InnerBad s p → ⊥
-  pub sourceMatches : SourceRight s routers d p
+  pub sourceMatches : SourceRight s routers (quadAt d 12) p
 
 module _ (s : Settings) (routers : List Router) (d : List ℕ) (interface : ℕ) where
   -- the rules of the datagram d
@@ -33,9 +34,9 @@ module _ (s : Settings) (routers : List Router) (d : List ℕ) (interface : ℕ)
   abbrev pub delivered : List ℕ
   delivered = partOf (receivedOf s routers d interface) d
 
-  -- receiving does exactly what the rules say, in both calls
+  -- the verdict on the datagram by itself, and the part, are exactly what the rules say
   pub record DeliveredExactly : Type 0 where
-    -- the call for the number gives the first of 2 to 10 whose fact holds, and where none holds the end of the outer header and
+    -- the verdict is the first of 2 to 10 whose fact holds, and where none holds the end of the outer header and
     -- 40 + payload length
     pub answers : AnswersFirst Refused (receiveFacts s routers d interface (encapsulated d)) (Delivered (headerLength d) (innerLength (encapsulated d))) (receivedOf s routers d interface)
     -- it gives a place and a length only when the rules hold

@@ -73,9 +73,17 @@ pub record InnerWhole (p : List ℕ) : Type 0 where
 abbrev pub InnerBad : Settings → List ℕ → Type 0
 InnerBad s p = BadSource (ForbiddenTo s) (addressAt p 8)
 
--- RFC 5214, 7.3: the inner source is an ISATAP address that embeds the outer source, or that is a router of the list
-abbrev pub SourceRight : Settings → List Router → List ℕ → List ℕ → Type 0
-SourceRight s routers d p = IsatapTo s (addressAt p 8) (quadAt d 12) ⊎ Listed (quadAt d 12) routers
+-- RFC 5214, 7.3: the inner source is an ISATAP address that embeds the outer source v, or v is a router of the list
+abbrev pub SourceRight : Settings → List Router → ℕ → List ℕ → Type 0
+SourceRight s routers v p = IsatapTo s (addressAt p 8) v ⊎ Listed v routers
+
+-- R5.10 to R5.12: what each of 8, 9, 10 is given for, of what is encapsulated, p, from the outer source v
+abbrev pub innerFacts : Settings → List Router → ℕ → List ℕ → List (Type 0 × Refusal)
+innerFacts s routers v p =
+    (InnerWhole p → ⊥, InnerMalformed)
+    ∷ (InnerBad s p, InnerSourceBad)
+    ∷ (SourceRight s routers v p → ⊥, OuterSourceWrong)
+    ∷ []
 
 -- R4, in the order of receiving: what each number is given for, of a datagram d that encapsulates p
 abbrev pub receiveFacts : Settings → List Router → List ℕ → ℕ → List ℕ → List (Type 0 × Refusal)
@@ -86,7 +94,4 @@ receiveFacts s routers d interface p =
     ∷ (Unfragmented d → ⊥, Piece)
     ∷ (ForUs s d interface → ⊥, NotForUs)
     ∷ (OuterBad s d, OuterSourceForbidden)
-    ∷ (InnerWhole p → ⊥, InnerMalformed)
-    ∷ (InnerBad s p, InnerSourceBad)
-    ∷ (SourceRight s routers d p → ⊥, OuterSourceWrong)
-    ∷ []
+    ∷ innerFacts s routers (quadAt d 12) p

@@ -21,7 +21,7 @@ use Rattle.settings.specs.declared.Settings.{Settings}
 use Rattle.routers.specs.Routers.{listed}
 use Rattle.routers.specs.declared.Router.{Router}
 use Rattle.receiving.specs.declared.Received.{Received}
-use Rattle.receiving.specs.declared.Received.the-variants.{Delivered, Refused}
+use Rattle.receiving.specs.declared.Received.the-variants.{Delivered, Joined, Refused}
 
 -- what is embedded is v
 abbrev pub isEmbedded : Embedded → ℕ → Bool
@@ -36,6 +36,14 @@ embeds s a v = isEmbedded (embeddedTo s a) v
 abbrev pub isSourceRight : Settings → Bool → ℕ → List ℕ → Bool
 isSourceRight s isListed source a = embeds s a source || isListed
 
+-- 8 to 10, where n bytes remain for an inner packet with the fields i, from that outer source
+abbrev pub innerRows : Settings → Bool → ℕ → ℕ → Inner → List (Bool × Refusal)
+innerRows s isListed source n i =
+    (isInnerMalformed n i, InnerMalformed)
+    ∷ (isBadSourceWith (forbiddenTo s (lastQuad (i .source))) (i .source), InnerSourceBad)
+    ∷ (not (isSourceRight s isListed source (i .source)), OuterSourceWrong)
+    ∷ []
+
 -- the order 2 to 10, of a datagram d with the outer fields o, where n bytes remain for an inner packet with the fields i
 abbrev pub receiveRows : Settings → List Router → ℕ → List ℕ → Outer → ℕ → Inner → List (Bool × Refusal)
 receiveRows s routers interface d o n i =
@@ -45,10 +53,7 @@ receiveRows s routers interface d o n i =
     ∷ (not (eqb (o .fragment) 0), Piece)
     ∷ (not (isOurLocator s (o .destination) interface), NotForUs)
     ∷ (forbiddenTo s (o .source), OuterSourceForbidden)
-    ∷ (isInnerMalformed n i, InnerMalformed)
-    ∷ (isBadSourceWith (forbiddenTo s (lastQuad (i .source))) (i .source), InnerSourceBad)
-    ∷ (not (isSourceRight s (listed (o .source) routers) (o .source) (i .source)), OuterSourceWrong)
-    ∷ []
+    ∷ innerRows s (listed (o .source) routers) (o .source) n i
 
 -- the first refusal of the order; else the place of the 40 + payload length inner bytes, behind the outer header
 unfoldable pub receivedOf : Settings → List Router → List ℕ → ℕ → Received
@@ -61,9 +66,11 @@ receivedOf s routers d interface =
 -- the answer is the part of the lent datagram that holds the 40 + payload length inner bytes; after a refusal that part is empty (R5.13)
 abbrev pub partOf : Received → List ℕ → List ℕ
 partOf (Delivered offset size) d = take size (drop offset d)
+partOf (Joined offset size) d = []
 partOf (Refused refusal) d = []
 
--- number and values (R1.17): where the inner packet stands, and its length
+-- number and values (R1.17): 0 where the inner packet stands in the datagram, 1 where it stands in the memory; its place there, and its length
 abbrev pub receivedGiven : Received → Given
-receivedGiven (Delivered offset size) = answered (offset ∷ (size ∷ []))
+receivedGiven (Delivered offset size) = answered (0 ∷ offset ∷ size ∷ [])
+receivedGiven (Joined offset size) = answered (1 ∷ offset ∷ size ∷ [])
 receivedGiven (Refused refusal) = refused refusal

@@ -1,4 +1,6 @@
-// Receiving: whether a datagram is delivered, and which part of it.
+// Receiving: whether a datagram is delivered, and which part of it. Here a datagram is judged by itself; `collect` joins pieces.
+pub mod collect;
+
 use address::prefixes;
 use header::INNER_HEADER;
 use header::fields;
@@ -12,13 +14,21 @@ use refusals::Refusal;
 use routers::RouterList;
 use settings::Settings;
 ghost use mathlib.Core.Path.{_≡_};
+ghost use Rattle.lists.specs.Parts.{part};
 ghost use Rattle.routers.specs.Routers.{live, listed};
 ghost use Rattle.receiving.specs.Receive.{embeds, isSourceRight, receivedOf, partOf, receivedGiven};
-ghost use Rattle.receiving.specs.Stages.{arrivalCheck, innerCheck, opened, arrived};
+ghost use Rattle.receiving.specs.Stages.{addressCheck, innerCheck, arrivedOf, openedOf, deliveredOf};
 
-// The place of the inner packet in the datagram, or the number.
+// The place of the inner packet in the datagram, or in the memory where its pieces were joined, or the number.
 pub enum Received {
     Delivered { offset: usize, length: usize },
+    Joined { offset: usize, length: usize },
+    Refused(Refusal),
+}
+
+// The length of the inner packet at the start of what is encapsulated, or the number.
+enum Opened {
+    Packet(usize),
     Refused(Refusal),
 }
 
@@ -29,6 +39,10 @@ impl Received {
     {
         match self {
             Received::Delivered {
+                offset: _,
+                length: _,
+            } => 0,
+            Received::Joined {
                 offset: _,
                 length: _,
             } => 0,
@@ -50,8 +64,8 @@ fn embeds_it(settings: Settings, a: [u8; 16], v: u32) -> bool
 }
 
 // Numbers 6 and 7.
-fn check_arrival(settings: Settings, interface: u8, o: Outer) -> Check
-    ensures { λ r. ⌜ r ≡ arrivalCheck settings interface o ⌝ }
+fn check_addresses(settings: Settings, interface: u8, o: Outer) -> Check
+    ensures { λ r. ⌜ r ≡ addressCheck settings interface o ⌝ }
 {
     if !settings.our_locator(o.destination, interface) {
         return Check::Stop(Refusal::NotForUs);
@@ -94,34 +108,55 @@ fn check_inner(settings: Settings, routers: RouterList, source: u32, n: usize, i
     Check::Pass
 }
 
-// What comes of a datagram whose outer header and arrival are right. The length is asked first, so that the header is then
-// read without asking it again.
-fn open(settings: Settings, routers: RouterList, d: &[u8], o: Outer) -> Received
-    ensures { λ r. ⌜ r ≡ opened settings (live routers) (now (d .entry)) o ⌝ }
+// 8 to 10 of what is encapsulated, from that outer source. The length is asked first, so that the header is then read without
+// asking it again.
+fn open(settings: Settings, routers: RouterList, source: u32, payload: &[u8]) -> Opened
+    ensures { λ r. ⌜ r ≡ openedOf settings (live routers) source (now (payload .entry)) ⌝ }
 {
-    let payload = outer::payload(d, o);
     if payload.len() < INNER_HEADER {
-        return Received::Refused(Refusal::InnerMalformed);
+        return Opened::Refused(Refusal::InnerMalformed);
     }
     let i = inner::inner_header(payload);
-    let check = check_inner(settings, routers, o.source, payload.len(), i);
+    let check = check_inner(settings, routers, source, payload.len(), i);
     match check {
-        Check::Pass => Received::Delivered {
-            offset: o.header,
-            length: i.length,
-        },
-        Check::Stop(refusal) => Received::Refused(refusal),
+        Check::Pass => Opened::Packet(i.length),
+        Check::Stop(refusal) => Opened::Refused(refusal),
     }
 }
 
-// What comes of a datagram whose outer header is right.
-fn arrive(settings: Settings, routers: RouterList, d: &[u8], interface: u8, o: Outer) -> Received
-    ensures { λ r. ⌜ r ≡ arrived settings (live routers) (now (d .entry)) interface o ⌝ }
+// The outer header of a datagram that is for us, or the number.
+fn arrive(settings: Settings, interface: u8, read: OuterRead) -> OuterRead
+    ensures { λ r. ⌜ r ≡ arrivedOf settings interface read ⌝ }
 {
-    let check = check_arrival(settings, interface, o);
-    match check {
-        Check::Pass => open(settings, routers, d, o),
-        Check::Stop(refusal) => Received::Refused(refusal),
+    match read {
+        OuterRead::Header(o) => {
+            let check = check_addresses(settings, interface, o);
+            match check {
+                Check::Pass => OuterRead::Header(o),
+                Check::Stop(refusal) => OuterRead::Refused(refusal),
+            }
+        }
+        OuterRead::Refused(refusal) => OuterRead::Refused(refusal),
+    }
+}
+
+// What comes of a datagram that has arrived whole.
+fn deliver(settings: Settings, routers: RouterList, d: &[u8], arrived: OuterRead) -> Received
+    ensures { λ r. ⌜ r ≡ deliveredOf settings (live routers) (now (d .entry)) arrived ⌝ }
+{
+    match arrived {
+        OuterRead::Header(o) => {
+            let payload = outer::payload(d, o);
+            let opened = open(settings, routers, o.source, payload);
+            match opened {
+                Opened::Packet(length) => Received::Delivered {
+                    offset: o.header,
+                    length,
+                },
+                Opened::Refused(refusal) => Received::Refused(refusal),
+            }
+        }
+        OuterRead::Refused(refusal) => Received::Refused(refusal),
     }
 }
 
@@ -130,10 +165,17 @@ pub fn receive(settings: Settings, routers: RouterList, d: &[u8], interface: u8)
     ensures { λ r. ⌜ r ≡ receivedOf settings (live routers) (now (d .entry)) interface ⌝ }
 {
     let read = outer::read_outer(d);
-    match read {
-        OuterRead::Header(o) => arrive(settings, routers, d, interface, o),
-        OuterRead::Refused(refusal) => Received::Refused(refusal),
-    }
+    let arrived = arrive(settings, interface, read);
+    deliver(settings, routers, d, arrived)
+}
+
+// So many bytes from an index on, as far as there are any.
+fn bytes_at(d: &[u8], at: usize, n: usize) -> &[u8]
+    ensures { λ r. ⌜ now r ≡ part at n (now (d .entry)) ⌝ }
+{
+    let behind = fields::tail(d, at);
+    let end = lists::least(n, behind.len());
+    &behind[..end]
 }
 
 // The inner packet in the datagram, empty after a refusal.
@@ -141,11 +183,11 @@ pub fn part(d: &[u8], received: Received) -> &[u8]
     ensures { λ r. ⌜ now r ≡ partOf received (now (d .entry)) ⌝ }
 {
     match received {
-        Received::Delivered { offset, length } => {
-            let behind = fields::tail(d, offset);
-            let end = lists::least(length, behind.len());
-            &behind[..end]
-        }
+        Received::Delivered { offset, length } => bytes_at(d, offset, length),
+        Received::Joined {
+            offset: _,
+            length: _,
+        } => &d[..0],
         Received::Refused(_) => &d[..0],
     }
 }
