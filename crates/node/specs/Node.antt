@@ -6,6 +6,7 @@ use lib.ListN.{replicate}
 use Rattle.paths.specs.Kept.{inForce}
 use Rattle.paths.specs.Table.{noReports, keptIn}
 use Rattle.paths.specs.declared.PathTable.{PathTable}
+use Rattle.pieces.specs.Take.{noDatagrams}
 use Rattle.refusals.specs.Given.{Given, answered, refused}
 use Rattle.refusals.specs.declared.Refusal.the-variants as refusal
 use Rattle.routers.specs.Routers.{newOf}
@@ -18,10 +19,10 @@ use Rattle.node.specs.declared.Setup.{Setup}
 use Rattle.node.specs.declared.SetupAnswer.{SetupAnswer}
 use Rattle.node.specs.declared.SetupAnswer.the-variants.{Made, Refused}
 
--- R2.12: at setup all routers are due at time 0; the node keeps the latest time seen, 0 at setup (R1.10)
+-- R2.12: at setup all routers are due at time 0, and nothing is collected; the node keeps the latest time seen, 0 at setup (R1.10)
 unfoldable pub nodeOf : Settings → Node
 nodeOf s = record {
-  service = record { settings = s; routers = newOf (s .routers) (s .«router_count»); identification = s .identification };
+  service = record { settings = s; routers = newOf (s .routers) (s .«router_count»); pieces = noDatagrams; identification = s .identification };
   paths = noReports;
   latest = 0;
 }

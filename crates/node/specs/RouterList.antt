@@ -21,7 +21,7 @@ listGiven (Refused r) = refused r
 
 -- the service with another router list
 abbrev pub withRouters : Service → RouterList → Service
-withRouters service routers = record { settings = service .settings; routers = routers; identification = service .identification }
+withRouters service routers = record { settings = service .settings; routers = routers; pieces = service .pieces; identification = service .identification }
 
 -- 1: the new list breaks the rules; else a router in both lists keeps its due time, a new one is due now
 unfoldable pub replaceOf : Node → List ℕ → ℕ → ℕ → replaced.Replaced

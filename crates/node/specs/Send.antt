@@ -16,7 +16,7 @@ pathSizeToward node hop time = pathSizeAt node (lastQuad hop) (max (node .latest
 -- the service with another identification for the next packet
 abbrev pub withIdentification : Service → ℕ → Service
 withIdentification service identification =
-    record { settings = service .settings; routers = service .routers; identification = identification }
+    record { settings = service .settings; routers = service .routers; pieces = service .pieces; identification = identification }
 
 -- what a service makes of it, over a path of size P
 unfoldable pub sentBy : Service → ℕ → List ℕ → List ℕ → ℕ → ℕ → sending.Sent

@@ -8,6 +8,7 @@ pub mod router_list;
 pub mod send;
 
 use paths::PathTable;
+use pieces::Collection;
 use refusals::Refusal;
 use routers::RouterList;
 use settings::Settings;
@@ -22,6 +23,8 @@ ghost use Rattle.node.specs.Node.{noSettings, nodeOf, setupGiven, setupO
 pub struct Service {
     pub settings: Settings,
     pub routers: RouterList,
+    // The datagrams that are collected.
+    pub pieces: Collection,
     // The identification of the next packet that is wrapped.
     pub identification: u16,
 }
@@ -91,9 +94,11 @@ impl Node {
     {
         let addresses = settings.routers;
         let routers = RouterList::new(addresses, settings.router_count);
+        let pieces = Collection::new();
         let service = Service {
             settings,
             routers,
+            pieces,
             identification: settings.identification,
         };
         let paths = PathTable::new();

@@ -1,25 +1,44 @@
-// The two calls of receiving: the number, and the part. Neither has a time, so the node stays as it is.
+// The two calls of receiving: the number, and the part. The second has no time, and leaves the node as it is.
 use super::Node;
+use super::later;
 use receiving::Received;
+use receiving::collect;
 ghost use mathlib.Core.Path.{_≡_};
-ghost use Rattle.node.specs.Receive.{receiveOf, partIn};
+ghost use Rattle.node.specs.Receive.{receiveOf, receiveMemory, partIn};
+
+pub struct Receipt {
+    pub answer: Received,
+    pub node: Node,
+}
 
 impl Node {
-    // Where in the datagram the inner packet stands, or the number.
-    pub fn receive(self, d: &[u8], interface: u8) -> Received
-        ensures { λ r. ⌜ r ≡ receiveOf self (now (d .entry)) interface ⌝ }
+    // Where the inner packet stands, in the datagram or in the memory, or the number. The memory is lent for what is collected: a repeated
+    // piece is compared with what stands there, so who writes into it between two calls turns 27 into 29.
+    pub fn receive(self, d: &[u8], interface: u8, time: u32, memory: &mut [u8]) -> Receipt
+        ensures { λ r. ⌜ r ≡ receiveOf self (now (d .entry)) interface time (now (memory .entry)) ⌝ }
+        ensures { λ _. ⌜ now (memory .exit) ≡ receiveMemory self (now (d .entry)) interface time (now (memory .entry)) ⌝ }
+    {
+        let now = later(self.latest, time);
+        let mut service = self.service;
+        let settings = service.settings;
+        let routers = service.routers;
+        let old = service.pieces;
+        let collected = collect::collect(settings, routers, old, now, d, interface, memory);
+        let pieces = collected.pieces;
+        service.pieces = pieces;
+        let answer = collected.answer;
+        let node = self.put_back(service, time);
+        Receipt { answer, node }
+    }
+
+    // The part of the datagram that holds the inner packet, empty after a refusal and for a piece.
+    pub fn received_part(self, d: &[u8], interface: u8) -> &[u8]
+        ensures { λ r. ⌜ now r ≡ partIn self (now (d .entry)) interface ⌝ }
     {
         let service = self.service;
         let settings = service.settings;
         let routers = service.routers;
-        receiving::receive(settings, routers, d, interface)
-    }
-
-    // The part of the datagram that holds the inner packet, empty after a refusal.
-    pub fn received_part(self, d: &[u8], interface: u8) -> &[u8]
-        ensures { λ r. ⌜ now r ≡ partIn self (now (d .entry)) interface ⌝ }
-    {
-        let received = self.receive(d, interface);
+        let received = receiving::receive(settings, routers, d, interface);
         receiving::part(d, received)
     }
 }
