@@ -11,18 +11,18 @@
  * IPv4 addresses are numbers, 10.0.0.1 is 0x0A000001; IPv6 addresses and packets are bytes in the order of the network.
  *
  * Memory. Lent bytes are (pointer, length). A pointer is valid for its length, or null where the length is 0. One to a node is valid,
- * aligned to 8 bytes and not null; bytes need no alignment. What a call may write, an output or a node that is not const, overlaps
- * nothing else that it is lent.
+ * aligned to 8 bytes and not null; bytes need no alignment. What a call may write, an output, the memory of
+ * bogtrumpet_receive or a node that is not const, overlaps nothing else that it is lent.
  *
- * Threads. There is no shared state: calls on different nodes, and the rules, may be made at once. On one node bogtrumpet_receive,
- * bogtrumpet_advertise and bogtrumpet_path_size, which only read it, may be made at once; any other call on it is made alone.
+ * Threads. There is no shared state: calls on different nodes, and the rules, may be made at once. On one node bogtrumpet_advertise and
+ * bogtrumpet_path_size, which only read it, may be made at once; any other call on it is made alone, bogtrumpet_receive too.
  *
  * Stack. A call needs at most BOGTRUMPET_STACK bytes, whatever it is given (tests/boundary measures it).
  *
  * Answers. A call that can be refused gives a number of enum bogtrumpet_number, 0 where it is not. Where several apply, the first in the
  * order that stands at the call is given. Fields of an answer that do not apply are 0. After a refusal the lent output is untouched and
- * the node as before but for the latest time; 14 alone may write, and bogtrumpet_new always fills its node. Bytes of an output behind the
- * written length stay as they were.
+ * the node as before but for the latest time; 14 alone may write, bogtrumpet_new always fills its node, and a piece may change what is
+ * collected (at bogtrumpet_receive). Bytes of an output behind the written length stay as they were.
  *
  * Time is a count of seconds that the caller hands over; one earlier than the latest is read as the latest.
  */
@@ -37,9 +37,9 @@
 #include <stddef.h>
 #include <stdint.h>
 
-#define BOGTRUMPET_VERSION "0.3.0"
+#define BOGTRUMPET_VERSION "0.4.0"
 #define BOGTRUMPET_VERSION_MAJOR 0
-#define BOGTRUMPET_VERSION_MINOR 3
+#define BOGTRUMPET_VERSION_MINOR 4
 #define BOGTRUMPET_VERSION_PATCH 0
 
 /* A compiler that can warns where an answer is not looked at. */
@@ -60,11 +60,13 @@ extern "C" {
 #define BOGTRUMPET_MAX_ROUTERS 16
 #define BOGTRUMPET_MAX_NEIGHBOURS 64 /* whose path sizes are kept */
 #define BOGTRUMPET_MAX_ADVERTISED 8  /* prefixes of an advertisement that is written, and routes of it */
+#define BOGTRUMPET_MAX_COLLECTED 8   /* datagrams whose pieces are collected at once */
 
 #define BOGTRUMPET_MIN_LINK_SIZE 576
 #define BOGTRUMPET_MAX_LINK_SIZE 9216
 #define BOGTRUMPET_MAX_INTERVAL 3600 /* seconds between solicitations of a router */
 #define BOGTRUMPET_REPORT_AGE 600    /* seconds from which on a size report is no longer in force */
+#define BOGTRUMPET_PIECE_AGE 30      /* seconds from a datagram's first piece on, from which on its pieces are dropped */
 
 #define BOGTRUMPET_PREFIX_LENGTH 8
 #define BOGTRUMPET_OUTER_HEADER_LENGTH 20 /* of the IPv4 header that is written */
@@ -73,6 +75,8 @@ extern "C" {
 #define BOGTRUMPET_MAX_ADVERTISEMENT_LENGTH 504 /* of an advertisement that is written */
 #define BOGTRUMPET_MAX_TOO_BIG_LENGTH 1280
 #define BOGTRUMPET_MAX_SENT_LENGTH 9216 /* the most that bogtrumpet_send writes on a node of accepted settings */
+
+#define BOGTRUMPET_MEMORY 16384 /* the memory that bogtrumpet_receive is lent, in bytes */
 
 #define BOGTRUMPET_STACK 16384 /* bytes of stack that suffice for any call */
 
@@ -94,7 +98,7 @@ enum bogtrumpet_number {
     BOGTRUMPET_NEXT_HOP_NOT_ISATAP = 12,    /* next hop is no ISATAP address */
     BOGTRUMPET_TUNNEL_END_FORBIDDEN = 13,   /* tunnel end forbidden, or a locator's address */
     BOGTRUMPET_TOO_BIG = 14,                /* packet above the size that passes; carries that size and a message */
-    BOGTRUMPET_OUTPUT_SHORT = 15,           /* lent output too short for what would be written */
+    BOGTRUMPET_OUTPUT_SHORT = 15,           /* lent output too short for what would be written, or lent memory too short */
     BOGTRUMPET_REPORT_MALFORMED = 16,       /* no well-formed size report */
     BOGTRUMPET_QUOTE_NOT_OURS = 17,         /* the quote is not of our sending */
     BOGTRUMPET_SIZE_UNUSABLE = 18,          /* reported size unusable */
@@ -105,10 +109,14 @@ enum bogtrumpet_number {
     BOGTRUMPET_WRAPPED_TOO_LONG = 23,       /* wrapped length above 65,535 */
     BOGTRUMPET_SOLICITATION_INVALID = 24,   /* no valid solicitation */
     BOGTRUMPET_ASKER_NOT_ISATAP = 25,       /* the asker's address is not link-local ISATAP */
-    BOGTRUMPET_OPTIONS_BAD = 26             /* too many prefixes or routes, or a prefix length above 128 */
+    BOGTRUMPET_OPTIONS_BAD = 26,            /* too many prefixes or routes, or a prefix length above 128 */
+    BOGTRUMPET_PIECE_WAITS = 27,            /* a piece that waits for others, or is ignored */
+    BOGTRUMPET_NO_PLACE = 28,               /* no place is free for a new datagram's piece */
+    BOGTRUMPET_PIECES_DISAGREE = 29,        /* pieces overlap, or disagree about the end */
+    BOGTRUMPET_PIECE_UNFIT = 30             /* a piece's payload is empty, ends past 2,048 bytes, or before the last piece is no multiple of 8 */
 };
 
-/* The number in words; "no number of bogtrumpet" for one above 26. */
+/* The number in words; "no number of bogtrumpet" for one above 30. */
 BOGTRUMPET_CHECKED static inline const char *bogtrumpet_number_text(uint8_t number) {
     switch (number) {
     case BOGTRUMPET_OK: return "not refused";
@@ -126,7 +134,7 @@ BOGTRUMPET_CHECKED static inline const char *bogtrumpet_number_text(uint8_t numb
     case BOGTRUMPET_NEXT_HOP_NOT_ISATAP: return "next hop is no ISATAP address";
     case BOGTRUMPET_TUNNEL_END_FORBIDDEN: return "tunnel end forbidden, or a locator's address";
     case BOGTRUMPET_TOO_BIG: return "packet too big";
-    case BOGTRUMPET_OUTPUT_SHORT: return "output too short";
+    case BOGTRUMPET_OUTPUT_SHORT: return "output or memory too short";
     case BOGTRUMPET_REPORT_MALFORMED: return "no well-formed size report";
     case BOGTRUMPET_QUOTE_NOT_OURS: return "the quote is not of our sending";
     case BOGTRUMPET_SIZE_UNUSABLE: return "reported size unusable";
@@ -138,6 +146,10 @@ BOGTRUMPET_CHECKED static inline const char *bogtrumpet_number_text(uint8_t numb
     case BOGTRUMPET_SOLICITATION_INVALID: return "no valid solicitation";
     case BOGTRUMPET_ASKER_NOT_ISATAP: return "the asker's address is not link-local ISATAP";
     case BOGTRUMPET_OPTIONS_BAD: return "too many prefixes or routes, or a prefix length above 128";
+    case BOGTRUMPET_PIECE_WAITS: return "a piece that waits for others, or is ignored";
+    case BOGTRUMPET_NO_PLACE: return "no place is free for a new datagram's piece";
+    case BOGTRUMPET_PIECES_DISAGREE: return "pieces overlap, or disagree about the end";
+    case BOGTRUMPET_PIECE_UNFIT: return "a piece's payload is empty, ends past 2,048 bytes, or before the last piece is no multiple of 8";
     default: return "no number of bogtrumpet";
     }
 }
@@ -181,9 +193,32 @@ struct bogtrumpet_router_list {
     size_t count;
 };
 
+/* What the pieces of one datagram have in common (R23.5). */
+struct bogtrumpet_key {
+    uint32_t source;
+    uint32_t destination;
+    uint16_t identification;
+    uint8_t protocol;
+};
+
+/* A datagram that is collected. Its payload stands in the lent memory, from 2,048 times the place's number on. */
+struct bogtrumpet_place {
+    uint64_t held[4]; /* which units of 8 bytes are held: unit u is bit u % 64 of word u / 64 */
+    struct bogtrumpet_key key;
+    uint32_t first; /* the latest time at its first piece */
+    uint16_t end;   /* of its payload, 0 while that is not known */
+    uint16_t reach; /* how far its pieces with more-fragments set reach */
+    uint8_t used;   /* 0 where there is none */
+};
+
+struct bogtrumpet_collection {
+    struct bogtrumpet_place places[BOGTRUMPET_MAX_COLLECTED];
+};
+
 struct bogtrumpet_service {
     struct bogtrumpet_settings settings;   /* as they were set: its routers are the first list, also after it was replaced */
     struct bogtrumpet_router_list routers; /* the list now in force */
+    struct bogtrumpet_collection pieces;   /* the datagrams that are collected */
     uint16_t identification;               /* of the next wrapped packet */
 };
 
@@ -251,8 +286,9 @@ struct bogtrumpet_advertisement {
 
 struct bogtrumpet_received {
     uint8_t number;
-    size_t offset; /* where in the datagram the inner packet starts */
-    size_t length; /* the inner packet's length */
+    bool joined;   /* the inner packet was joined of pieces, and stands in the memory; else it stands in the datagram */
+    size_t offset; /* where it starts there */
+    size_t length; /* its length */
 };
 
 struct bogtrumpet_sent {
@@ -294,11 +330,16 @@ BOGTRUMPET_CHECKED struct bogtrumpet_settings bogtrumpet_defaults(struct bogtrum
    (R2.11). */
 BOGTRUMPET_CHECKED uint8_t bogtrumpet_new(struct bogtrumpet_node *node, struct bogtrumpet_settings settings);
 
-/* Where the inner packet stands in a datagram that arrived on the interface (R5). The node stays as it is.
-   Numbers, in this order: 2, 3, 4, 5, 6, 7, 8, 9, 10. */
-BOGTRUMPET_CHECKED struct bogtrumpet_received bogtrumpet_receive(const struct bogtrumpet_node *node,
-                                                                 const uint8_t *datagram, size_t length,
-                                                                 uint8_t interface);
+/* Where the inner packet stands of a datagram that arrived on the interface: in it, or, where it is the last missing piece of one, in the
+   memory (R5, R23). The memory has at least BOGTRUMPET_MEMORY bytes, of any value at first, and is the same at each call on a node
+   and no other node's, untouched between calls: what is collected stands there, and a repeated piece is compared with it. The bytes of a joined packet
+   stand there until the next call. A whole datagram leaves the memory and what is collected as they are.
+   Numbers, in this order: 15 (the memory is too short), 2, 3, 4, 6, 7; then of a piece 30, 29, 28, 27; then of a whole datagram, and of
+   one that a piece completes, 8, 9, 10. What is collected is changed also by 27, by 29, which drops it, and by 8, 9 and 10 of what a
+   piece completes; the memory by 27, 8, 9 and 10. */
+BOGTRUMPET_CHECKED struct bogtrumpet_received bogtrumpet_receive(struct bogtrumpet_node *node, const uint8_t *datagram,
+                                                                 size_t length, uint8_t interface, uint32_t time,
+                                                                 uint8_t *memory, size_t room);
 
 /* Wraps an IPv6 packet for the next hop, from the numbered locator (from 0) (R7). A packet above the size that passes gets 14, and an
    ICMPv6 Packet Too Big of 1,280 bytes in the output, unless none may be sent to its source (R8).
@@ -451,16 +492,28 @@ BOGTRUMPET_SIZE(router, 16);
 BOGTRUMPET_AT(router, due, 8);
 BOGTRUMPET_SIZE(router_list, 264);
 BOGTRUMPET_AT(router_list, count, 256);
-BOGTRUMPET_SIZE(service, 512);
+BOGTRUMPET_SIZE(key, 12);
+BOGTRUMPET_AT(key, destination, 4);
+BOGTRUMPET_AT(key, identification, 8);
+BOGTRUMPET_AT(key, protocol, 10);
+BOGTRUMPET_SIZE(place, 56);
+BOGTRUMPET_AT(place, key, 32);
+BOGTRUMPET_AT(place, first, 44);
+BOGTRUMPET_AT(place, end, 48);
+BOGTRUMPET_AT(place, reach, 50);
+BOGTRUMPET_AT(place, used, 52);
+BOGTRUMPET_SIZE(collection, 448);
+BOGTRUMPET_SIZE(service, 960);
 BOGTRUMPET_AT(service, routers, 240);
-BOGTRUMPET_AT(service, identification, 504);
+BOGTRUMPET_AT(service, pieces, 504);
+BOGTRUMPET_AT(service, identification, 952);
 BOGTRUMPET_SIZE(paths, 648);
 BOGTRUMPET_AT(paths, sizes, 256);
 BOGTRUMPET_AT(paths, times, 384);
 BOGTRUMPET_AT(paths, count, 640);
-BOGTRUMPET_SIZE(node, 1168);
-BOGTRUMPET_AT(node, paths, 512);
-BOGTRUMPET_AT(node, latest, 1160);
+BOGTRUMPET_SIZE(node, 1616);
+BOGTRUMPET_AT(node, paths, 960);
+BOGTRUMPET_AT(node, latest, 1608);
 BOGTRUMPET_SIZE(addresses, 72);
 BOGTRUMPET_AT(addresses, count, 64);
 BOGTRUMPET_SIZE(advertised_prefix, 28);
@@ -481,6 +534,7 @@ BOGTRUMPET_AT(advertisement, lifetime, 432);
 BOGTRUMPET_AT(advertisement, managed, 434);
 BOGTRUMPET_AT(advertisement, other, 435);
 BOGTRUMPET_SIZE(received, 24);
+BOGTRUMPET_AT(received, joined, 1);
 BOGTRUMPET_AT(received, offset, 8);
 BOGTRUMPET_AT(received, length, 16);
 BOGTRUMPET_SIZE(sent, 24);

@@ -28,7 +28,8 @@ use Rattle.bogtrumpet.specs.Given.{receivedBack, sentBack, reportedBack,
 
 pub received-given : (a : Received) → receivedBack (plainReceived a) ≡ receivedGiven a
 received-given (received.Delivered offset length) = refl
-received-given (received.Refused r) = refused-back r (0 ∷ 0 ∷ [])
+received-given (received.Joined offset length) = refl
+received-given (received.Refused r) = refused-back r (0 ∷ 0 ∷ 0 ∷ [])
 
 pub sent-given : (a : SendAnswer) → sentBack (plainSent a) ≡ sendGiven a
 sent-given (sent.Wrapped length) = refl

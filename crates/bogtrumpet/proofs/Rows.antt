@@ -38,7 +38,7 @@ use Rattle.node.proofs.Node.Laws as T′
 
 -- where the path table lies in a node
 abbrev pub table-at : ℕ
-table-at = 512
+table-at = 960
 
 abbrev Numbers : Width → RattleType
 Numbers w = Array (UInt w) mostNeighbours

@@ -1,5 +1,6 @@
 -- Answers as plain structs (R4): the number, 0 where the call is not refused, and the values that go
 -- with it; a value that an answer does not have is 0.
+use mathlib.Core.Bool.{true, false}
 use Rattle.header.specs.declared.wrap.Written.{Written}
 use Rattle.header.specs.declared.wrap.Written.the-variants as written
 use Rattle.hearing.specs.declared.HeardAnswer.{HeardAnswer}
@@ -26,10 +27,11 @@ use Rattle.bogtrumpet.specs.declared.answers.Advertised.{Advertised}
 unfoldable pub defaultsOf : Settings → Settings
 defaultsOf s = defaultsFor (s .locators) (s .«locator_count») (s .prefixes) (s .«prefix_count») (s .routers) (s .«router_count»)
 
--- the part of the lent datagram that holds the 40 + payload length inner bytes (R5.13), by its place
+-- the place of the 40 + payload length inner bytes, in the lent datagram (R5.13), or in the memory where they were joined (R23.14)
 abbrev pub plainReceived : receiving.Received → Received
-plainReceived (received.Delivered offset length) = record { number = 0; offset = offset; length = length }
-plainReceived (received.Refused r) = record { number = numberOf r; offset = 0; length = 0 }
+plainReceived (received.Delivered offset length) = record { number = 0; joined = false; offset = offset; length = length }
+plainReceived (received.Joined offset length) = record { number = 0; joined = true; offset = offset; length = length }
+plainReceived (received.Refused r) = record { number = numberOf r; joined = false; offset = 0; length = 0 }
 
 -- the length written (R1.17); 14 carries the size M and the length of the message written (R8.4)
 abbrev pub plainSent : SendAnswer → Sent

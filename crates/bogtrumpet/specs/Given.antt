@@ -10,9 +10,9 @@ use Rattle.bogtrumpet.specs.declared.answers.Asked.{Asked}
 use Rattle.bogtrumpet.specs.declared.answers.Heard.{Heard}
 use Rattle.bogtrumpet.specs.declared.answers.Advertised.{Advertised}
 
--- of receiving: where the inner packet stands, and its length
+-- of receiving: 1 where the inner packet stands in the memory, its place there or in the datagram, and its length
 abbrev pub receivedBack : Received → Given
-receivedBack a = readBack (a .number) (a .offset ∷ a .length ∷ [])
+receivedBack a = readBack (a .number) (cond (a .joined) 1 0 ∷ a .offset ∷ a .length ∷ [])
 
 -- of sending: with 14 the size M and the length of the message written, with 0 the length of the datagram written
 abbrev pub sentBack : Sent → Given

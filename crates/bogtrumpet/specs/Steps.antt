@@ -1,7 +1,12 @@
--- What a function of `steps` answers: the plain answer, and the next node or what is changed of it.
+-- What a function of `steps` answers: the plain answer, and what is changed of the node.
 use Prim.Native.Nat.{ℕ, max}
 use mathlib.Core.List.{List}
+use Rattle.header.specs.Outer.{outerOf}
+use Rattle.receiving.specs.Collect.{isPiece}
+use Rattle.receiving.specs.declared.collect.Collected.{Collected}
 use Rattle.node.specs.Node.{setupGiven}
+use Rattle.node.specs.Receive.{collectedBy}
+use Rattle.node.specs.Send.{withIdentification}
 use Rattle.node.specs.RouterList.{listGiven}
 use Rattle.node.specs.declared.Node.{Node}
 use Rattle.node.specs.declared.Setup.{Setup}
@@ -10,15 +15,17 @@ use Rattle.node.specs.declared.hear.Heard.{Heard}
 use Rattle.node.specs.declared.report.Reported.{Reported}
 use Rattle.node.specs.declared.router_list.Replaced.{Replaced}
 use Rattle.sending.specs.Sending.{sentOf}
-use Rattle.bogtrumpet.specs.Answers.{plainSent, plainReported, plainAsked, plainHeard}
-use Rattle.bogtrumpet.specs.declared.steps.NumberStep.{NumberStep}
+use Rattle.bogtrumpet.specs.Answers.{plainReceived, plainSent, plainReported, plainAsked, plainHeard}
+use Rattle.bogtrumpet.specs.declared.steps.MadeStep.{MadeStep}
 use Rattle.bogtrumpet.specs.declared.steps.SentStep.{SentStep}
+use Rattle.bogtrumpet.specs.declared.steps.ReceivedStep.{ReceivedStep}
 use Rattle.bogtrumpet.specs.declared.steps.ReportedStep.{ReportedStep}
+use Rattle.bogtrumpet.specs.declared.steps.ReplacedStep.{ReplacedStep}
 use Rattle.bogtrumpet.specs.declared.steps.AskedStep.{AskedStep}
 use Rattle.bogtrumpet.specs.declared.steps.HeardStep.{HeardStep}
 
 -- of a setup: 1, or 0, and the node that is made
-unfoldable pub madeStep : Setup → NumberStep
+unfoldable pub madeStep : Setup → MadeStep
 madeStep s = record { answer = setupGiven (s .answer) .number; node = s .node }
 
 -- of a sending over a path of that size: the next identification, and the later time
@@ -29,24 +36,27 @@ sentStep node size packet hop k time room =
 
 -- the node that a sending leaves: the next identification and the latest time are changed, and nothing else
 abbrev pub storedAfter : Node → SentStep → Node
-storedAfter node step = record {
-  service = record { settings = node .service .settings; routers = node .service .routers; identification = step .identification };
-  paths = node .paths;
-  latest = step .latest;
-}
+storedAfter node step = record { service = withIdentification (node .service) (step .identification); paths = node .paths; latest = step .latest }
 
--- of a size report: the plain answer, and the next node
+-- of a datagram (R23): the plain answer, what is collected then, the later time, and whether it is a piece
+unfoldable pub receivedStep : Node → List ℕ → ℕ → ℕ → List ℕ → ReceivedStep
+receivedStep node d interface time memory =
+    let now : ℕ = max (node .latest) time in
+    let collected : Collected = collectedBy (node .service) now d interface memory in
+    record { answer = plainReceived (collected .answer); pieces = collected .pieces; latest = now; piece = isPiece (outerOf d) }
+
+-- of a size report: the plain answer, and the path table and the latest time of the next node
 unfoldable pub reportedStep : Reported → ReportedStep
-reportedStep s = record { answer = plainReported (s .answer); node = s .node }
+reportedStep s = record { answer = plainReported (s .answer); paths = s .node .paths; latest = s .node .latest }
 
--- of a new router list: 1, or 0, and the next node
-unfoldable pub replacedStep : Replaced → NumberStep
-replacedStep s = record { answer = listGiven (s .answer) .number; node = s .node }
+-- of a new router list: 1, or 0, and the router list and the latest time of the next node
+unfoldable pub replacedStep : Replaced → ReplacedStep
+replacedStep s = record { answer = listGiven (s .answer) .number; routers = s .node .service .routers; latest = s .node .latest }
 
--- of asking: the plain answer, and the next node
+-- of asking: the plain answer, and the router list and the latest time of the next node
 unfoldable pub askedStep : Asked → AskedStep
-askedStep s = record { answer = plainAsked (s .answer); node = s .node }
+askedStep s = record { answer = plainAsked (s .answer); routers = s .node .service .routers; latest = s .node .latest }
 
--- of an advertisement: the plain answer, and the next node
+-- of an advertisement: the plain answer, and the router list and the latest time of the next node
 unfoldable pub heardStep : Heard → HeardStep
-heardStep s = record { answer = plainHeard (s .answer); node = s .node }
+heardStep s = record { answer = plainHeard (s .answer); routers = s .node .service .routers; latest = s .node .latest }

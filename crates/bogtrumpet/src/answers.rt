@@ -8,10 +8,11 @@ use sending::SendAnswer;
 ghost use mathlib.Core.Path.{_≡_};
 ghost use Rattle.bogtrumpet.specs.Answers.{plainReceived, plainSent, plainReported, plainAsked, plainHeard, plainAdvertised};
 
-// Where in the datagram the inner packet stands.
+// Where the inner packet stands: in the memory where it was joined of pieces, else in the datagram.
 #[repr(C)]
 pub struct Received {
     pub number: u8,
+    pub joined: bool,
     pub offset: usize,
     pub length: usize,
 }
@@ -60,11 +61,19 @@ pub fn plain_received(answer: receiving::Received) -> Received
     match answer {
         receiving::Received::Delivered { offset, length } => Received {
             number: 0,
+            joined: false,
+            offset,
+            length,
+        },
+        receiving::Received::Joined { offset, length } => Received {
+            number: 0,
+            joined: true,
             offset,
             length,
         },
         receiving::Received::Refused(refusal) => Received {
             number: refusal.number(),
+            joined: false,
             offset: 0,
             length: 0,
         },

@@ -20,7 +20,7 @@ ghost use Rattle.node.specs.Advertise.{advertiseOf, advertiseOutput};
 ghost use Rattle.node.specs.Ask.{askOf, askOutput};
 ghost use Rattle.node.specs.Hear.{hearOf};
 ghost use Rattle.node.specs.Node.{setupGiven, setupOf, pathSize};
-ghost use Rattle.node.specs.Receive.{receiveOf};
+ghost use Rattle.node.specs.Receive.{receiveOf, receiveMemory};
 ghost use Rattle.node.specs.Report.{reportOf};
 ghost use Rattle.node.specs.RouterList.{listGiven, replaceOf};
 ghost use Rattle.node.specs.Send.{sendOf, sendOutput, pathSizeToward};
@@ -71,12 +71,25 @@ pub extern "C" fn bogtrumpet_new(node: &mut Node, settings: Settings) -> u8
     step.answer
 }
 
-// Where in the datagram the inner packet stands: Node::receive.
+// Where the inner packet stands, in the datagram or in the memory: Node::receive. A whole datagram moves no byte of what is collected.
 #[no_mangle]
-pub extern "C" fn bogtrumpet_receive(node: &Node, datagram: &[u8], interface: u8) -> Received
-    ensures { λ r. ⌜ r ≡ plainReceived (receiveOf (now (node .entry)) (now (datagram .entry)) interface) ⌝ }
+pub extern "C" fn bogtrumpet_receive(
+    node: &mut Node,
+    datagram: &[u8],
+    interface: u8,
+    time: u32,
+    memory: &mut [u8],
+) -> Received
+    ensures { λ r. ⌜ (r ≡ plainReceived (receiveOf (now (node .entry)) (now (datagram .entry)) interface time (now (memory .entry)) .answer))
+        × (now (node .exit) ≡ receiveOf (now (node .entry)) (now (datagram .entry)) interface time (now (memory .entry)) .node)
+        × (now (memory .exit) ≡ receiveMemory (now (node .entry)) (now (datagram .entry)) interface time (now (memory .entry))) ⌝ }
 {
-    steps::received(*node, datagram, interface)
+    let step = steps::received(*node, datagram, interface, time, memory);
+    if step.piece {
+        node.service.pieces = step.pieces;
+    }
+    node.latest = step.latest;
+    step.answer
 }
 
 // The size in force toward a neighbour: Node::path_size. The rows of the path table are lent to the search, so that none is copied.
@@ -156,7 +169,8 @@ pub extern "C" fn bogtrumpet_report(node: &mut Node, message: &[u8], time: u32) 
         × (now (node .exit) ≡ reportOf (now (node .entry)) (now (message .entry)) time .node) ⌝ }
 {
     let step = steps::reported(*node, message, time);
-    *node = step.node;
+    node.paths = step.paths;
+    node.latest = step.latest;
     step.answer
 }
 
@@ -167,7 +181,8 @@ pub extern "C" fn bogtrumpet_replace_routers(node: &mut Node, list: Addresses, t
         × (now (node .exit) ≡ replaceOf (now (node .entry)) (list .routers) (list .count) time .node) ⌝ }
 {
     let step = steps::replaced(*node, list, time);
-    *node = step.node;
+    node.service.routers = step.routers;
+    node.latest = step.latest;
     step.answer
 }
 
@@ -184,7 +199,8 @@ pub extern "C" fn bogtrumpet_ask(
         × (now (out .exit) ≡ askOutput (now (node .entry)) locator time (now (out .entry))) ⌝ }
 {
     let step = steps::asked(*node, locator, time, out);
-    *node = step.node;
+    node.service.routers = step.routers;
+    node.latest = step.latest;
     step.answer
 }
 
@@ -195,7 +211,8 @@ pub extern "C" fn bogtrumpet_hear(node: &mut Node, packet: &[u8], time: u32) -> 
         × (now (node .exit) ≡ hearOf (now (node .entry)) (now (packet .entry)) time .node) ⌝ }
 {
     let step = steps::heard(*node, packet, time);
-    *node = step.node;
+    node.service.routers = step.routers;
+    node.latest = step.latest;
     step.answer
 }
 

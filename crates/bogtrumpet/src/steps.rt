@@ -1,4 +1,4 @@
-// A call's answer, and beside it the next node or what the call changes of it: what the functions over a pointer give and store.
+// A call's answer, and beside it what the call changes of the node: what the functions over a pointer give and store.
 use super::Address;
 use super::Addresses;
 use super::answers;
@@ -11,6 +11,10 @@ use super::answers::Sent;
 use super::plain;
 use super::plain::Advertisement;
 use node::Node;
+use paths::PathTable;
+use pieces::Collection;
+use receiving::collect;
+use routers::RouterList;
 use settings::Settings;
 ghost use mathlib.Core.Path.{_≡_};
 ghost use lib.ListN.{length};
@@ -18,16 +22,16 @@ ghost use Rattle.node.specs.Advertise.{advertiseOf, advertiseOutput};
 ghost use Rattle.node.specs.Ask.{askOf, askOutput};
 ghost use Rattle.node.specs.Hear.{hearOf};
 ghost use Rattle.node.specs.Node.{setupOf};
-ghost use Rattle.node.specs.Receive.{receiveOf};
+ghost use Rattle.node.specs.Receive.{receiveMemory};
 ghost use Rattle.node.specs.Report.{reportOf};
 ghost use Rattle.node.specs.RouterList.{replaceOf};
 ghost use Rattle.sending.specs.Sending.{sentOutput};
-ghost use Rattle.bogtrumpet.specs.Answers.{plainReceived, plainAdvertised};
+ghost use Rattle.bogtrumpet.specs.Answers.{plainAdvertised};
 ghost use Rattle.bogtrumpet.specs.Plain.{advertisementFrom};
-ghost use Rattle.bogtrumpet.specs.Steps.{madeStep, sentStep, reportedStep, replacedStep, askedStep, heardStep};
+ghost use Rattle.bogtrumpet.specs.Steps.{madeStep, sentStep, receivedStep, reportedStep, replacedStep, askedStep, heardStep};
 
-// A number, and the next node.
-pub struct NumberStep {
+// A number, and the node that is made.
+pub struct MadeStep {
     pub answer: u8,
     pub node: Node,
 }
@@ -39,36 +43,78 @@ pub struct SentStep {
     pub latest: u32,
 }
 
+// Of the node a piece changes what is collected and the latest time alone, a whole datagram the latest time alone.
+pub struct ReceivedStep {
+    pub answer: Received,
+    pub pieces: Collection,
+    pub latest: u32,
+    pub piece: bool,
+}
+
+// Of the node a size report changes the path table and the latest time alone.
 pub struct ReportedStep {
     pub answer: Reported,
-    pub node: Node,
+    pub paths: PathTable,
+    pub latest: u32,
+}
+
+// Of the node a new router list, asking and an advertisement change the router list and the latest time alone.
+pub struct ReplacedStep {
+    pub answer: u8,
+    pub routers: RouterList,
+    pub latest: u32,
 }
 
 pub struct AskedStep {
     pub answer: Asked,
-    pub node: Node,
+    pub routers: RouterList,
+    pub latest: u32,
 }
 
 pub struct HeardStep {
     pub answer: Heard,
-    pub node: Node,
+    pub routers: RouterList,
+    pub latest: u32,
 }
 
 // What stood where the new node is to stand is not asked.
-pub fn made(_: Node, settings: Settings) -> NumberStep
+pub fn made(_: Node, settings: Settings) -> MadeStep
     ensures { λ r. ⌜ r ≡ madeStep (setupOf settings) ⌝ }
 {
     let setup = Node::new(settings);
     let given = setup.answer;
     let node = setup.node;
     let answer = given.number();
-    NumberStep { answer, node }
+    MadeStep { answer, node }
 }
 
-pub fn received(n: Node, datagram: &[u8], interface: u8) -> Received
-    ensures { λ r. ⌜ r ≡ plainReceived (receiveOf n (now (datagram .entry)) interface) ⌝ }
+// A datagram, whole or a piece: receiving::collect::collect.
+pub fn received(
+    n: Node,
+    datagram: &[u8],
+    interface: u8,
+    time: u32,
+    memory: &mut [u8],
+) -> ReceivedStep
+    ensures { λ r. ⌜ (r ≡ receivedStep n (now (datagram .entry)) interface time (now (memory .entry)))
+        × (now (memory .exit) ≡ receiveMemory n (now (datagram .entry)) interface time (now (memory .entry))) ⌝ }
 {
-    answers::plain_received(n.receive(datagram, interface))
+    let service = n.service;
+    let settings = service.settings;
+    let routers = service.routers;
+    let old = service.pieces;
+    let latest = node::later(n.latest, time);
+    let collected = collect::collect(settings, routers, old, latest, datagram, interface, memory);
+    let given = collected.answer;
+    let pieces = collected.pieces;
+    let answer = answers::plain_received(given);
+    let piece = collect::is_piece(datagram);
+    ReceivedStep {
+        answer,
+        pieces,
+        latest,
+        piece,
+    }
 }
 
 // A sending over a path of that size: sending::send.
@@ -111,19 +157,30 @@ pub fn reported(n: Node, message: &[u8], time: u32) -> ReportedStep
     let reported = n.report(message, time);
     let given = reported.answer;
     let node = reported.node;
+    let paths = node.paths;
     let answer = answers::plain_reported(given);
-    ReportedStep { answer, node }
+    ReportedStep {
+        answer,
+        paths,
+        latest: node.latest,
+    }
 }
 
-pub fn replaced(n: Node, list: Addresses, time: u32) -> NumberStep
+pub fn replaced(n: Node, list: Addresses, time: u32) -> ReplacedStep
     ensures { λ r. ⌜ r ≡ replacedStep (replaceOf n (list .routers) (list .count) time) ⌝ }
 {
     let routers = list.routers;
     let replaced = n.replace_routers(routers, list.count, time);
     let given = replaced.answer;
     let node = replaced.node;
+    let service = node.service;
+    let routers = service.routers;
     let answer = given.number();
-    NumberStep { answer, node }
+    ReplacedStep {
+        answer,
+        routers,
+        latest: node.latest,
+    }
 }
 
 pub fn asked(n: Node, locator: usize, time: u32, out: &mut [u8]) -> AskedStep
@@ -133,8 +190,14 @@ pub fn asked(n: Node, locator: usize, time: u32, out: &mut [u8]) -> AskedStep
     let asked = n.ask(locator, time, out);
     let given = asked.answer;
     let node = asked.node;
+    let service = node.service;
+    let routers = service.routers;
     let answer = answers::plain_asked(given);
-    AskedStep { answer, node }
+    AskedStep {
+        answer,
+        routers,
+        latest: node.latest,
+    }
 }
 
 pub fn heard(n: Node, packet: &[u8], time: u32) -> HeardStep
@@ -143,8 +206,14 @@ pub fn heard(n: Node, packet: &[u8], time: u32) -> HeardStep
     let heard = n.hear(packet, time);
     let given = heard.answer;
     let node = heard.node;
+    let service = node.service;
+    let routers = service.routers;
     let answer = answers::plain_heard(given);
-    HeardStep { answer, node }
+    HeardStep {
+        answer,
+        routers,
+        latest: node.latest,
+    }
 }
 
 pub fn advertised(

@@ -1,6 +1,6 @@
 -- Headers read and judged, for C (R5): the number, 0 where nothing is refused, and what was read.
 use Prim.Native.Nat.{ℕ}
-use mathlib.Core.Bool.{cond}
+use mathlib.Core.Bool.{false, cond}
 use mathlib.Core.List.{List}
 use lib.ListN.{length}
 use Rattle.header.specs.Inner.{innerOf, isInnerMalformed}
@@ -26,13 +26,13 @@ outerIn d = plainOuter (outerReadOf d) (outerOf d .header) (outerOf d .total)
 
 -- a refusal delivers nothing
 abbrev pub refusedIn : Refusal → Received
-refusedIn r = record { number = numberOf r; offset = 0; length = 0 }
+refusedIn r = record { number = numberOf r; joined = false; offset = 0; length = 0 }
 
 -- 8, else the 40 + payload length inner bytes behind the outer header
 unfoldable pub openedIn : List ℕ → Outer → Received
 openedIn d o =
     let p : List ℕ = payloadOf d o in
-    cond (isInnerMalformed (length p) (innerOf p)) (refusedIn InnerMalformed) (record { number = 0; offset = o .header; length = innerOf p .length })
+    cond (isInnerMalformed (length p) (innerOf p)) (refusedIn InnerMalformed) (record { number = 0; joined = false; offset = o .header; length = innerOf p .length })
 
 -- 2 to 5, then 8, else the inner packet
 abbrev pub unwrappedAs : outer.OuterRead → List ℕ → Received

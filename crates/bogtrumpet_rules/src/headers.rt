@@ -19,10 +19,11 @@ pub struct OuterRead {
     pub destination: u32,
 }
 
-// Where in the datagram the inner packet stands.
+// Where in the datagram the inner packet stands. The struct is that of the node's call, where a packet may be joined of pieces.
 #[repr(C)]
 pub struct Received {
     pub number: u8,
+    pub joined: bool,
     pub offset: usize,
     pub length: usize,
 }
@@ -74,6 +75,7 @@ fn refused(refusal: Refusal) -> Received
 {
     Received {
         number: refusal.number(),
+        joined: false,
         offset: 0,
         length: 0,
     }
@@ -90,6 +92,7 @@ fn open(d: &[u8], o: Outer) -> Received
     }
     Received {
         number: 0,
+        joined: false,
         offset: o.header,
         length: i.length,
     }
