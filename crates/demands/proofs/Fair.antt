@@ -26,6 +26,7 @@ use Rattle.hearing.proofs.Laws as hearing
 use Rattle.hearing.specs.declared.HeardAnswer.{HeardAnswer}
 use Rattle.hearing.specs.declared.HeardAnswer.the-variants as hear
 use Rattle.node.specs.Node.{nodeOf, setupOf, raisedTo}
+use Rattle.node.specs.Receive.{receiveOf}
 use Rattle.node.specs.Send.{sendOf}
 use Rattle.node.specs.Report.{reportOf}
 use Rattle.node.specs.RouterList.{replaceOf}
@@ -74,8 +75,8 @@ relisting-turn n addresses count time false e =
     leaves refl (ap (λ (m : Node). m .service .routers) (unchosen (areRoutersRight (n .service .settings) addresses count) _ _ e))
 
 turn : (n : Node) (x : NodeCall) → Turn n (viewOf x .time) (viewOf x .routers) (outcomeOf n x)
-unfolding sendOf reportOf
-turn n (receiving d interface) = leaves refl refl
+unfolding receiveOf sendOf reportOf
+turn n (receiving d interface time memory) = leaves refl refl
 turn n (receivingPart d interface) = leaves refl refl
 turn n (sending packet hop k time out) = leaves refl refl
 turn n (reporting m time) = leaves refl refl

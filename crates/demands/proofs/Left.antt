@@ -9,6 +9,7 @@ use Rattle.sending.specs.Sending.{sendGiven}
 use Rattle.reports.specs.Report.{reportGiven}
 use Rattle.settings.specs.Settings.{areRoutersRight}
 use Rattle.node.specs.Node.{raisedTo}
+use Rattle.node.specs.Receive.{receiveOf}
 use Rattle.node.specs.Send.{sendOf}
 use Rattle.node.specs.Report.{pathsAfter, reportAnswerOf, reportOf}
 use Rattle.node.specs.RouterList.{replaceOf}
@@ -38,8 +39,8 @@ pub record Left (n : Node) (time room : ℕ) (c : OfSizes) (o : Outcome) : Type 
   pub sizes : SizesLeft n time room c o
 
 pub left : (n : Node) (x : NodeCall) → Left n (viewOf x .time) (length (viewOf x .lent)) (viewOf x .sizes) (outcomeOf n x)
-unfolding sendOf reportOf replaceOf raisedTo askOf hearOf
-left n (receiving d interface) = record { settings = refl; latest = sym (max-zero _); sizes = refl }
+unfolding receiveOf sendOf reportOf replaceOf raisedTo askOf hearOf
+left n (receiving d interface time memory) = record { settings = refl; latest = refl; sizes = refl }
 left n (receivingPart d interface) = record { settings = refl; latest = sym (max-zero _); sizes = refl }
 left n (sending packet hop k time out) = record { settings = refl; latest = refl; sizes = (refl, refl) }
 left n (reporting m time) = record { settings = refl; latest = refl; sizes = (refl, refl) }

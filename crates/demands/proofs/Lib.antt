@@ -11,3 +11,15 @@ pub mod Readings
 pub mod Two
 pub mod Fair
 pub mod RoundTrip
+pub mod Corrected
+pub mod Fragments
+pub mod PieceOf
+pub mod Steps
+pub mod Handed
+pub mod Runs
+pub mod Arrivals
+pub mod Lift
+pub mod Joining
+pub mod Collects
+pub mod Collecting
+pub mod Example

@@ -7,6 +7,7 @@ use lib.ListN.{getD}
 use Rattle.address.specs.Address.{lastQuad}
 use Rattle.address.specs.Prefixes.{rowAt, rowsOf}
 use Rattle.header.specs.Fields.{wordAt, quadAt}
+use Rattle.units.proofs.Facts.{marks-holds, with-holds}
 use Rattle.demands.specs.Readings.{Readings}
 
 -- a row has eight bytes from its place on
@@ -46,4 +47,6 @@ readings = record {
   routers = λ l. refl;
   quote = λ m. refl;
   numbers = refl;
+  unit = λ h u inside. (marks-holds h u inside .holds, marks-holds h u inside .passes);
+  unitsBesides = with-holds;
 }

@@ -85,5 +85,6 @@ sets s =
       identification = λ r. rw (d .passes r);
       latest = λ r. rw (d .passes r);
       noReport = λ r. rw (d .passes r);
+      noPiece = λ r. rw (d .passes r);
       routers = λ r. rw (d .passes r) (new-list (s .routers) (s .«router_count»));
     }

@@ -6,14 +6,18 @@ use Rattle.address.specs.Address.{linkLocalOf}
 use Rattle.lists.proofs.Decides.{refutes}
 use Rattle.settings.specs.Settings.{defaultsFor, areRoutersRight}
 use Rattle.routers.specs.Routers.{live}
+use Rattle.pieces.proofs.Exactly.{piece-exactly}
+use Rattle.pieces.proofs.History.{history-tells}
+use Rattle.pieces.proofs.ByHistory.{history-exactly}
 use Rattle.reports.proofs.AcceptsLaws.{reported-exactly}
 use Rattle.sending.proofs.ExactlyLaws.{sent-exactly}
+use Rattle.receiving.proofs.Collected.{collected-exactly}
 use Rattle.receiving.proofs.Delivered.{delivers-exactly}
 use Rattle.asking.proofs.Laws.{asked-exactly}
 use Rattle.hearing.proofs.Laws.{heard-exactly}
 use Rattle.advertising.proofs.Laws.{advertised-exactly}
 use Rattle.node.specs.Node.{pathSizeAt}
-use Rattle.node.specs.Receive.{receiveOf, partIn}
+use Rattle.node.specs.Receive.{collectedBy, receiveOf, receiveMemory, partIn}
 use Rattle.node.specs.Send.{pathSizeToward, sentBy, sendOf, sendOutput}
 use Rattle.node.specs.Report.{reportAnswerOf, reportOf}
 use Rattle.node.specs.RouterList.{replaceOf}
@@ -26,6 +30,7 @@ use Rattle.demands.proofs.RightList.{decides-right}
 use Rattle.demands.proofs.NewList.{replaced-list}
 use Rattle.demands.proofs.RightSettings.{sets}
 use Rattle.demands.proofs.Readings.{readings}
+use Rattle.demands.proofs.Collecting.{collected-by-history}
 
 relists : (n : Node) (addresses : List ℕ) (count time : ℕ) → Relists n addresses count time
 unfolding replaceOf
@@ -39,12 +44,14 @@ relists n addresses count time =
     }
 
 exactly : (n : Node) → Exactly n
-unfolding receiveOf partIn sendOf sentBy sendOutput reportOf reportAnswerOf askOf askedBy askOutput hearOf heardBy advertiseOf advertiseOutput
+unfolding receiveOf receiveMemory collectedBy partIn sendOf sentBy sendOutput reportOf reportAnswerOf askOf askedBy askOutput hearOf heardBy advertiseOf advertiseOutput
 exactly n =
     let s = n .service .settings in
     let routers = n .service .routers in
     record {
-      receives = λ d interface. record { number = refl; part = refl; exactly = delivers-exactly s (live routers) d interface };
+      givesPart = λ d interface. record { part = refl; exactly = delivers-exactly s (live routers) d interface };
+      receives = λ d interface time memory.
+          record { answer = refl; node = refl; lent = refl; exactly = collected-exactly s (live routers) (n .service .pieces) (max (n .latest) time) d interface memory };
       sends = λ packet hop k time out. record {
         node = refl;
         exactly = sent-exactly s (n .service .identification) (pathSizeToward n hop time) packet hop k out;
@@ -63,4 +70,5 @@ demand-two = record {
   defaults = λ first others locators prefixes onLink routers listed. record { linkSize = refl; ttl = refl; interval = refl; identification = refl; reporting = refl };
   sets = sets;
   calls = exactly;
+  collects = record { exactly = piece-exactly; tells = history-tells; byHistory = history-exactly; handedIn = collected-by-history };
 }

@@ -7,4 +7,8 @@ pub mod Sender
 pub mod Three
 pub mod Fair
 pub mod RoundTrip
+pub mod Collecting
+pub mod Cuttings
+pub mod Joining
+pub mod Fragments
 pub mod Starred

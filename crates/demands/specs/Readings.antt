@@ -2,6 +2,8 @@
 -- and its test would go on agreeing.
 use Prim.Native.Nat.{ℕ, _+_, _*_, _<_}
 use mathlib.Core.Path.{_≡_}
+use mathlib.Core.Logic.{_⊎_, _↔_}
+use mathlib.Core.Bool.{true, false}
 use mathlib.Core.List.{List, [], _∷_, map}
 use lib.ListN.{getD, take, drop}
 use Rattle.address.specs.Address.{quadOf, lastQuad, linkLocalPrefix}
@@ -13,10 +15,14 @@ use Rattle.refusals.specs.declared.Refusal.the-variants as refusal
 use Rattle.routers.specs.Routers.{live}
 use Rattle.routers.specs.declared.RouterList.{RouterList}
 use Rattle.settings.specs.Settings.{locatorsOf}
+use Rattle.units.specs.Facts.{Holds, Among}
+use Rattle.units.specs.Held.{marksIn, heldWith}
+use Rattle.units.specs.declared.Held.{Held}
 use Rattle.settings.specs.declared.Settings.{Settings}
 
 -- numbers are big-endian; prefixes stand one behind the other, eight bytes each; of locators and routers the first `count` are in force; a size
--- report quotes from its byte 8 on; each refusal has its number of R4
+-- report quotes from its byte 8 on; each refusal has its number of R4; the unit u of a collected datagram is marked by bit u % 64 of word u / 64, and
+-- units are held besides by setting theirs alone
 pub record Readings : Type 0 where
   pub word : (d : List ℕ) (k : ℕ) → wordAt d k ≡ getD d k 0 * 256 + getD d (k + 1) 0
   pub quad : (a b c d : ℕ) → quadOf a b c d ≡ a * 16777216 + b * 65536 + c * 256 + d
@@ -27,5 +33,7 @@ pub record Readings : Type 0 where
   pub locators : (s : Settings) → locatorsOf s ≡ take (s .«locator_count») (s .locators)
   pub routers : (l : RouterList) → live l ≡ take (l .count) (l .routers)
   pub quote : (m : List ℕ) → quoteOf m ≡ drop 8 m
-  pub numbers : map numberOf (refusal.Settings ∷ refusal.OuterMalformed ∷ refusal.OuterChecksum ∷ refusal.OtherProtocol ∷ refusal.Piece ∷ refusal.NotForUs ∷ refusal.OuterSourceForbidden ∷ refusal.InnerMalformed ∷ refusal.InnerSourceBad ∷ refusal.OuterSourceWrong ∷ refusal.NoLocator ∷ refusal.NextHopNotIsatap ∷ refusal.TunnelEndForbidden ∷ refusal.OutputShort ∷ refusal.ReportMalformed ∷ refusal.QuoteNotOurs ∷ refusal.SizeUnusable ∷ refusal.SizeNotBelow ∷ refusal.AdvertisementInvalid ∷ refusal.AdvertiserNotListed ∷ refusal.NoRouterDue ∷ refusal.WrappedTooLong ∷ refusal.SolicitationInvalid ∷ refusal.AskerNotIsatap ∷ refusal.OptionsBad ∷ [])
-      ≡ 1 ∷ 2 ∷ 3 ∷ 4 ∷ 5 ∷ 6 ∷ 7 ∷ 8 ∷ 9 ∷ 10 ∷ 11 ∷ 12 ∷ 13 ∷ 15 ∷ 16 ∷ 17 ∷ 18 ∷ 19 ∷ 20 ∷ 21 ∷ 22 ∷ 23 ∷ 24 ∷ 25 ∷ 26 ∷ []
+  pub numbers : map numberOf (refusal.Settings ∷ refusal.OuterMalformed ∷ refusal.OuterChecksum ∷ refusal.OtherProtocol ∷ refusal.Piece ∷ refusal.NotForUs ∷ refusal.OuterSourceForbidden ∷ refusal.InnerMalformed ∷ refusal.InnerSourceBad ∷ refusal.OuterSourceWrong ∷ refusal.NoLocator ∷ refusal.NextHopNotIsatap ∷ refusal.TunnelEndForbidden ∷ refusal.OutputShort ∷ refusal.ReportMalformed ∷ refusal.QuoteNotOurs ∷ refusal.SizeUnusable ∷ refusal.SizeNotBelow ∷ refusal.AdvertisementInvalid ∷ refusal.AdvertiserNotListed ∷ refusal.NoRouterDue ∷ refusal.WrappedTooLong ∷ refusal.SolicitationInvalid ∷ refusal.AskerNotIsatap ∷ refusal.OptionsBad ∷ refusal.PieceWaits ∷ refusal.NoPlace ∷ refusal.PiecesDisagree ∷ refusal.PieceUnfit ∷ [])
+      ≡ 1 ∷ 2 ∷ 3 ∷ 4 ∷ 5 ∷ 6 ∷ 7 ∷ 8 ∷ 9 ∷ 10 ∷ 11 ∷ 12 ∷ 13 ∷ 15 ∷ 16 ∷ 17 ∷ 18 ∷ 19 ∷ 20 ∷ 21 ∷ 22 ∷ 23 ∷ 24 ∷ 25 ∷ 26 ∷ 27 ∷ 28 ∷ 29 ∷ 30 ∷ []
+  pub unit : (h : Held) (u : ℕ) → u < 256 → (getD (marksIn h) u false ≡ true) ↔ Holds h u
+  pub unitsBesides : (h : Held) (from n u : ℕ) → u < 256 → Holds (heldWith h from n) u ↔ (Holds h u ⊎ Among from n u)

@@ -18,15 +18,15 @@ use Rattle.node.specs.declared.Node.{Node}
 use Rattle.demands.specs.Calls.{NodeCall, receiving, sending, reporting, asking, outcomeOf, nodeAfter}
 
 -- our locator
-abbrev us : ℕ
+abbrev pub us : ℕ
 us = quadOf 10 0 0 1
 
 -- the neighbour
-abbrev neighbour : ℕ
+abbrev pub neighbour : ℕ
 neighbour = quadOf 10 0 0 2
 
 -- the settings of the program's example
-abbrev settings : Settings
+abbrev pub settings : Settings
 settings =
     defaultsFor (record { address = us; interface = 0 } ∷ replicate 7 noLocator) 1 (replicate 64 0) 0 (replicate 16 0) 0
 
@@ -48,13 +48,17 @@ abbrev offered : ℕ → NodeCall
 offered n = sending (packet n) (linkLocalOf neighbour) 0 0 (replicate 2000 0)
 
 -- an inner packet from the neighbour, whose source's identifier begins with a byte b
-abbrev inner : ℕ → List ℕ
+abbrev pub inner : ℕ → List ℕ
 inner b =
     0x60 ∷ 0 ∷ 0 ∷ 0 ∷ 0 ∷ 0 ∷ 59 ∷ 64 ∷ 0xFE ∷ 0x80 ∷ 0 ∷ 0 ∷ 0 ∷ 0 ∷ 0 ∷ 0 ∷ b ∷ 0 ∷ 0x5E ∷ 0xFE ∷ be32 neighbour (linkLocalOf us)
 
 -- the datagram of 60 bytes that wraps it
-abbrev datagram : ℕ → List ℕ
+abbrev pub datagram : ℕ → List ℕ
 datagram b = 0x45 ∷ 0x00 ∷ 0x00 ∷ 0x3C ∷ 0x00 ∷ 0x01 ∷ 0x00 ∷ 0x00 ∷ 0x40 ∷ 0x29 ∷ 0x66 ∷ 0x96 ∷ be32 neighbour (be32 us (inner b))
+
+-- the memory that receiving is lent
+abbrev pub memory : List ℕ
+memory = replicate 16384 0
 
 -- what is given back to the call after some others
 abbrev pub givenLast : Node → List NodeCall → NodeCall → Given
@@ -65,7 +69,7 @@ abbrev pub flagsLast : Node → List NodeCall → NodeCall → ℕ
 flagsLast n calls x = getD (outcomeOf (nodeAfter n calls) x .output) 6 0
 
 -- the node that these settings make
-abbrev node : Node
+abbrev pub node : Node
 node = setupOf settings .node
 
 -- 14, with the size it names; the message is of 1,280 bytes
@@ -109,6 +113,6 @@ pub record Starred : Type 0 where
   pub checksum : outerBytes 60 (record { identification = 1; «dont_fragment» = false; ttl = 64; protocol = 41; source = neighbour; destination = us })
       ≡ 0x45 ∷ 0x00 ∷ 0x00 ∷ 0x3C ∷ 0x00 ∷ 0x01 ∷ 0x00 ∷ 0x00 ∷ 0x40 ∷ 0x29 ∷ 0x66 ∷ 0x96 ∷ be32 neighbour (be32 us [])
   -- first identifier byte 02 admitted, 01 and 03 not
-  pub identifiers : (givenLast node [] (receiving (datagram 2) 0) ≡ answered (20 ∷ 40 ∷ []))
-      × (givenLast node [] (receiving (datagram 1) 0) ≡ refused OuterSourceWrong)
-      × (givenLast node [] (receiving (datagram 3) 0) ≡ refused OuterSourceWrong)
+  pub identifiers : (givenLast node [] (receiving (datagram 2) 0 0 memory) ≡ answered (0 ∷ 20 ∷ 40 ∷ []))
+      × (givenLast node [] (receiving (datagram 1) 0 0 memory) ≡ refused OuterSourceWrong)
+      × (givenLast node [] (receiving (datagram 3) 0 0 memory) ≡ refused OuterSourceWrong)

@@ -3,10 +3,16 @@
 use Prim.Native.Nat.{ℕ, _≤_, _<_, max}
 use mathlib.Core.Path.{_≡_}
 use mathlib.Core.List.{List, [], _∷_, _++_, List·Memᴰ}
-use lib.ListN.{length, getD, take}
+use lib.ListN.{length, getD, take, replicate}
 use Rattle.lists.specs.Any.{Some}
 use Rattle.refusals.specs.declared.Refusal.the-variants as refusal
 use Rattle.address.specs.Facts.{Within, formed, Multicast, Unspecified}
+use Rattle.pieces.specs.Places.{Part, noPlace}
+use Rattle.pieces.specs.Exactly.{PieceExactly}
+use Rattle.pieces.specs.History.{HistoryTells}
+use Rattle.pieces.specs.ByHistory.{HistoryExactly}
+use Rattle.pieces.specs.declared.Collection.{Collection}
+use Rattle.pieces.specs.declared.Key.{Key}
 use Rattle.paths.specs.Table.{held}
 use Rattle.routers.specs.Routers.{live, replacedOf}
 use Rattle.routers.specs.Facts.{Listed, noRouter}
@@ -19,6 +25,8 @@ use Rattle.settings.specs.declared.Settings.{Settings}
 use Rattle.reports.specs.Accepts.{ReportedExactly}
 use Rattle.sending.specs.Exactly.{SentExactly}
 use Rattle.receiving.specs.Admitted.{DeliveredExactly}
+use Rattle.receiving.specs.Collect.{collectedOf, collectedMemory}
+use Rattle.receiving.specs.CollectFacts.{CollectedExactly}
 use Rattle.receiving.specs.Receive.{receivedOf, partOf}
 use Rattle.asking.specs.Ask.{askedOf, askedOutput}
 use Rattle.asking.specs.Facts.{AskedExactly}
@@ -28,7 +36,7 @@ use Rattle.advertisements.specs.Fits.{AdvertisementFits}
 use Rattle.advertisements.specs.declared.Advertisement.{Advertisement}
 use Rattle.advertising.specs.Facts.{AdvertisedExactly}
 use Rattle.node.specs.Node.{setupOf, nodeWith, raisedTo, pathSizeAt}
-use Rattle.node.specs.Receive.{receiveOf, partIn}
+use Rattle.node.specs.Receive.{withPieces, receiveOf, receiveMemory, partIn}
 use Rattle.node.specs.Send.{pathSizeToward, withIdentification, sendOf, sendOutput}
 use Rattle.node.specs.Report.{pathsAfter, reportOf}
 use Rattle.node.specs.RouterList.{withRouters, replaceOf}
@@ -38,6 +46,7 @@ use Rattle.node.specs.Advertise.{advertiseOf, advertiseOutput}
 use Rattle.node.specs.declared.Node.{Node}
 use Rattle.node.specs.declared.SetupAnswer.the-variants as setup
 use Rattle.node.specs.declared.router_list.ListAnswer.the-variants as list
+use Rattle.demands.specs.Collecting.{CollectedByHistory}
 use Rattle.demands.specs.Readings.{Readings}
 
 -- no address stands twice
@@ -87,7 +96,7 @@ pub record RightSettings (s : Settings) : Type 0 where
   pub specified : Unspecified (s .reporting) → ⊥
 
 -- settings make a node exactly when they keep the rules; otherwise 1 is given. The node has them and the first identification, latest time 0, no
--- report, and each router due at 0
+-- report, nothing collected, and each router due at 0
 pub record Sets (s : Settings) : Type 0 where
   pub made : RightSettings s → setupOf s .answer ≡ setup.Made
   pub refused : (RightSettings s → ⊥) → setupOf s .answer ≡ setup.Refused refusal.Settings
@@ -95,6 +104,7 @@ pub record Sets (s : Settings) : Type 0 where
   pub identification : RightSettings s → setupOf s .node .service .identification ≡ s .identification
   pub latest : RightSettings s → setupOf s .node .latest ≡ 0
   pub noReport : RightSettings s → held (setupOf s .node .paths) ≡ []
+  pub noPiece : RightSettings s → setupOf s .node .service .pieces .places ≡ replicate 8 noPlace
   pub routers : RightSettings s → NewList 0 [] (s .routers) (s .«router_count») (setupOf s .node .service .routers)
 
 -- settings of which locators, prefixes and routers alone are named have L 1,500, TTL 64, interval 120, identification 1, and for a reporting
@@ -107,12 +117,23 @@ pub record Defaults (s : Settings) (first : Locator) : Type 0 where
   pub reporting : s .reporting ≡ formed (first .address)
 
 module _ (n : Node) where
-  -- a datagram is delivered exactly when the rules of 2 to 10 admit it, and then as the inner packet, unchanged; otherwise the first of the
-  -- numbers is given whose fact holds
-  pub record Receives (d : List ℕ) (interface : ℕ) : Type 0 where
-    pub number : receiveOf n d interface ≡ receivedOf (n .service .settings) (live (n .service .routers)) d interface
+  -- the part of a datagram is given exactly when the rules of 2 to 10 admit it by itself, and then it is the inner packet, unchanged
+  pub record GivesPart (d : List ℕ) (interface : ℕ) : Type 0 where
     pub part : partIn n d interface ≡ partOf (receivedOf (n .service .settings) (live (n .service .routers)) d interface) d
     pub exactly : DeliveredExactly (n .service .settings) (live (n .service .routers)) d interface
+
+  -- a whole datagram, and what a piece completes, is delivered exactly when the rules admit it; otherwise the first of the numbers is given
+  -- whose fact holds. Of the node no more than the latest time changes, and what is collected
+  pub record Receives (d : List ℕ) (interface time : ℕ) (memory : List ℕ) : Type 0 where
+    pub answer : receiveOf n d interface time memory .answer
+        ≡ collectedOf (n .service .settings) (live (n .service .routers)) (n .service .pieces) (max (n .latest) time) d interface memory .answer
+    pub node : receiveOf n d interface time memory .node
+        ≡ nodeWith n
+        (withPieces (n .service) (collectedOf (n .service .settings) (live (n .service .routers)) (n .service .pieces) (max (n .latest) time) d interface memory .pieces))
+        (n .paths) time
+    pub lent : receiveMemory n d interface time memory
+        ≡ collectedMemory (n .service .settings) (n .service .pieces) (max (n .latest) time) d interface memory
+    pub exactly : CollectedExactly (n .service .settings) (live (n .service .routers)) (n .service .pieces) (max (n .latest) time) d interface memory
 
   -- a packet is wrapped, answered by 14 or refused exactly when the rules say so of the path size in force toward the tunnel end, and those
   -- bytes are written; of the node no more than identification and latest time change
@@ -169,13 +190,22 @@ module _ (n : Node) where
 
   -- every call on the node
   pub record Exactly : Type 0 where
-    pub receives : (d : List ℕ) (interface : ℕ) → Receives d interface
+    pub givesPart : (d : List ℕ) (interface : ℕ) → GivesPart d interface
+    pub receives : (d : List ℕ) (interface time : ℕ) (memory : List ℕ) → Receives d interface time memory
     pub sends : (packet hop : List ℕ) (k time : ℕ) (out : List ℕ) → Sends packet hop k time out
     pub reports : (m : List ℕ) (time : ℕ) → Reports m time
     pub relists : (addresses : List ℕ) (count time : ℕ) → Relists addresses count time
     pub asks : (k time : ℕ) (out : List ℕ) → Asks k time out
     pub hears : (packet : List ℕ) (time : ℕ) → Hears packet time
     pub advertises : (packet : List ℕ) (k : ℕ) (a : Advertisement) (out : List ℕ) → Advertises packet k a out
+
+-- a piece gets its number exactly when the rules say so: of any collection as it stands, that it has 8 places being its type; and of any list of
+-- pieces that were handed in, by those of them that were taken. That list is what the calls on a node hand in
+pub record Collects : Type 0 where
+  pub exactly : (now : ℕ) (key : Key) (p : Part) (c : Collection) (memory : List ℕ) → length (c .places) ≡ 8 → PieceExactly now key p c memory
+  pub tells : HistoryTells
+  pub byHistory : HistoryExactly
+  pub handedIn : CollectedByHistory
 
 -- demand 2, of all settings and of every node
 pub record DemandTwo : Type 0 where
@@ -184,3 +214,4 @@ pub record DemandTwo : Type 0 where
       → Defaults (defaultsFor (first ∷ others) locators prefixes onLink routers listed) first
   pub sets : (s : Settings) → Sets s
   pub calls : (n : Node) → Exactly n
+  pub collects : Collects
