@@ -3,9 +3,10 @@ use Prim.Native.Nat.{ℕ, suc, zero, _+_, _*_, _/_, _%_, _^_, min}
 use mathlib.Core.List.{List}
 use lib.ListN.{length, take, drop}
 use Rattle.checksum.specs.Sum.{onesSumFrom}
-use Rattle.node.specs.Receive.{receiveOf}
+use Rattle.node.specs.Receive.{receiveOf, receiveMemory}
 use Rattle.node.specs.Send.{sendOf, sendOutput}
 use Rattle.node.specs.declared.Node.{Node}
+use Rattle.node.specs.declared.receive.Receipt.{Receipt}
 use Rattle.paths.specs.Kept.{inForce}
 use Rattle.paths.specs.Table.{keptIn}
 use Rattle.paths.specs.declared.PathTable.{PathTable}
@@ -30,6 +31,7 @@ added sum x = (sum + x) % 2 ^ 64
 -- the inner packet's length
 abbrev pub receivedWorth : Received → ℕ
 receivedWorth (received.Delivered offset length) = length
+receivedWorth (received.Joined offset length) = length
 receivedWorth (received.Refused r) = numberOf r
 
 -- the length written, or the size M of a Too Big
@@ -43,11 +45,27 @@ abbrev pub sumsFrom : ℕ → List ℕ → ℕ → ℕ → ℕ
 sumsFrom start all size zero = 0
 sumsFrom start all size (suc n) = added (sumsFrom start all size n) (onesSumFrom start (partAt all size n))
 
--- the datagrams of the first n turns, received on an interface
-abbrev pub receivedMany : Node → List ℕ → ℕ → ℕ → ℕ → ℕ
-receivedMany node all size interface zero = 0
-receivedMany node all size interface (suc n) =
-    added (receivedMany node all size interface n) (receivedWorth (receiveOf node (partAt all size n) interface))
+-- what turns of receiving leave: the node, the memory, and the sum of what they answer
+pub record Receiving : Type 0 where
+  pub node : Node
+  pub memory : List ℕ
+  pub sum : ℕ
+
+-- a datagram more, received on an interface at a time
+unfoldable pub receivedMore : Receiving → List ℕ → ℕ → ℕ → Receiving
+receivedMore before d interface time =
+    let receipt : Receipt = receiveOf (before .node) d interface time (before .memory) in
+    record {
+      node = receipt .node;
+      memory = receiveMemory (before .node) d interface time (before .memory);
+      sum = added (before .sum) (receivedWorth (receipt .answer));
+    }
+
+-- what the datagrams of the first n turns leave
+abbrev pub receivedMany : Node → List ℕ → ℕ → ℕ → ℕ → List ℕ → ℕ → Receiving
+receivedMany node all size interface time memory zero = record { node = node; memory = memory; sum = 0 }
+receivedMany node all size interface time memory (suc n) =
+    receivedMore (receivedMany node all size interface time memory n) (partAt all size n) interface time
 
 module _ (node : Node) (all : List ℕ) (size : ℕ) (hop : List ℕ) (k time : ℕ) where
   -- the node after n packets

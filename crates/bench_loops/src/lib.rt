@@ -31,6 +31,7 @@ fn received_worth(answer: Received) -> u64
 {
     match answer {
         Received::Delivered { offset: _, length } => length as u64,
+        Received::Joined { offset: _, length } => length as u64,
         Received::Refused(refusal) => refusal.number() as u64,
     }
 }
@@ -61,23 +62,29 @@ pub extern "C" fn bench_checksum(start: u32, bytes: &[u8], size: usize, count: u
     total
 }
 
-// uint64_t bench_receive(struct bogtrumpet_node n, const uint8_t *datagrams, size_t length, size_t size, uint8_t interface, uint32_t count);
-// Four datagrams of a size by turns: Node::receive.
+// uint64_t bench_receive(struct bogtrumpet_node n, const uint8_t *datagrams, size_t length, size_t size, uint8_t interface, uint32_t time, uint8_t *memory, size_t room, uint32_t count);
+// Four datagrams of a size by turns, all at one time: Node::receive. They may be whole, or the pieces of one.
 #[no_mangle]
 pub extern "C" fn bench_receive(
     n: Node,
     datagrams: &[u8],
     size: usize,
     interface: u8,
+    time: u32,
+    memory: &mut [u8],
     count: u32,
 ) -> u64
-    ensures { λ r. ⌜ r ≡ receivedMany n (now (datagrams .entry)) size interface count ⌝ }
+    ensures { λ r. ⌜ r ≡ receivedMany n (now (datagrams .entry)) size interface time (now (memory .entry)) count .sum ⌝ }
+    ensures { λ _. ⌜ now (memory .exit) ≡ receivedMany n (now (datagrams .entry)) size interface time (now (memory .entry)) count .memory ⌝ }
 {
+    let mut next = n;
     let mut sum: u64 = 0;
     let mut i: u32 = 0;
     while i < count {
-        let received = n.receive(part_at(datagrams, size, i), interface);
-        sum = std::num::wrapping_add_u64(sum, received_worth(received));
+        let receipt = next.receive(part_at(datagrams, size, i), interface, time, memory);
+        next = receipt.node;
+        let answer = receipt.answer;
+        sum = std::num::wrapping_add_u64(sum, received_worth(answer));
         i = i + 1;
     }
     sum

@@ -1,27 +1,29 @@
 -- Laws of the program: which text there is, one line after another, and what is given back. Assumes nothing.
-use Prim.Native.Nat.{ℕ, _≤_, _<_}
-use mathlib.Core.Path.{_≡_, refl, sym, ap, _∙_}
+use Prim.Native.Nat.{ℕ, suc, _+_, _-_, _≤_, _<_}
+use mathlib.Core.Path.{_≡_, refl, sym, _∙_}
 use mathlib.Core.Bool.{Bool, true, false, cond}
-use mathlib.Core.List.{List}
+use mathlib.Core.List.{List, _∷_}
 use native.Mathlib.Omega.{arith}
 use native.Mathlib.Nat.{zero-add}
+use native.Mathlib.Numerals.{add-one}
 use borrow.Author.Tests.{lt-ltb, le-ltb}
 use lib.Dec.{ltb}
-use lib.ListN.{length, getD, length-append, List·getD-map}
-use lib.Seq.{take-append-seam}
+use lib.ListN.{length, getD, drop, length-append}
+use lib.Seq.{drop-cons, take-append-seam}
 use Rattle.lent.specs.Written.{written}
 use Rattle.lent.proofs.Laws.{writtenAt-first}
 use Rattle.program.proofs.TextLaws.{Wrote, behind-fits}
 use Rattle.settings.specs.Settings.{isAccepted}
 use Rattle.node.specs.Node.{setupOf}
 use Rattle.node.specs.declared.Node.{Node}
+use Rattle.node.specs.declared.receive.Receipt.{Receipt}
 use Rattle.input.specs.Section.{countOf}
 use Rattle.input.specs.Input.{settingsOf, isWellFormed}
-use Rattle.input.specs.Recording.{Datagram, interfaceOf, bytesOf, datagramsOf}
-use Rattle.input.proofs.Laws.{Walked, walked-datagram}
+use Rattle.input.specs.Recording.{Datagram, interfaceOf, bytesOf, behindDatagram, firstDatagram, datagramsFrom, datagramsOf}
+use Rattle.program.specs.declared.lines.Line.{Line}
 use Rattle.program.specs.Lines.{badInput}
-use Rattle.program.specs.Program.{lineOn, lineFor, linesOf, takenText, textFor, outputRoom, IsFront, countGiven, bytesLeft}
-use Rattle.program.proofs.Lengths.{text-short}
+use Rattle.program.specs.Program.{lineWith, receiptOf, memoryAfter, linesFor, linesOf, takenText, textFor, outputRoom, IsFront, countGiven, bytesLeft}
+use Rattle.program.proofs.Lengths.{many-lines, text-short}
 
 -- refused settings, and an input that is not well-formed, get the one line
 pub text-refused : (s : List ℕ) → isAccepted (settingsOf s) ≡ false → textFor s ≡ badInput
@@ -36,12 +38,38 @@ pub text-malformed : (s : List ℕ) → isWellFormed s ≡ false → textFor s �
 unfolding textFor
 text-malformed s h = rw h
 
--- the line of the datagram to which a walk has come
-pub line-at : (node : Node) (r rest : List ℕ) (k : ℕ) (none : Datagram) → k < countOf r → Walked r k rest
-    → lineOn node (interfaceOf rest) (bytesOf rest) ≡ getD (linesOf node r) k (lineFor node none)
-unfolding linesOf
-line-at node r rest k none h w =
-    sym (List·getD-map (lineFor node) (datagramsOf r) k none ∙ ap (lineFor node) (walked-datagram r rest k none h w))
+-- a walk has come to the datagram of number k, counted from 0: the lines that are left are those of the datagrams that start with
+-- rest, on the node and with the memory that the ones before leave
+abbrev pub Walked : Node → List ℕ → List ℕ → ℕ → Node → List ℕ → List ℕ → Type 0
+Walked node₀ memory₀ r k node memory rest = drop k (linesOf node₀ memory₀ r) ≡ linesFor node memory (datagramsFrom (countOf r - k) rest)
+
+pub walked-first : (node : Node) (memory r : List ℕ) → Walked node memory r 0 node memory (firstDatagram r)
+unfolding linesOf datagramsOf
+walked-first node memory r = let e : countOf r - 0 ≡ countOf r = omega arith in rw e
+
+-- the datagram at the start of rest
+abbrev pub datagramAt : List ℕ → Datagram
+datagramAt rest = record { interface = interfaceOf rest; bytes = bytesOf rest }
+
+module _ (node₀ : Node) (memory₀ r : List ℕ) (k : ℕ) (none : Line) (h : k < countOf r) (node : Node) (memory rest : List ℕ) (w : Walked node₀ memory₀ r k node memory rest) where
+  abbrev ls : List Line
+  ls = linesOf node₀ memory₀ r
+
+  abbrev receipt : Receipt
+  receipt = receiptOf node memory (datagramAt rest)
+
+  walked-both : getD ls k none ∷ drop (suc k) ls
+      ≡ lineWith (receipt .answer) ∷ linesFor (receipt .node) (memoryAfter node memory (datagramAt rest)) (datagramsFrom (countOf r - (k + 1)) (behindDatagram rest))
+  walked-both =
+      let e : countOf r - k ≡ suc (countOf r - (k + 1)) = omega arith in
+      sym (drop-cons ls k none (omega (arith, many-lines node₀ memory₀ r))) ∙ w ∙ rw e
+
+  -- its line, and then the next one
+  pub walked-line : lineWith (receipt .answer) ≡ getD ls k none
+  walked-line = cc walked-both
+
+  pub walked-next : Walked node₀ memory₀ r (k + 1) (receipt .node) (memoryAfter node memory (datagramAt rest)) (behindDatagram rest)
+  walked-next = let d : drop (k + 1) ls ≡ drop (suc k) ls = rw add-one in cc walked-both
 
 -- what is given back is the length of a front of the lent bytes
 pub given-front : (s d : List ℕ) → IsFront (countGiven s d) (bytesLeft s d)

@@ -1,5 +1,5 @@
 -- Laws of the output: one line more, and how long it is. Assumes nothing.
-use Prim.Native.Nat.{ℕ, zero, suc, _+_, _*_, _≤_, _<_, _^_}
+use Prim.Native.Nat.{ℕ, zero, suc, _+_, _≤_, _<_, _^_}
 use mathlib.Core.Path.{_≡_, _∙_}
 use mathlib.Core.List.{List, [], _∷_, _++_, append-assoc, append-nil}
 use native.Mathlib.Omega.{arith}
@@ -9,7 +9,11 @@ use lib.Seq.{take-suc, take-length}
 use Rattle.program.proofs.TextLaws.{Wrote, wrote-none, wrote-more, decimal-short, length-decimal}
 use Rattle.program.specs.declared.lines.Line.{Line}
 use Rattle.program.specs.declared.lines.Line.the-variants.{Deliver, Refuse}
-use Rattle.program.specs.Lines.{longestLine, datagramsWord, deliverWord, refuseWord, entryOf, countLine, lineOf, linesFrom, linesTo, textOf, valueOf, Below}
+use Rattle.program.specs.Lines.{longestLine, datagramsWord, deliverWord, refuseWord, entryOf, countLine, lineOf, linesFrom}
+
+-- the lines of the first i datagrams, counted from 1
+unfoldable pub linesTo : ℕ → List Line → List ℕ
+linesTo i ls = linesFrom 1 (take i ls)
 
 lines-last : (k : ℕ) (xs : List Line) (l : Line) → linesFrom k (xs ++ (l ∷ [])) ≡ linesFrom k xs ++ lineOf (k + length xs) l
 unfolding linesFrom
@@ -39,9 +43,20 @@ lines-turn ls i l none at d h k f w v =
     let g = rw t at f in
     rw t (wrote-more at (linesTo i ls) (lineOf (i + 1) l) d g w v)
 
-pub lines-all : (ls : List Line) → textOf ls ≡ countLine (length ls) ++ linesTo (length ls) ls
-unfolding linesTo textOf
-lines-all ls = rw take-length
+pub lines-end : (ls : List Line) → linesTo (length ls) ls ≡ linesFrom 1 ls
+unfolding linesTo
+lines-end ls = rw take-length
+
+front-short : (k : ℕ) (ls : List Line) (i : ℕ) → length (linesFrom k (take i ls)) ≤ length (linesFrom k ls)
+unfolding linesFrom
+front-short k ls zero = omega arith
+front-short k [] (suc i) = omega arith
+front-short k (l ∷ ls) (suc i) = simp length-append (omega (arith, front-short (suc k) ls i))
+
+-- the first lines are no longer than all of them
+pub lines-front : (ls : List Line) (i : ℕ) → length (linesTo i ls) ≤ length (linesFrom 1 ls)
+unfolding linesTo
+lines-front ls i = front-short 1 ls i
 
 -- no entry and no line is longer than with numbers of 20 digits
 pub entry-short : (w : List ℕ) (n : ℕ) → length (entryOf w n) ≤ length w + 21
@@ -53,7 +68,7 @@ unfolding lineOf
 line-short k (Deliver n) = simp length-append (omega (arith, decimal-short k, entry-short deliverWord n))
 line-short k (Refuse n) = simp length-append (omega (arith, decimal-short k, entry-short refuseWord n))
 
-pub length-entry : (w : List ℕ) (n j : ℕ) → n < 10 ^ suc j → length (entryOf w n) ≤ length w + j + 2
+length-entry : (w : List ℕ) (n j : ℕ) → n < 10 ^ suc j → length (entryOf w n) ≤ length w + j + 2
 unfolding entryOf
 length-entry w n j h = simp length-append (omega (arith, length-decimal n j h))
 
@@ -61,23 +76,12 @@ pub length-count : (n j : ℕ) → n < 10 ^ suc j → length (countLine n) ≤ j
 unfolding countLine
 length-count n j h = omega (arith, length-entry datagramsWord n j h)
 
-pub length-line : (k : ℕ) (l : Line) (i j : ℕ) → k < 10 ^ suc i → valueOf l < 10 ^ suc j → length (lineOf k l) ≤ i + j + 12
+-- with five digits for the datagram's number a line has at most 35 bytes, and at most 16 where it refuses with a number of two digits
+pub length-line : (k : ℕ) (l : Line) → k < 100000 → length (lineOf k l) ≤ 35
 unfolding lineOf
-length-line k (Deliver n) i j h g = simp length-append (omega (arith, length-decimal k i h, length-entry deliverWord n j g))
-length-line k (Refuse n) i j h g = simp length-append (omega (arith, length-decimal k i h, length-entry refuseWord n j g))
+length-line k (Deliver n) h = simp length-append (omega (arith, length-decimal k 4 h, entry-short deliverWord n))
+length-line k (Refuse n) h = simp length-append (omega (arith, length-decimal k 4 h, entry-short refuseWord n))
 
-lines-short : (k : ℕ) (ls : List Line) (i : ℕ) → k + length ls ≤ 100000 → Below 4 ls → length (linesFrom k (take i ls)) ≤ 20 * i
-unfolding linesFrom
-lines-short k ls zero h b = omega arith
-lines-short k [] (suc i) h b = omega arith
-lines-short k (l ∷ ls) (suc i) h b =
-    simp length-append (omega (arith, length-line k l 4 4 (omega arith) (b .0), lines-short (suc k) ls i (omega arith) (b .1)))
-
--- with five digits for each number no line is longer than 20 bytes, and the first line no longer than 16
-pub length-lines : (ls : List Line) (i : ℕ) → length ls < 100000 → Below 4 ls → length (linesTo i ls) ≤ 20 * i
-unfolding linesTo
-length-lines ls i h b = lines-short 1 ls i (omega arith) b
-
-pub length-text : (ls : List Line) → length ls < 100000 → Below 4 ls → length (textOf ls) ≤ 16 + 20 * length ls
-length-text ls h b =
-    rw (lines-all ls, length-append) (omega (arith, length-count (length ls) 4 (omega arith), length-lines ls (length ls) h b))
+pub length-refusal : (k n : ℕ) → k < 100000 → n < 100 → length (lineOf k (Refuse n)) ≤ 16
+unfolding lineOf
+length-refusal k n h g = simp length-append (omega (arith, length-decimal k 4 h, length-entry refuseWord n 1 g))

@@ -1,7 +1,7 @@
 -- The program's output (R17.4), from what it says of each datagram.
-use Prim.Native.Nat.{ℕ, suc, _<_, _^_}
+use Prim.Native.Nat.{ℕ, suc}
 use mathlib.Core.List.{List, [], _∷_, _++_}
-use lib.ListN.{length, take}
+use lib.ListN.{length}
 use Rattle.program.specs.Text.{decimal}
 use Rattle.program.specs.declared.lines.Line.{Line}
 use Rattle.program.specs.declared.lines.Line.the-variants.{Deliver, Refuse}
@@ -44,20 +44,6 @@ unfoldable pub linesFrom : ℕ → List Line → List ℕ
 linesFrom k [] = []
 linesFrom k (l ∷ ls) = lineOf k l ++ linesFrom (suc k) ls
 
--- the lines of the first i datagrams, counted from 1
-unfoldable pub linesTo : ℕ → List Line → List ℕ
-linesTo i ls = linesFrom 1 (take i ls)
-
 -- the whole output
 unfoldable pub textOf : List Line → List ℕ
 textOf ls = countLine (length ls) ++ linesFrom 1 ls
-
--- the number that ends a line
-abbrev pub valueOf : Line → ℕ
-valueOf (Deliver n) = n
-valueOf (Refuse n) = n
-
--- each line's number has at most j + 1 digits
-abbrev pub Below : ℕ → List Line → Type 0
-Below j [] = Unit
-Below j (l ∷ ls) = (valueOf l < 10 ^ suc j) × Below j ls

@@ -2,45 +2,57 @@
 use Prim.Native.Nat.{ℕ, _+_, _*_, _≤_}
 use mathlib.Core.Path.{_≡_}
 use mathlib.Core.Bool.{cond}
-use mathlib.Core.List.{List, map}
+use mathlib.Core.List.{List, [], _∷_}
 use lib.Dec.{ltb}
-use lib.ListN.{length, take}
+use lib.ListN.{length, take, replicate}
 use Rattle.lent.specs.Written.{written}
 use Rattle.refusals.specs.Refusals.{numberOf}
+use Rattle.pieces.specs.Places.{memoryRoom}
 use Rattle.receiving.specs.declared.Received.{Received}
-use Rattle.receiving.specs.declared.Received.the-variants.{Delivered, Refused}
+use Rattle.receiving.specs.declared.Received.the-variants.{Delivered, Joined, Refused}
 use Rattle.node.specs.Node.{setupOf}
-use Rattle.node.specs.Receive.{receiveOf, partIn}
+use Rattle.node.specs.Receive.{receiveOf, receiveMemory}
 use Rattle.node.specs.declared.Node.{Node}
+use Rattle.node.specs.declared.receive.Receipt.{Receipt}
 use Rattle.node.specs.declared.SetupAnswer.{SetupAnswer}
 use Rattle.node.specs.declared.SetupAnswer.the-variants as setup
-use Rattle.input.specs.Section.{countOf}
 use Rattle.input.specs.Input.{behindSettings, settingsOf, inputLimit, isWellFormed}
 use Rattle.input.specs.Recording.{Datagram, datagramsOf}
 use Rattle.program.specs.declared.lines.Line.{Line}
 use Rattle.program.specs.declared.lines.Line.the-variants.{Deliver, Refuse}
-use Rattle.program.specs.Lines.{badInput, textOf, Below}
+use Rattle.program.specs.Lines.{badInput, textOf}
 
--- `deliver` with the length n of the part that receiving hands back, or `refuse` with the number
-abbrev pub lineWith : Received → ℕ → Line
-lineWith (Delivered offset size) n = Deliver n
-lineWith (Refused refusal) n = Refuse (numberOf refusal)
+-- R17.4: `deliver` with the length of the inner packet, be it in the datagram or in the memory, or `refuse` with the number
+abbrev pub lineWith : Received → Line
+lineWith (Delivered offset size) = Deliver size
+lineWith (Joined offset size) = Deliver size
+lineWith (Refused refusal) = Refuse (numberOf refusal)
 
--- both calls of receiving, on the datagram d that arrived on an interface
-unfoldable pub lineOn : Node → ℕ → List ℕ → Line
-lineOn node interface d = lineWith (receiveOf node d interface) (length (partIn node d interface))
+-- R17.3: a datagram comes at time 0, on this node and with this memory
+unfoldable pub receiptOf : Node → List ℕ → Datagram → Receipt
+receiptOf node memory d = receiveOf node (d .bytes) (d .interface) 0 memory
 
--- the line of a datagram of a section
-abbrev pub lineFor : Node → Datagram → Line
-lineFor node d = lineOn node (d .interface) (d .bytes)
+-- what then stands in the memory
+unfoldable pub memoryAfter : Node → List ℕ → Datagram → List ℕ
+memoryAfter node memory d = receiveMemory node (d .bytes) (d .interface) 0 memory
 
--- a line for each datagram of a section, in its order
-unfoldable pub linesOf : Node → List ℕ → List Line
-linesOf node r = map (lineFor node) (datagramsOf r)
+-- R17.4: a line for each datagram in its order; the node and the memory that one leaves are handed on to the next
+abbrev pub linesFor : Node → List ℕ → List Datagram → List Line
+linesFor node memory [] = []
+linesFor node memory (d ∷ ds) =
+    lineWith (receiptOf node memory d .answer) ∷ linesFor (receiptOf node memory d .node) (memoryAfter node memory d) ds
+
+-- a line for each datagram of a section
+unfoldable pub linesOf : Node → List ℕ → List ℕ → List Line
+linesOf node memory r = linesFor node memory (datagramsOf r)
+
+-- R17.3: the program's own memory, before the first datagram
+unfoldable pub ownMemory : List ℕ
+ownMemory = replicate memoryRoom 0
 
 -- on a node that the settings make, `datagrams N` and the lines; `bad input` where they are refused
 abbrev pub setupText : SetupAnswer → Node → List ℕ → List ℕ
-setupText setup.Made node r = textOf (linesOf node r)
+setupText setup.Made node r = textOf (linesOf node ownMemory r)
 setupText (setup.Refused refusal) node r = badInput
 
 -- the output for a well-formed input
@@ -55,9 +67,9 @@ textFor s = cond (isWellFormed s) (takenText s) badInput
 abbrev pub inputRoom : ℕ
 inputRoom = inputLimit + 1
 
--- room for any output: a first line of 16 bytes, and 20 for each of at most 21,844 datagrams
+-- room for any output: a first line of 16 bytes, and 16 for each three bytes of the input
 abbrev pub outputRoom : ℕ
-outputRoom = 16 + 20 * 21844
+outputRoom = 16 + 16 * 21845
 
 -- what is given back: the text's length, or 0 with less room than for any output
 unfoldable pub countGiven : List ℕ → List ℕ → ℕ
@@ -70,7 +82,3 @@ bytesLeft s d = cond (ltb (length d) outputRoom) d (written (textFor s) d)
 -- n bytes stand at the front of d: this follows from the two above, and lets a caller take them
 abbrev pub IsFront : ℕ → List ℕ → Type 0
 IsFront n d = (n ≤ length d) × (n ≡ length (take n d))
-
--- a section of datagrams that stands in a well-formed input: few datagrams, and no number of more than five digits
-abbrev pub Short : Node → List ℕ → Type 0
-Short node r = (2 + 3 * countOf r ≤ inputLimit) × Below 4 (linesOf node r)

@@ -8,21 +8,20 @@ use node::Node;
 use node::SetupAnswer;
 use receiving::Received;
 ghost use mathlib.Core.Path.{_≡_};
-ghost use Prim.Native.Nat.{_+_, _*_, _≤_, _<_};
+ghost use Prim.Native.Nat.{_+_, _≤_};
 ghost use lib.ListN.{length, replicate};
 ghost use Rattle.lent.specs.Written.{writtenAt};
 ghost use Rattle.program.specs.Text.{behind};
-ghost use mathlib.Core.Bool.{true};
-ghost use Rattle.input.specs.Section.{countOf};
-ghost use Rattle.input.specs.Input.{isWellFormed};
-ghost use Rattle.program.specs.Lines.{linesTo, textOf, Below};
-ghost use Rattle.program.specs.Program.{inputRoom, outputRoom, IsFront, lineOn, linesOf, takenText, countGiven, bytesLeft, Short};
+ghost use Rattle.pieces.specs.Places.{memoryRoom};
+ghost use Rattle.program.specs.Lines.{linesFrom, textOf};
+ghost use Rattle.program.specs.Program.{inputRoom, outputRoom, IsFront, lineWith, linesOf, ownMemory, takenText, countGiven, bytesLeft};
 
 // Room for any input, and for one byte more, so that a longer input is seen.
 pub const INPUT_ROOM: usize = input::LIMIT + 1;
 
-// Room for any output: a first line of 16 bytes, and 20 for each of at most 21,844 datagrams.
-pub const OUTPUT_ROOM: usize = 16 + 20 * 21844;
+// Room for any output: a first line of 16 bytes, and 16 for each three bytes of the input. A datagram without a byte takes those three,
+// and is refused in so short a line; one that is delivered takes more.
+pub const OUTPUT_ROOM: usize = 16 + 16 * (input::LIMIT / 3);
 
 // Zeros for an input to be read over.
 pub fn input_room() -> [u8; INPUT_ROOM]
@@ -40,35 +39,47 @@ pub fn output_room() -> [u8; OUTPUT_ROOM]
     [0; OUTPUT_ROOM]
 }
 
-// What the program says of a datagram that arrived on an interface.
-fn line_on(node: Node, d: &[u8], interface: u8) -> Line
-    ensures { λ r. ⌜ r ≡ lineOn node interface (now (d .entry)) ⌝ }
+// The program's own memory for what is collected.
+fn own_memory() -> [u8; pieces::MEMORY]
+    ensures { λ r. ⌜ r ≡ ownMemory ⌝ }
+    ensures { λ r. ⌜ memoryRoom ≡ length r ⌝ }
 {
-    let received = node.receive(d, interface);
-    let part = receiving::part(d, received);
-    match received {
-        Received::Delivered {
-            offset: _,
-            length: _,
-        } => Line::Deliver(part.len()),
+    [0; pieces::MEMORY]
+}
+
+// What the program says of a datagram.
+fn line_with(answer: Received) -> Line
+    ensures { λ r. ⌜ r ≡ lineWith answer ⌝ }
+{
+    match answer {
+        Received::Delivered { offset: _, length } => Line::Deliver(length),
+        Received::Joined { offset: _, length } => Line::Deliver(length),
         Received::Refused(refusal) => Line::Refuse(refusal.number()),
     }
 }
 
-// Writes a line for each datagram of a section.
-fn put_lines(node: Node, r: &[u8], out: &mut [u8], from: usize) -> usize
-    requires { ⌜ (countOf (now r) < 100000) × Below 4 (linesOf node (now r)) × (from + 20 * countOf (now r) ≤ length (now out)) ⌝ }
-    ensures { λ e. ⌜ e ≡ behind from (linesTo (countOf (now (r .entry))) (linesOf node (now (r .entry)))) (now (out .entry)) ⌝ }
-    ensures { λ _. ⌜ now (out .exit) ≡ writtenAt from (linesTo (countOf (now (r .entry))) (linesOf node (now (r .entry)))) (now (out .entry)) ⌝ }
+// Writes a line for each datagram of a section. Node and memory are handed on from one to the next.
+fn put_lines(node: Node, r: &[u8], memory: &mut [u8], out: &mut [u8], from: usize) -> usize
+    requires { ⌜ from + length (linesFrom 1 (linesOf node (now memory) (now r))) ≤ length (now out) ⌝ }
+    ensures { λ e. ⌜ e ≡ behind from (linesFrom 1 (linesOf node (now (memory .entry)) (now (r .entry)))) (now (out .entry)) ⌝ }
+    ensures { λ _. ⌜ now (out .exit) ≡ writtenAt from (linesFrom 1 (linesOf node (now (memory .entry)) (now (r .entry)))) (now (out .entry)) ⌝ }
 {
     let n = recording::count(r);
+    let mut next = node;
     let mut at = from;
     let mut rest = recording::first(r);
     let mut k: usize = 0;
     while k < n {
-        let line = line_on(node, recording::datagram(rest), recording::interface(rest));
+        let receipt = next.receive(
+            recording::datagram(rest),
+            recording::interface(rest),
+            0,
+            memory,
+        );
+        next = receipt.node;
+        let answer = receipt.answer;
         k += 1;
-        at = lines::put_line(k, line, out, at);
+        at = lines::put_line(k, line_with(answer), out, at);
         let after = recording::next(rest);
         rest = after;
     }
@@ -77,17 +88,18 @@ fn put_lines(node: Node, r: &[u8], out: &mut [u8], from: usize) -> usize
 
 // Writes the whole output for a section of datagrams.
 fn put_text(node: Node, r: &[u8], out: &mut [u8]) -> usize
-    requires { ⌜ Short node (now r) × (outputRoom ≤ length (now out)) ⌝ }
-    ensures { λ e. ⌜ e ≡ behind 0 (textOf (linesOf node (now (r .entry)))) (now (out .entry)) ⌝ }
-    ensures { λ _. ⌜ now (out .exit) ≡ writtenAt 0 (textOf (linesOf node (now (r .entry)))) (now (out .entry)) ⌝ }
+    requires { ⌜ length (textOf (linesOf node ownMemory (now r))) ≤ length (now out) ⌝ }
+    ensures { λ e. ⌜ e ≡ behind 0 (textOf (linesOf node ownMemory (now (r .entry)))) (now (out .entry)) ⌝ }
+    ensures { λ _. ⌜ now (out .exit) ≡ writtenAt 0 (textOf (linesOf node ownMemory (now (r .entry)))) (now (out .entry)) ⌝ }
 {
+    let mut memory = own_memory();
     let at = lines::put_count(recording::count(r), out, 0);
-    put_lines(node, r, out, at)
+    put_lines(node, r, &mut memory, out, at)
 }
 
 // Writes the output for a well-formed input.
 fn put_taken(s: &[u8], out: &mut [u8]) -> usize
-    requires { ⌜ (isWellFormed (now s) ≡ true) × (outputRoom ≤ length (now out)) ⌝ }
+    requires { ⌜ length (takenText (now s)) ≤ length (now out) ⌝ }
     ensures { λ r. ⌜ r ≡ behind 0 (takenText (now (s .entry))) (now (out .entry)) ⌝ }
     ensures { λ _. ⌜ now (out .exit) ≡ writtenAt 0 (takenText (now (s .entry))) (now (out .entry)) ⌝ }
 {

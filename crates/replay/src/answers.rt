@@ -1,20 +1,38 @@
 // The line of each answer.
 use crate::line::Line;
+use crate::outputs;
 use asking::AskAnswer;
+use header::fields;
 use header::wrap::Written;
 use hearing::HeardAnswer;
+use input::section;
 use node::router_list::ListAnswer;
 use receiving::Received;
 use reports::ReportAnswer;
 use sending::SendAnswer;
 
-pub(crate) fn receive(answer: Received) -> Line {
+// What is joined stands in the memory that was lent.
+pub(crate) fn receive(answer: Received, memory: &[u8]) -> Line {
     match answer {
         Received::Delivered { offset, length } => Line::new(b"receive deliver")
             .number(offset as u64)
             .number(length as u64),
+        Received::Joined { offset, length } => Line::new(b"receive joined")
+            .number(offset as u64)
+            .number(length as u64)
+            .digest(outputs::digest(section::front(fields::tail(memory, offset), length))),
         Received::Refused(refusal) => Line::new(b"receive refuse").refusal(refusal),
     }
+}
+
+pub(crate) fn memory(memory: &[u8]) -> Line {
+    Line::new(b"memory").digest(outputs::digest(memory))
+}
+
+pub(crate) fn part(part: &[u8]) -> Line {
+    Line::new(b"part")
+        .number(part.len() as u64)
+        .digest(outputs::digest(part))
 }
 
 pub(crate) fn send(answer: SendAnswer, digest: u32) -> Line {

@@ -30,12 +30,14 @@ pub(crate) fn advertises(c: &[u8]) -> bool {
 pub(crate) fn size_of(c: &[u8]) -> usize {
     let kind = fields::byte(c, 0);
     match kind {
-        1 => 4 + fields::word(c, 2) as usize,
+        1 => 10 + fields::word(c, 8) as usize,
         2 => 26 + fields::word(c, 24) as usize,
         3 | 6 => 7 + fields::word(c, 5) as usize,
         4 => 7 + 4 * fields::word(c, 5) as usize,
         5 => 8,
         7 => 5,
+        9 => 1,
+        10 => 4 + fields::word(c, 2) as usize,
         _ => 0,
     }
 }
@@ -59,15 +61,17 @@ pub(crate) fn behind(size: usize, at: usize, end: usize) -> usize {
     at + size
 }
 
-// Makes the call. An output is lent from the space.
-pub(crate) fn make(node: Node, c: &[u8], space: &mut [u8]) -> Made {
+// Makes the call. An output is lent from the space, and what is collected stands in the memory.
+pub(crate) fn make(node: Node, c: &[u8], space: &mut [u8], memory: &mut [u8]) -> Made {
     let kind = fields::byte(c, 0);
     match kind {
-        1 => receive(node, c),
+        1 => receive(node, c, memory),
         3 => report(node, c),
         4 => routers(node, c),
         2 | 5 => writing(node, c, space),
         6 => advertisement(node, c),
+        9 => whole_memory(node, memory),
+        10 => part(node, c),
         _ => size(node, c),
     }
 }
@@ -78,9 +82,33 @@ fn counted(c: &[u8], k: u8) -> &[u8] {
     section::front(fields::tail(c, at + 2), fields::word(c, at) as usize)
 }
 
-fn receive(node: Node, c: &[u8]) -> Made {
-    let received = node.receive(counted(c, 2), fields::byte(c, 1));
-    let line = answers::receive(received);
+// Of the memory as many bytes are lent as the call says.
+fn receive(node: Node, c: &[u8], memory: &mut [u8]) -> Made {
+    let room = lists::least(fields::word(c, 6) as usize, memory.len());
+    receive_with(node, c, &mut memory[..room])
+}
+
+fn receive_with(node: Node, c: &[u8], memory: &mut [u8]) -> Made {
+    let received = node.receive(
+        counted(c, 8),
+        fields::byte(c, 1),
+        fields::quad(c, 2),
+        memory,
+    );
+    let answer = received.answer;
+    let line = answers::receive(answer, memory);
+    let next = received.node;
+    Made { line, node: next }
+}
+
+// No call of the node: all of the memory as it stands.
+fn whole_memory(node: Node, memory: &[u8]) -> Made {
+    let line = answers::memory(memory);
+    Made { line, node }
+}
+
+fn part(node: Node, c: &[u8]) -> Made {
+    let line = answers::part(node.received_part(counted(c, 2), fields::byte(c, 1)));
     Made { line, node }
 }
 

@@ -17,8 +17,11 @@ use start::Start;
 ghost use mathlib.Core.Path.{_≡_};
 ghost use lib.ListN.{length};
 
-// The part of the input that is held at a time: twice the longest call.
-const WINDOW: usize = 131072;
+// The part of the input that is held at a time: the longest call, and so much more that it is not read again for each short one.
+const WINDOW: usize = calls::LONGEST + 8192;
+
+// The memory for what is collected.
+const MEMORY: usize = 65535;
 
 fn main() {
     let spool = spool::input();
@@ -33,9 +36,15 @@ fn main() {
 }
 
 fn window() -> [u8; WINDOW]
-    ensures { λ r. ⌜ 131072 ≡ length r ⌝ }
+    ensures { λ r. ⌜ 73753 ≡ length r ⌝ }
 {
     [0; WINDOW]
+}
+
+fn memory() -> [u8; MEMORY]
+    ensures { λ r. ⌜ 65535 ≡ length r ⌝ }
+{
+    [outputs::BLANK; MEMORY]
 }
 
 // Reads all calls through, and then makes them.
@@ -45,9 +54,10 @@ fn run(spool: Spool, start: Start) {
     let node = setup.node;
     let mut window = window();
     let mut out = io::large_buffer();
+    let mut memory = memory();
     let mut lines = io::buffer();
     let first = walk::start(node, false, start.calls);
-    let read = walk::through(first, spool, &mut window, &mut out, &mut lines);
+    let read = walk::through(first, spool, &mut window, &mut out, &mut memory, &mut lines);
     if read.failed {
         return;
     }
@@ -59,7 +69,14 @@ fn run(spool: Spool, start: Start) {
     match answer {
         SetupAnswer::Made => {
             let second = walk::start(node, true, start.calls);
-            walk::through(second, spool, &mut window, &mut out, &mut lines);
+            walk::through(
+                second,
+                spool,
+                &mut window,
+                &mut out,
+                &mut memory,
+                &mut lines,
+            );
         }
         SetupAnswer::Refused(refusal) => {
             refused(Line::new(b"settings refuse").refusal(refusal).ended());

@@ -1,7 +1,7 @@
-// The output that is lent to a call: what it holds before, and the digest of what it holds after.
+// The output that is lent to a call, and the memory of all calls: what they hold before, and the digest of what they hold after.
 
-// What each byte holds before a call.
-const BLANK: u8 = 165;
+// What each byte of an output holds before a call, and of the memory before the first one.
+pub(crate) const BLANK: u8 = 165;
 
 // The numbers of the 32-bit FNV-1a hash.
 const OFFSET_BASIS: u32 = 2166136261;

@@ -47,11 +47,12 @@ pub(crate) fn through(
     spool: Spool,
     window: &mut [u8],
     out: &mut [u8],
+    memory: &mut [u8],
     lines: &mut [u8],
 ) -> Walk {
     let mut walk = start;
     while walk.at < spool.size {
-        let next = walk.turn(spool, window, out, lines);
+        let next = walk.turn(spool, window, out, memory, lines);
         if next.at <= walk.at {
             return next;
         }
@@ -80,16 +81,30 @@ impl Walk {
     }
 
     // Past the next call.
-    fn turn(self, spool: Spool, window: &mut [u8], out: &mut [u8], lines: &mut [u8]) -> Walk {
+    fn turn(
+        self,
+        spool: Spool,
+        window: &mut [u8],
+        out: &mut [u8],
+        memory: &mut [u8],
+        lines: &mut [u8],
+    ) -> Walk {
         let walk = self.filled(self.at, spool, window);
         if calls::advertises(walk.ahead(walk.at, window)) {
             return walk.past_lists(spool, window, out, lines);
         }
-        walk.past(spool.size, window, out, lines)
+        walk.past(spool.size, window, out, memory, lines)
     }
 
     // Past the call that the window holds, of an input of so many bytes.
-    fn past(mut self, size: usize, window: &[u8], out: &mut [u8], lines: &mut [u8]) -> Walk {
+    fn past(
+        mut self,
+        size: usize,
+        window: &[u8],
+        out: &mut [u8],
+        memory: &mut [u8],
+        lines: &mut [u8],
+    ) -> Walk {
         let c = self.ahead(self.at, window);
         let next = calls::behind(calls::size_of(c), self.at, size);
         if self.failed {
@@ -97,7 +112,7 @@ impl Walk {
         }
         if self.making {
             let node = self.node;
-            return self.made(next, calls::make(node, c, out), lines);
+            return self.made(next, calls::make(node, c, out, memory), lines);
         }
         self.at = next;
         self

@@ -28,6 +28,9 @@ fn received() {
     run(b"refused");
     run(b"edges");
     run(b"delivered");
+    run(b"pieces");
+    run(b"pieces_refused");
+    run(b"pieces_of_ten_keys");
     run(b"most_settings");
 }
 

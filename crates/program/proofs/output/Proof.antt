@@ -3,6 +3,7 @@ use mathlib.Core.Path.{sym, _∙_}
 use native.Mathlib.Omega.{arith}
 use Rattle.program.specs.Program.{textFor}
 use Rattle.program.proofs.Laws.{none-given, text-given}
+use Rattle.program.proofs.Lengths.{taken-short}
 use Rattle.program.proofs.output.Statement.{statement}
 use Rattle.program.proofs.output.Tie as tie
 
@@ -10,7 +11,9 @@ returns : tie.Need-returns
 returns c = let a = c .before .before .before .args in none-given (a .s .now) (a .out .now) (c .if1 .taken)
 
 put-taken-requires : tie.Need-put-taken-requires
-put-taken-requires c κs = (sym (c .before .before .well-formed .ensures) ∙ c .before .if2 .taken, omega arith)
+put-taken-requires c κs =
+    let w = c .before .before in
+    omega (arith, taken-short (w .before .before .before .before .args .s .now) (sym (w .well-formed .ensures) ∙ c .before .if2 .taken))
 
 returns-2 : tie.Need-returns-2
 unfolding textFor

@@ -1,63 +1,70 @@
 -- `put_lines` meets its contract: the walk has come to the datagram of number k, and the lines before it are written. Assumes nothing.
-use Prim.Native.Nat.{_≤_, _-_, _+_, _*_, _<_}
-use mathlib.Core.Path.{_≡_}
-use mathlib.Core.List.{[]}
+use Prim.Native.Nat.{_≤_, _-_, _+_, _<_}
+use mathlib.Core.Path.{_≡_, _∙_}
 use native.Mathlib.Omega.{arith}
 use lib.ListN.{length, getD}
 use Rattle.program.proofs.TextLaws.{Wrote}
 use Rattle.input.specs.Section.{countOf}
-use Rattle.input.specs.Recording.{Datagram}
-use Rattle.input.proofs.Laws.{Walked, walked-first, walked-next}
-use Rattle.program.specs.Lines.{linesTo}
-use Rattle.program.proofs.LineLaws.{lines-none, lines-turn, length-lines}
-use Rattle.program.specs.Program.{lineFor, linesOf}
+use Rattle.program.specs.declared.lines.Line.the-variants.{Refuse}
+use Rattle.program.proofs.LineLaws.{linesTo, lines-none, lines-turn, lines-end, lines-front}
+use Rattle.program.specs.Program.{receiptOf, memoryAfter, linesOf}
 use Rattle.program.proofs.Lengths.{many-lines}
-use Rattle.program.proofs.Laws.{line-at}
+use Rattle.program.proofs.Laws.{Walked, walked-first, walked-line, walked-next}
 use Rattle.program.proofs.put_lines.Statement.{statement}
 use Rattle.program.proofs.put_lines.Tie as tie
 
-abbrev noDatagram : Datagram
-noDatagram = record { interface = 0; bytes = [] }
-
 abbrev Inv-loop : tie.InvT-loop
-Inv-loop node r out₀ from n at₀ rest₀ k₀ out at rest k =
-    (k ≤ n) × Walked r k rest × (length out ≡ length out₀) × Wrote from (linesTo k (linesOf node r)) out₀ at out
+Inv-loop r memory₀ out₀ from n next₀ at₀ rest₀ k₀ memory out next at rest k =
+    (k ≤ n) × Walked next₀ memory₀ r k next memory rest × (length memory ≡ length memory₀) × (length out ≡ length out₀) × Wrote from (linesTo k (linesOf next₀ memory₀ r)) out₀ at out
 
 abbrev μ-loop : tie.MeasureT-loop
-μ-loop node r out₀ from n at₀ rest₀ k₀ out at rest k = n - k
+μ-loop r memory₀ out₀ from n next₀ at₀ rest₀ k₀ memory out next at rest k = n - k
 
 loop-holds : tie.Need-loop-holds Inv-loop μ-loop
 loop-holds c =
-    let a = c .before .before .before .before .args in
-    (omega arith, rw (c .first .ensures) (walked-first (a .r .now)), omega arith, lines-none (linesOf (a .node) (a .r .now)) (a .from) (a .out .now) (omega arith))
+    let a = c .before .before .before .before .before .args in
+    let ls = linesOf (a .node) (a .memory .now) (a .r .now) in
+    (omega arith, rw (c .first .ensures) (walked-first (a .node) (a .memory .now) (a .r .now)), omega arith, omega arith, lines-none ls (a .from) (a .out .now) (omega arith))
 
 loop-again : tie.Need-loop-again Inv-loop μ-loop
+unfolding receiptOf memoryAfter
 loop-again c =
-    let c5 = c .before .before .before .before .before in
-    let l = c5 .before .before .before .before in
-    let a = l .before .before .before .before .before .args in
+    let p = c .before .before .before in
+    let v = p .before .before in
+    let q = v .before .before .before .before in
+    let l = q .before .before .before .before .before in
+    let s = l .before .before .before .before .before .before in
+    let a = s .args in
+    let node = a .node in
+    let memory = a .memory .now in
     let r = a .r .now in
-    let ls = linesOf (a .node) r in
-    let m = many-lines (a .node) r in
-    let h : l .loop .k < countOf r = omega arith in
-    let s : length (linesTo (l .loop .k + 1) ls) ≤ 20 * (l .loop .k + 1) = length-lines ls (l .loop .k + 1) (omega arith) (l .before .before .before .before .before .pre .1) in
-    let w = walked-next r (l .loop .rest .now) (l .loop .k) noDatagram h (l .loop .inv .1) in
-    let v : c5 .line-on .result ≡ getD ls (l .loop .k) (lineFor (a .node) noDatagram) =
-    rw (c5 .line-on .ensures, c5 .before .interface .ensures, c5 .before .before .datagram .ensures) (line-at (a .node) r (l .loop .rest .now) (l .loop .k) noDatagram h (l .loop .inv .1)) in (
+    let ls = linesOf node memory r in
+    let t = l .loop in
+    let h : t .k < countOf r = omega (arith, l .before .before .count .ensures, q .before .before .before .before .loop-test .taken) in
+    let m = many-lines node memory r in
+    let front = lines-front ls (t .k + 1) in
+    let i = q .before .before .interface .ensures in
+    let b = q .before .before .before .datagram .ensures in
+    let line : v .line-with .result ≡ getD ls (t .k) (Refuse 0) =
+    rw (v .line-with .ensures, q .receive .ensures .0, i, b) (walked-line node memory r (t .k) (Refuse 0) h (t .next) (t .memory) (t .rest .now) (t .inv .1)) in (
       omega arith,
-      rw (c .next .ensures) w,
-      omega arith,
-      lines-turn ls (l .loop .k) (c5 .line-on .result) (lineFor (a .node) noDatagram) (a .from) (a .out .now) (omega arith) v (omega arith) (l .loop .inv .3) (c .before .before .before .put-line .ensures),
+      rw (c .next2 .ensures, q .receive .ensures .0, q .receive .ensures .1, i, b) (walked-next node memory r (t .k) (Refuse 0) h (t .next) (t .memory) (t .rest .now) (t .inv .1)),
+      v .before .before .before .memory .given ∙ t .inv .2,
+      c .before .before .out .given ∙ t .inv .3,
+      lines-turn ls (t .k) (v .line-with .result) (Refuse 0) (a .from) (a .out .now) (omega arith) line (omega (arith, s .pre)) (t .inv .4) (p .put-line .ensures),
     )
 
 returns : tie.Need-returns Inv-loop μ-loop
 returns c =
     let l = c .before .loop in
-    let e : l .k ≡ countOf (c .before .before .before .before .before .before .args .r .now) = omega arith in
-    (rw e at (l .inv .3 .0), rw e at (l .inv .3 .1))
+    let a = c .before .before .before .before .before .before .before .args in
+    let ls = linesOf (a .node) (a .memory .now) (a .r .now) in
+    let e : l .k ≡ length ls = omega (arith, many-lines (a .node) (a .memory .now) (a .r .now)) in
+    let all = lines-end ls in
+    (rw (e, all) at (l .inv .4 .0), rw (e, all) at (l .inv .4 .1))
 
 pub put-lines-spec : {M : Type 1} → statement M
 put-lines-spec =
     tie.close
-    (tie.spec Inv-loop μ-loop (omega arith) (omega arith) loop-holds (omega arith) (omega arith) (omega arith) (omega arith)
-    (omega arith) (omega arith) (omega arith) loop-again (omega arith) returns)
+    (tie.spec Inv-loop μ-loop (omega arith) (omega arith) loop-holds (omega arith) (omega arith) (omega arith) (omega arith) (omega arith) (omega arith) (omega arith)
+    (omega arith) loop-again (omega arith) (omega arith) returns)

@@ -2,15 +2,16 @@
 use borrow.Author.Needs.{needs}
 use native.Mathlib.Omega.{arith}
 use Rattle.program.specs.Program.{takenText}
-use Rattle.program.proofs.Lengths.{section-short}
 use Rattle.program.proofs.put_taken.Statement.{statement}
 use Rattle.program.proofs.put_taken.Tie as tie
 
 put-text-requires : tie.Need-put-text-requires
+unfolding takenText
 put-text-requires c κs =
-    let q = c .before .before .before .before in
-    let a = q .before .before .before .before in
-    (rw (c .before .behind-settings .ensures) (section-short (q .new .result .node) (a .args .s .now) (a .pre .0)), omega arith)
+    let b = c .before in
+    let m = b .before in
+    let q = m .before .before in
+    rw (← q .before .settings .ensures, ← q .new .ensures, ← b .behind-settings .ensures, m .enum-told .given .1) at (q .before .before .before .before .pre)
 
 returns : tie.Need-returns
 unfolding takenText

@@ -1,41 +1,43 @@
 -- `put_text` meets its contract: the first line, and then the lines of the datagrams. Assumes nothing.
-use Prim.Native.Nat.{_+_, _≤_}
-use mathlib.Core.Path.{_≡_, _∙_}
-use mathlib.Core.List.{_++_}
+use mathlib.Core.Path.{_≡_, sym, _∙_}
 use native.Mathlib.Omega.{arith}
-use lib.ListN.{length}
+use lib.ListN.{length, length-append}
+use Rattle.program.specs.Lines.{countLine, linesFrom, textOf}
+use Rattle.program.specs.Program.{ownMemory, linesOf}
 use Rattle.program.proofs.TextLaws.{behind-fits, wrote-more}
-use Rattle.input.specs.Section.{countOf}
-use Rattle.program.specs.Lines.{countLine, linesTo, textOf}
-use Rattle.program.proofs.LineLaws.{lines-all, length-count}
-use Rattle.program.specs.Program.{linesOf}
-use Rattle.program.proofs.Lengths.{many-lines, section-text-short}
+use Rattle.program.proofs.Lengths.{many-lines}
 use Rattle.program.proofs.put_text.Statement.{statement}
 use Rattle.program.proofs.put_text.Tie as tie
 
+slice-aggregate-put-lines : tie.Need-slice-aggregate-put-lines
+slice-aggregate-put-lines c = c .before .before .before .before .before .before .own-memory .ensures .1
+
 put-lines-requires : tie.Need-put-lines-requires
+unfolding textOf
 put-lines-requires c κs =
-    let p = c .before .before .before .before .before in
-    let a = p .before .before .before .args in
-    let n = p .count .ensures in
-    let room = p .before .before .before .pre in
-    let l = length-count (p .count .result) 4 (omega arith) in
-    let b = behind-fits 0 (countLine (p .count .result)) (a .out .now) (omega arith) in
-    let e = c .before .before .before .put-count .ensures .0 in
-    (omega arith, room .0 .1, omega arith)
+    let p = c .before .before .before .before in
+    let k = p .before .before in
+    let s = k .before .before .before .before in
+    let a = s .args in
+    let ls = linesOf (a .node) ownMemory (a .r .now) in
+    let n : k .count .result ≡ length ls = k .count .ensures ∙ sym (many-lines (a .node) ownMemory (a .r .now)) in
+    let l = length-append (countLine (length ls)) (linesFrom 1 ls) in
+    let e = rw n at (p .put-count .ensures .0) in
+    let b = behind-fits 0 (countLine (length ls)) (a .out .now) (omega (arith, s .pre)) in
+    rw (k .before .own-memory .ensures .0) (omega (arith, s .pre))
 
 returns : tie.Need-returns
+unfolding textOf
 returns c =
-    let p = c .before .before .before .before .before .before in
-    let a = p .before .before .before .before .before .args in
-    let r = a .r .now in
-    let ls = linesOf (a .node) r in
-    let m = many-lines (a .node) r in
-    let t : textOf ls ≡ countLine (countOf r) ++ linesTo (countOf r) ls = lines-all ls ∙ rw m in
-    let s = section-text-short (a .node) r (p .before .before .before .before .before .pre .0) in
-    let fits : 0 + length (countLine (countOf r) ++ linesTo (countOf r) ls) ≤ length (a .out .now) = rw (← t) (omega arith) in
-    let first = rw (p .before .before .count .ensures) at (p .put-count .ensures) in
-    rw t (wrote-more 0 (countLine (countOf r)) (linesTo (countOf r) ls) (a .out .now) fits first (c .before .before .put-lines .ensures))
+    let q = c .before .before .before in
+    let p = q .before .before .before .before .before in
+    let k = p .before .before in
+    let s = k .before .before .before .before in
+    let a = s .args in
+    let ls = linesOf (a .node) ownMemory (a .r .now) in
+    let n : k .count .result ≡ length ls = k .count .ensures ∙ sym (many-lines (a .node) ownMemory (a .r .now)) in
+    wrote-more 0 (countLine (length ls)) (linesFrom 1 ls) (a .out .now) (omega (arith, s .pre))
+    (rw n at (p .put-count .ensures)) (rw (k .before .own-memory .ensures .0) at (q .put-lines .ensures))
 
 pub put-text-spec : {M : Type 1} → statement M
-put-text-spec = tie.close (tie.spec (omega arith) (omega arith) put-lines-requires (omega arith) returns)
+put-text-spec = tie.close (tie.spec (omega arith) (omega arith) (omega arith) slice-aggregate-put-lines put-lines-requires (omega arith) returns)
