@@ -37,6 +37,13 @@ def datagram(content, interface=0):
     return bytes([interface]) + u16(len(content)) + content
 
 
+def piece(packet, start, end=None, more=None, source=PEER, destination=OWN, interface=0, **fields):
+    """These bytes of the packet; others follow, if it is not the last of them."""
+    part = packet[start:end]
+    more = start + len(part) < len(packet) if more is None else more
+    return datagram(builders.piece(part, start, more, source, destination, **fields), interface)
+
+
 def isatap(prefix, first, address):
     return isatap_address(prefix, f"{first:02x}005efe", address)
 
@@ -44,12 +51,11 @@ def isatap(prefix, first, address):
 LINK = bytes.fromhex("fe80000000000000")
 EXAMPLE = datagram(outer(inner()))
 
-# each number of receiving once, in its order, and then two that apply at once
+# each number of a whole datagram once, in its order, and then two that apply at once
 REFUSED = [
     datagram(outer(inner(), version=5)),
     datagram(outer(inner(), spoil=1)),
     datagram(outer(inner(), protocol=17)),
-    datagram(outer(inner(), fragment=0x2000)),
     datagram(outer(inner()), interface=1),
     datagram(outer(inner(), source=bytes((127, 0, 0, 1)))),
     datagram(outer(inner(version=4))),
@@ -66,8 +72,8 @@ EDGES = [
     datagram(outer(inner(), words=4)),
     datagram(outer(inner(), total=19)),
     datagram(outer(inner(), total=61)),
-    datagram(outer(inner(), fragment=1)),
     datagram(outer(inner(), fragment=0x4000)),
+    datagram(outer(inner(), fragment=0x8000)),
     datagram(outer(inner()[:39])),
     datagram(outer(inner(length=1))),
     datagram(outer(inner(length=1)) + b"\0"),
@@ -88,6 +94,39 @@ DELIVERED = [
     datagram(outer(inner(bytes.fromhex("20010db8000000020000000000000001")), source=ROUTER)),
 ]
 
+LONG, LONGEST = inner(payload=bytes(range(61))), inner(payload=bytes(2008))
+# joined in both orders, with repeats and options, up to 2,048 bytes, with bytes behind the packet, and from a router
+PIECES = [
+    piece(inner(), 0, 24), piece(inner(), 24),
+    piece(inner(), 24), piece(inner(), 24), piece(inner(), 0, 24),
+    piece(LONG, 0, 40, options=bytes(4)), piece(LONG, 96, ttl=1), piece(LONG, 40, 96, flags=0x4000),
+    piece(LONGEST, 1024), piece(LONGEST, 0, 1024),
+    piece(inner() + bytes(9), 0, 16), piece(inner() + bytes(9), 16),
+    piece(inner(b"\x20" + bytes(15)), 8, source=ROUTER), piece(inner(b"\x20" + bytes(15)), 0, 8, source=ROUTER),
+    piece(inner(), 0, 8), EXAMPLE, piece(inner(), 8),
+]
+
+# 30, 29 by two ends, by an overlap and by another byte, and what is joined refused by 8, 9 and 10
+UNFIT = [
+    piece(LONG, 0, 0), piece(LONG, 8, 17), piece(bytes(2049), 2040), piece(bytes(2048), 2040), piece(bytes(2047), 2040),
+    piece(LONG, 0, 24), piece(LONG, 24, 32, False), piece(LONG, 24, 40), piece(LONG, 24, 40, False),
+    piece(LONG, 0, 24), piece(LONG, 16, 40), piece(LONG, 24), piece(LONG, 0, 24),
+    piece(LONG, 0, 24), piece(bytes(48), 0, 24), piece(LONG, 24), piece(LONG, 0, 24),
+    piece(inner(version=4), 0, 8), piece(inner(version=4), 8),
+    piece(inner(bytes(16)), 0, 8), piece(inner(bytes(16)), 8),
+    piece(inner(link_local(OTHER)), 0, 8), piece(inner(link_local(OTHER)), 8),
+    piece(inner(), 0, 8), piece(inner(), 8), piece(inner(), 8), piece(inner(), 0, 8, interface=1), piece(inner(), 0, 8),
+]
+
+# more keys than places; the pieces of one that are far apart; all of them at time 0
+KEYS = [
+    *[piece(inner(), 0, 8, identification=u16(key)) for key in range(10)],
+    *[piece(inner(), 8, identification=u16(key)) for key in (9, 3, 5, 9)],
+    *[piece(inner(), 8, identification=u16(key)) for key in (8, 9, 8)],
+    *[EXAMPLE] * 40,
+    *[piece(inner(), 8, identification=u16(key)) for key in (0, 1, 2, 4, 6, 7)],
+]
+
 LOCATORS = [locator(bytes((10, 0, 1, last)), last) for last in range(8)]
 PREFIXES = [PREFIX[:7] + bytes([last]) for last in range(8)]
 ROUTERS = [bytes((10, 0, 2, last)) for last in range(16)]
@@ -104,6 +143,9 @@ def cases():
     yield "refused", settings() + section(*REFUSED)
     yield "edges", settings() + section(*EDGES)
     yield "delivered", settings(prefixes=[PREFIX], routers=[ROUTER]) + section(*DELIVERED)
+    yield "pieces", settings(routers=[ROUTER]) + section(*PIECES)
+    yield "pieces_refused", settings() + section(*UNFIT)
+    yield "pieces_of_ten_keys", settings() + section(*KEYS)
     yield "most_settings", settings(LOCATORS, PREFIXES, ROUTERS) + section(TO_LAST, FROM_LAST, EXAMPLE)
     yield "cut_count", ONE[:1]
     yield "cut_locators", settings()[:6]

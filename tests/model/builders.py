@@ -1,5 +1,5 @@
-"""Datagrams, packets, size reports, advertisements and solicitations from their fields, right or wrong ones: each is built here and
-nowhere else.
+"""Datagrams and their pieces, packets, size reports, advertisements and solicitations from their fields, right or wrong ones: each is
+built here and nowhere else.
 
 `spoil` is added to the right checksum; with None the field stays 0. `length` and `total` stand in the length fields in place of the
 right lengths.
@@ -26,6 +26,37 @@ def datagram(inner, source, destination, options=b"", words=None, total=None, ve
     end = source + destination + options
     return start + spoiled(checksum_field(start + b"\0\0" + end), spoil) + end + inner
 
+
+# ---- Pieces
+
+def piece(payload, start, more, source, destination, flags=0, **fields):
+    """A piece of a datagram: these bytes stand from `start` on in the datagram's payload; with `more` others follow."""
+    return datagram(payload, source, destination, flags=flags | more << 13 | start // 8, **fields)
+
+
+def fragments(whole, size):
+    """What RFC 791, 3.2, "An Example Fragmentation Procedure", makes of a datagram for links of `size` bytes."""
+    header, total = 4 * (whole[0] & 15), number(whole[2:4])
+    if total <= size:
+        return [whole[:total]]
+    fields = {"service": whole[1], "identification": whole[4:6], "ttl": whole[8], "protocol": whole[9]}
+    options, data, flags, blocks = whole[20:header], whole[header:total], number(whole[6:8]), (size - header) // 8
+    first = datagram(data[:8 * blocks], whole[12:16], whole[16:20], options, flags=flags | 0x2000, **fields)
+    second = datagram(data[8 * blocks:], whole[12:16], whole[16:20], copied_options(options), flags=flags + blocks, **fields)
+    return [first] + fragments(second, size)
+
+
+def copied_options(options):
+    """Those with the copied flag, and zeros up to the word."""
+    kept = b""
+    while options and options[0] != 0:
+        length = 1 if options[0] == 1 else options[1]
+        kept += options[:length] if options[0] >= 128 else b""
+        options = options[length:]
+    return kept + bytes(-len(kept) % 4)
+
+
+# ---- Messages
 
 def report(candidate, source, neighbour, total=1500, kind=3, code=4, unused=bytes(2), version=4, words=5, options=b"",
            free=bytes(8), protocol=41, tail=bytes(8), cut=None, spoil=0):

@@ -5,7 +5,7 @@ say it.
 """
 from .builders import advertisement, datagram, operator_prefix, operator_route, option, packet, prefix_option, report, route_option, solicitation
 from .faults import LENGTHS, LIFETIMES, PLATEAU_BELOW
-from .formats import answer, encode_call, encode_settings
+from .formats import MEMORY, answer, digest, encode_call, encode_settings, lent
 from .node import Node
 from .octets import LINK_LOCAL, dotted, forbidden, isatap_address, link_local
 from .rules import Advertisement
@@ -50,16 +50,16 @@ def solicitation_of(f):
 
 
 class Calls:
-    """A list of calls in the making, with the node that has answered it so far."""
+    """A list of calls in the making, with the node that has answered it so far and the memory as that left it."""
 
     def __init__(self, chooser, settings):
         self.random, self.settings = chooser, settings
         self.data = bytearray(encode_settings(settings))
-        self.node = Node(settings)
+        self.node, self.memory = Node(settings), lent(MEMORY)
         self.made = []
 
     def call(self, name, *arguments, want=""):
-        line = answer(self.node, name, arguments)
+        line = answer(self.node, self.memory, name, arguments)
         wanted = f"{name} {want}".split()
         if line.split()[:len(wanted)] != wanted:
             raise AssertionError(f"steered to `{want}`, the model says `{line}`")
@@ -70,7 +70,7 @@ class Calls:
     # Choices
 
     def some(self, length):
-        return bytes(self.random.randrange(256) for _ in range(length))
+        return self.random.randbytes(length)
 
     def fresh(self):
         """An address that is not forbidden, not ours, not listed and has had no report."""
@@ -120,22 +120,37 @@ class Calls:
         return {"version6": 6, "flow": self.some(4), "next_header": 17, "hop_limit": self.random.randrange(256), "source6": source6,
                 "destination6": destination6, "payload": payload, "payload_error": 0, "tail": b"", "cut": None}
 
-    def receive(self, faults=(), variation=None):
+    def datagram_fields(self, faults, variation):
+        """Of a datagram that is delivered, but for the faults."""
         address = self.fresh()
         destination, interface = self.random.choice(self.settings.locators)
         f = self.packet_fields(link_local(address), self.some(16), self.some(self.random.choice((0, 1, 8, 20, 33))))
         f.update(address=address, version=4, words=5, service=self.random.randrange(256), identification=self.some(2), flags=0,
                  ttl=self.random.randrange(256), protocol=41, source=address, destination=destination, interface=interface,
-                 options=self.some(40), total_rule=None, spoil=0, inner_cut=None, padding=b"")
+                 options=self.some(40), total_rule=None, spoil=0, inner_cut=None, padding=b"",
+                 time=self.random.choice((0, self.node.latest)), room=self.random.choice((16384, 16384, 16385, 65535)))
         self.change(f, variation or {})
         for _, changes in faults:
             self.change(f, changes)
         if "zero_check" in f and not faults:                  # both 0000 and FFFF are right where the rest sums up to FFFF
             f.update(identification=bytes(2))
             f.update(identification=datagram_of(f)[10:12], spoil=f["zero_check"])
-        want = f"refuse {faults[-1][0]}" if faults else f"deliver {4 * f['words']} {40 + len(f['payload'])}"
-        data = datagram_of(f)
-        self.call("receive", f["interface"], data, want=want)
+        return f
+
+    def receive(self, faults=(), variation=None, time=None):
+        """A whole datagram; it does not move the latest time, if no time is given."""
+        f = self.datagram_fields(faults, variation)
+        numbers = [number for number in (15, *range(2, 11)) if number in [fault for fault, _ in faults]]
+        data, delivered = datagram_of(f), f"deliver {4 * f['words']} {40 + len(f['payload'])}"
+        self.call("receive", f["interface"], f["time"] if time is None else time, f["room"], data,
+                  want=f"refuse {numbers[0]}" if numbers else delivered)
+        return data
+
+    def part(self, faults=(), variation=None):
+        """The call for the part, which is empty with whatever fault."""
+        f = self.datagram_fields(faults, variation)
+        data, inner = datagram_of(f), b"" if faults else packet_of(f)
+        self.call("part", f["interface"], data, want=f"{len(inner)} {digest(inner)}")
         return data
 
     def send(self, faults=(), n=None, end=None, time=None, next_hop=None):

@@ -3,7 +3,7 @@ from collections import Counter
 from pathlib import Path
 
 from . import builders
-from .formats import answer, digest, encode_datagrams, lent, program, replay
+from .formats import MEMORY, answer, digest, encode_datagrams, lent, program, replay
 from .node import Node
 from .octets import LINK_LOCAL, LOOPBACK, checksum_field, checksum_right, isatap_address, link_local, pseudo_header, u16
 from .rules import Advertisement, Settings, wrapped
@@ -11,7 +11,8 @@ from .rules import Advertisement, Settings, wrapped
 OWN, PEER, ROUTER = bytes((10, 0, 0, 1)), bytes((10, 0, 0, 2)), bytes((10, 0, 0, 9))
 
 # What each call can be brought to answer; 23 cannot come: L is at most 9,216, so 14 comes for every n above 9,196
-ANSWERS = {"receive": ["deliver"] + [f"refuse {number}" for number in range(2, 11)],
+ANSWERS = {"receive": ["deliver", "joined"] + [f"refuse {number}" for number in (15, 2, 3, 4, 6, 7, 8, 9, 10, 30, 29, 28, 27)],
+           "memory": ["answered"], "part": ["empty", "answered"],
            "send": ["wrapped", "too-big with message", "too-big without"] + [f"refuse {number}" for number in (8, 11, 12, 13, 15)],
            "report": ["accepted"] + [f"refuse {number}" for number in (16, 17, 18, 19)],
            "routers": ["accepted", "refuse 1"], "ask": ["answered"] + [f"refuse {number}" for number in (11, 22, 15)],
@@ -24,6 +25,8 @@ def kind_of_answer(line):
     name, word, *rest = line.split()
     if word == "refuse":
         return name, f"refuse {rest[0]}"
+    if name == "part":
+        return name, "empty" if word == "0" else "answered"
     if word == "too-big":
         return name, "too-big without" if rest[1] == "0" else "too-big with message"
     return name, word if word in ANSWERS[name] else "answered"
@@ -62,7 +65,7 @@ def report(candidate, quoted_total=1500, neighbour=PEER):
 
 def said(one, name, *arguments):
     """The answer without the call's name."""
-    return answer(one, name, arguments).split(" ", 1)[1]
+    return answer(one, lent(MEMORY), name, arguments).split(" ", 1)[1]
 
 
 def sent(path, n, link=1500):
@@ -121,7 +124,33 @@ def receive_checks():
     yield "the header above gets checksum 6696", checksum_field(HEADER[:10] + HEADER[12:]).hex(), "6696"
     yield "the header above is what wrapping writes", wrapped(b"", 1, False, 64, PEER, OWN)[4:10].hex(), HEADER[4:10].hex()
     for first, given in ((0, "deliver 20 40"), (2, "deliver 20 40"), (1, "refuse 10"), (3, "refuse 10")):
-        yield f"first identifier byte {first:02}: {given}", said(node(), "receive", 0, example(f"{first:02x}005efe")), given
+        yield f"first identifier byte {first:02}: {given}", said(node(), "receive", 0, 0, 16384, example(f"{first:02x}005efe")), given
+    yield "16,383 bytes of memory", said(node(), "receive", 0, 0, 16383, example()), "refuse 15"
+    yield "the part", node().part(0, example()), example()[20:]
+
+
+FIRST_PIECE = bytes.fromhex("4500002C00012000402946A60A0000020A000001")
+LAST_PIECE = bytes.fromhex("4500002400010003402966AB0A0000020A000001")
+
+
+def pieces():
+    """The example's packet in two pieces, their headers by hand: 24 bytes with more-fragments, and 16 at offset 3."""
+    return FIRST_PIECE + example()[20:44], LAST_PIECE + example()[44:]
+
+
+def joining_checks():
+    """The two pieces in both orders, with a repeat, and what stands in the memory."""
+    packet_, waits = example()[20:], "receive refuse 27"
+    joined = f"receive joined 0 40 {digest(packet_)}"
+    for first, last in (pieces(), pieces()[::-1]):
+        one, memory = node(), lent(MEMORY)
+        given = [answer(one, memory, "receive", (0, time, 16384, piece)) for time, piece in ((5, first), (34, first), (34, last), (34, last))]
+        yield "two pieces, the first twice, the last twice", given, [waits, waits, joined, waits]
+        yield "two pieces: the memory", bytes(memory), packet_ + b"\xa5" * (MEMORY - 40)
+        yield "two pieces: the parts", [one.part(0, piece) for piece in (first, last)], [b"", b""]
+        one, memory = node(), lent(MEMORY)
+        given = [answer(one, memory, "receive", (0, time, 16384, piece)) for time, piece in ((5, first), (35, last), (0, first))]
+        yield "two pieces, 30 s apart, and the first again", given, [waits, waits, joined]
 
 
 def program_checks():
@@ -129,6 +158,9 @@ def program_checks():
     two = start + encode_datagrams([(0, example(last=2)), (0, example(last=3))])
     yield "the program's example", program(two), ["datagrams 2", "1 deliver 40", "2 refuse 10"]
     yield "no datagram", program(start + u16(0)), ["datagrams 0"]
+    first, last = pieces()
+    yield "the program's example in pieces", program(start + encode_datagrams([(0, last), (0, last), (0, first), (0, first)])), [
+        "datagrams 4", "1 refuse 27", "2 refuse 27", "3 deliver 40", "4 refuse 27"]
     full = start + encode_datagrams([(0, bytes(65515)), (0, bytes(2))])
     yield "65,536 bytes are taken", (len(full), program(full)), (65536, ["datagrams 2", "1 refuse 2", "2 refuse 2"])
     for text, data in (("empty", b""), ("trailing byte", two + b"\0"), ("cut", two[:-1]), ("too long", full + b"\0"),
@@ -191,14 +223,16 @@ def replay_checks():
     yield "empty input", replay(b""), ["bad input"]
     yield "multicast reporting address", replay(start + b"\1" + b"\xff" * 16), ["settings refuse 1"]
     yield "size", replay(start + b"\0\x07" + PEER), ["size 1500"]
-    calls = (b"\1\0" + u16(60) + example() + b"\2\0" + bytes(4) + link_local(PEER) + u16(60) + u16(40) + packet(40)
+    calls = (b"\1\0" + bytes(4) + u16(16384) + u16(60) + example() + b"\2\0" + bytes(4) + link_local(PEER) + u16(60) + u16(40) + packet(40)
              + b"\3\0\0\0\1" + u16(36) + report(700) + b"\4\0\0\0\2" + u16(1) + ROUTER + b"\5\0\0\0\0\3" + u16(0)
              + b"\6\0\0\0\4" + u16(0) + b"\7" + PEER + b"\x08\0" + u16(0) + b"\xff" + u16(1800) + u16(1) + bytes(26) + u16(1) + bytes(22)
-             + u16(0) + b"\x08\1" + u16(1) + bytes(3) + u16(0) + u16(0) + u16(48) + asking)
+             + u16(0) + b"\x08\1" + u16(1) + bytes(3) + u16(0) + u16(0) + u16(48) + asking
+             + b"\x09\x0a\0" + u16(60) + example() + b"\x0a\1" + u16(60) + example())
     yield "one call of each kind, by hand", replay(start + b"\0" + calls), [
         "receive deliver 20 40", "send wrapped 60 " + digest(wrapped(packet(40), 1, True, 64, OWN, PEER)),
         "report accepted 10.0.0.2 700", "routers accepted 1", "ask refuse 15 811c9dc5", "advertisement refuse 8", "size 700",
-        "advertise refuse 8 811c9dc5", "advertise refuse 11 " + digest(b"\xa5")]
+        "advertise refuse 8 811c9dc5", "advertise refuse 11 " + digest(b"\xa5"), "memory " + digest(b"\xa5" * 65535),
+        "part 40 " + digest(example()[20:]), "part 0 811c9dc5"]
     for text, routes, given in (("a preference of 2", [2], "advertise refuse 15 811c9dc5"), ("a preference of 3", [3], "bad input"),
                                 ("a preference of 3 in the ninth place", [0] * 8 + [3], "bad input"),
                                 ("nine routes", [0] * 9, "advertise refuse 26 811c9dc5"), ("256 routes", [1] * 256, "advertise refuse 26 811c9dc5")):
@@ -206,7 +240,7 @@ def replay_checks():
         yield text, replay(start + b"\0\x08\0" + u16(0) + bytes(3) + u16(0) + u16(len(routes)) + entries + u16(48) + asking), [given]
 
 
-CHECKS = (size_checks, report_checks, neighbour_checks, receive_checks, program_checks, message_checks, time_checks, advertise_checks, replay_checks)
+CHECKS = (size_checks, report_checks, neighbour_checks, receive_checks, joining_checks, program_checks, message_checks, time_checks, advertise_checks, replay_checks)
 
 
 def checked():

@@ -44,7 +44,7 @@ WRONG_SOURCES = NOT_ISATAP + [
     {"source6": lambda calls, f: link_local(f["address"][:3] + bytes([f["address"][3] ^ 1]))}]
 TOTALS = [lambda header, whole: header - 1, lambda header, whole: 0,
           lambda header, whole: whole + 1, lambda header, whole: 65535]
-RECEIVE_FAULTS = (
+PART_FAULTS = (
     faults(2, *one_of("cut", (0, 1, 19)), *one_of("version", (0, 3, 5, 6, 12)), *one_of("words", (0, 4)), *one_of("total_rule", TOTALS),
            {"words": 15, "cut": 59}, {"words": 6, "cut": 20})
     + faults(3, *one_of("spoil", (1, 0x100, 0x8000, None)))
@@ -57,15 +57,17 @@ RECEIVE_FAULTS = (
              {"payload_error": 1, "tail": b""}, {"payload_error": 1, "tail": b"", "padding": bytes(9)})
     + faults(9, *one_of("source6", BAD_SOURCES))
     + faults(10, *[dict(change, source=lambda calls, f: f["address"]) for change in WRONG_SOURCES]))
+RECEIVE_FAULTS = [fault for fault in PART_FAULTS if fault[0] != 5] + faults(15, *one_of("room", (0, 2048, 16376, 16383)))
 BY_ROUTER = [GLOBAL, bytes(12) + b"\x0a\1\1\1", isatap_address(LINK_LOCAL, "01005efe", b"\x0a\1\1\1"), bytes(11) + b"\1" + bytes(4),
              b"\xfe" + bytes(15), link_local(FORBIDDEN[2]), bytes(10) + b"\xff\xff\x0a\1\1\1", bytes(10) + b"\xff\xff" + FORBIDDEN[2]]
 RECEIVE_VARIATIONS = (
     one_of("words", (5, 6, 9, 15)) + one_of("padding", (b"\1", bytes(26))) + one_of("flags", (0x4000, 0x8000, 0xc000))
-    + one_of("zero_check", (0, 0xffff)) + one_of("payload", (b"", bytes(216), bytes(300), bytes(1460))) + [{"tail": b"\7"}, {"tail": bytes(9), "words": 7, "padding": b"\1"}]
+    + one_of("zero_check", (0, 0xffff)) + one_of("payload", (b"", bytes(216), bytes(300), bytes(1460), bytes(2009))) + [{"tail": b"\7"}, {"tail": bytes(9), "words": 7, "padding": b"\1"}]
     + [{"source6": lambda calls, f, text=text: isatap_address(calls.prefix(), text, f["source"])} for text in ("00005efe", "02005efe")]
     + [{"source": address, "source6": link_local(address)} for address in NEARLY_FORBIDDEN]
     + [{"source": lambda calls, f: calls.listed_router(), "source6": source} for source in BY_ROUTER]
-    + [{"source": lambda calls, f: f["destination"], "source6": lambda calls, f: link_local(f["source"])}])
+    + [{"source": lambda calls, f: f["destination"], "source6": lambda calls, f: link_local(f["source"])},
+       {"time": lambda calls, f: calls.time()}])
 
 # Sending; `more` bytes above M, `short` bytes of room missing, `first` byte of the payload
 
@@ -153,7 +155,7 @@ ADVERTISE_VARIATIONS = (
     + [{"source6": lambda calls, f, text=text: isatap_address(LINK_LOCAL, text, f["address"])} for text in ("00005efe", "02005efe")]
     + [{"source6": isatap_address(LINK_LOCAL, text, address)} for address in FORBIDDEN for text in ("00005efe", "02005efe")]
     + [{"source6": lambda calls, f: link_local(calls.settings.locators[0][0])}])
-FAULTS = {"receive": RECEIVE_FAULTS, "send": SEND_FAULTS, "report": REPORT_FAULTS, "advertisement": ADVERTISEMENT_FAULTS,
+FAULTS = {"receive": RECEIVE_FAULTS, "part": PART_FAULTS, "send": SEND_FAULTS, "report": REPORT_FAULTS, "advertisement": ADVERTISEMENT_FAULTS,
           "advertise": ADVERTISE_FAULTS}
-VARIATIONS = {"receive": RECEIVE_VARIATIONS, "report": REPORT_VARIATIONS, "advertisement": one_of("zero_check", (0, 0xffff)),
+VARIATIONS = {"receive": RECEIVE_VARIATIONS, "part": RECEIVE_VARIATIONS, "report": REPORT_VARIATIONS, "advertisement": one_of("zero_check", (0, 0xffff)),
               "advertise": ADVERTISE_VARIATIONS}

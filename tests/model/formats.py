@@ -1,16 +1,20 @@
 """The inputs and lines of `replay` (docs/REPLAY.md) and of the program (R17)."""
+from .digests import digest
 from .node import Node
 from .octets import number, u16, u32
 from .rules import Advertisement, Refused, Settings
 
 REPLAY_LIMIT = 1 << 20
 PROGRAM_LIMIT = 1 << 16
+MEMORY = 65535                                                # bytes of the memory that both programs hand on from call to call
 
 # Fields: B, H, I numbers of 1, 2, 4 bytes; A an IPv4, N an IPv6 address; D bytes after their length; R a list of addresses;
 # O the operator's advertisement
-CALLS = {1: ("receive", "BD"), 2: ("send", "BINHD"), 3: ("report", "ID"), 4: ("routers", "IR"),
-         5: ("ask", "BIH"), 6: ("advertisement", "ID"), 7: ("size", "A"), 8: ("advertise", "BHOD")}
+CALLS = {1: ("receive", "BIHD"), 2: ("send", "BINHD"), 3: ("report", "ID"), 4: ("routers", "IR"),
+         5: ("ask", "BIH"), 6: ("advertisement", "ID"), 7: ("size", "A"), 8: ("advertise", "BHOD"), 9: ("memory", ""), 10: ("part", "BD")}
+NUMBERS, ADDRESSES = {"B": 1, "H": 2, "I": 4}, {"A": 4, "N": 16}
 ROOMS = {"send": 3, "ask": 2, "advertise": 1}                 # which argument is the room of the output
+LENT = 2                                                      # which argument of `receive` is how much of the memory it is lent
 
 
 # ---- Writing inputs
@@ -76,11 +80,13 @@ class Reader:
         return [self.take(width) for _ in range(self.number(2))]
 
     def field(self, form):
-        widths = {"B": 1, "H": 2, "I": 4}
-        if form in widths:
-            return self.number(widths[form])
-        return {"A": lambda: self.take(4), "N": lambda: self.take(16), "R": lambda: self.many(4),
-                "D": lambda: self.take(self.number(2)), "O": self.operator}[form]()
+        if form in NUMBERS:
+            return self.number(NUMBERS[form])
+        if form in ADDRESSES:
+            return self.take(ADDRESSES[form])
+        if form == "D":
+            return self.take(self.number(2))
+        return self.many(4) if form == "R" else self.operator()
 
     def lists(self):
         """Locators, prefixes and routers, in both programs first."""
@@ -113,34 +119,40 @@ class Reader:
 
 # ---- Lines
 
-def digest(output):
-    """The 32-bit FNV-1a hash of the whole lent output."""
-    value = 2166136261
-    for byte in output:
-        value = (value ^ byte) * 16777619 & 0xffffffff
-    return f"{value:08x}"
-
-
 def lent(room):
     return bytearray(b"\xa5" * room)
 
 
-def answer(node, name, arguments):
+def answer(node, memory, name, arguments):
     """The line that `replay` prints for one call."""
-    output = None
-    arguments = list(arguments)
+    if name == "memory":
+        return f"memory {digest(memory)}"
+    arguments, output = list(arguments), None
+    if name == "receive":
+        arguments[LENT] = memoryview(memory)[:arguments[LENT]]
     if name in ROOMS:
         place = ROOMS[name]
         output = arguments[place] = lent(arguments[place])
     try:
-        line = str(getattr(node, {"routers": "replace_routers"}.get(name, name))(*arguments))
+        line = told(getattr(node, {"routers": "replace_routers"}.get(name, name))(*arguments), memory)
     except Refused as refused:
         line = f"refuse {refused.number}"
     return f"{name} {line}" + ("" if output is None else " " + digest(output))
 
 
-def replay(data):
-    """All lines of the replay program."""
+def told(given, memory):
+    """What a call gave, as its line says it: of a part, and of what was joined, the digest too."""
+    if isinstance(given, bytes):
+        return f"{len(given)} {digest(given)}"
+    words = str(given).split()
+    if words[0] == "joined":
+        start, length = map(int, words[1:])
+        words.append(digest(memory[start:start + length]))
+    return " ".join(words)
+
+
+def replay_lines(data):
+    """The lines of the replay program, one by one."""
     try:
         if len(data) > REPLAY_LIMIT:
             raise BadInput
@@ -148,16 +160,18 @@ def replay(data):
         settings, calls = reader.settings(), []
         while not reader.ended():
             calls.append(reader.call())
-        node = Node(settings)
+        node, memory = Node(settings), lent(MEMORY)
     except BadInput:
-        return ["bad input"]
+        yield "bad input"
     except Refused:
-        return ["settings refuse 1"]
-    return [answer(node, *call) for call in calls]
+        yield "settings refuse 1"
+    else:
+        for call in calls:
+            yield answer(node, memory, *call)
 
 
-def program(data):
-    """All lines of the program (R17)."""
+def program_lines(data):
+    """The lines of the program (R17), one by one."""
     try:
         if len(data) > PROGRAM_LIMIT:
             raise BadInput
@@ -166,14 +180,22 @@ def program(data):
         datagrams = [(reader.number(1), reader.field("D")) for _ in range(reader.number(2))]
         if not reader.ended():
             raise BadInput
-        node = Node(settings)
+        node, memory = Node(settings), lent(MEMORY)
     except (BadInput, Refused):
-        return ["bad input"]
-    lines = [f"datagrams {len(datagrams)}"]
+        yield "bad input"
+        return
+    yield f"datagrams {len(datagrams)}"
     for place, (interface, datagram) in enumerate(datagrams, 1):
-        words = answer(node, "receive", (interface, datagram)).split()
-        lines.append(f"{place} {words[1]} {words[-1]}")
-    return lines
+        words = answer(node, memory, "receive", (interface, 0, MEMORY, datagram)).split()
+        yield f"{place} refuse {words[2]}" if words[1] == "refuse" else f"{place} deliver {words[3]}"
+
+
+def replay(data):
+    return list(replay_lines(data))
+
+
+def program(data):
+    return list(program_lines(data))
 
 
 def text(lines):

@@ -8,6 +8,7 @@ from .formats import REPLAY_LIMIT, encode_call, encode_datagrams, encode_lists, 
 from .octets import LINK_LOCAL, LOOPBACK, forbidden, isatap_address
 from .rules import Advertisement, Settings
 from .scenarios import PREFIXES, SCENARIOS, neighbours, neighbours_moved, plain_settings, times_near_the_end
+from .scenarios_pieces import PIECE_SCENARIOS, random_cuttings, random_pieces
 
 
 def random_settings(chooser):
@@ -55,6 +56,8 @@ def mutated(chooser, data):
 def mutate_call(calls, name, data):
     data, time = mutated(calls.random, data), calls.time()
     if name == "receive":
+        calls.call(name, calls.random.choice(calls.settings.locators)[1], time, calls.random.choice((16383, 16384, 65535)), data)
+    elif name == "part":
         calls.call(name, calls.random.choice(calls.settings.locators)[1], data)
     elif name == "send":
         calls.call(name, 0, time, calls.some(8) + LINK_LOCAL if calls.random.random() < 0.1 else
@@ -79,7 +82,7 @@ def deck(chooser):
     """Every fault once, as many calls without one, and each scenario."""
     cards = [(name, fault) for name in FAULTS for fault in FAULTS[name]]
     cards += [(name, None) for name in FAULTS for _ in FAULTS[name]]
-    cards += [("scenario", scenario) for scenario in 4 * SCENARIOS + [neighbours, neighbours_moved]]
+    cards += [("scenario", scenario) for scenario in 4 * SCENARIOS + 4 * PIECE_SCENARIOS + [neighbours, neighbours_moved]]
     chooser.shuffle(cards)
     return cards
 
@@ -120,11 +123,11 @@ def bad(seed):
     if way == 0:
         return longest(REPLAY_LIMIT + chooser.choice((1, 2, 5000)))
     if way < 3:
-        return good + bytes([chooser.choice((0, 9, 10, 255))]) + bytes(chooser.randrange(9))
+        return good + bytes([chooser.choice((0, 11, 12, 255))]) + bytes(chooser.randrange(9))
     if way == 3:
         return settings[:-1] + bytes([chooser.choice((2, 255))]) + chooser.choice((b"", GLOBAL)) + encode_call("size", [bytes(4)])
     if way == 4:
-        return encode_settings(Settings([], [], [])) + b"\x09"
+        return encode_settings(Settings([], [], [])) + b"\x0b"
     if way < 7:
         routes = [operator_route(preference=chooser.randrange(3)) for _ in range(chooser.choice((0, 1, 7, 8, 9, 300)))]
         routes.insert(chooser.randrange(len(routes) + 1), operator_route(preference=chooser.choice((3, 4, 255))))
@@ -138,13 +141,15 @@ def bad(seed):
 # ---- Inputs of the program (R17)
 
 def program_input(seed):
-    """Lists of the settings and datagrams; one in eight is cut, has a byte too many or refused settings."""
+    """Lists of the settings, datagrams and pieces; one in eight is cut, has a byte too many or refused settings."""
     chooser = random.Random(seed)
     some = random_settings(chooser)
     calls = Calls(chooser, Settings(some.locators, some.prefixes, some.routers))
     for fault in chooser.sample(FAULTS["receive"], 20) + 20 * [None]:
         random_call(calls, "receive", fault)
-    data = encode_datagrams([arguments for name, arguments in calls.made if name == "receive"])
+    for scenario in (random_cuttings, random_cuttings, random_pieces):
+        scenario(calls)
+    data = encode_datagrams([(arguments[0], arguments[-1]) for name, arguments in calls.made if name == "receive"])
     way = chooser.randrange(24)
     if way == 0:
         calls.settings.locators.append((FORBIDDEN[1], 0))

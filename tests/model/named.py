@@ -3,7 +3,8 @@ import random
 from pathlib import Path
 
 from . import double_faults
-from .builders import datagram, operator_prefix, operator_route, packet
+from . import scenarios_pieces as pieces
+from .builders import datagram, operator_prefix, operator_route, packet, piece
 from .calls import Calls
 from .faults import FAULTS, GLOBAL, MULTICAST, VARIATIONS
 from .formats import REPLAY_LIMIT, encode_call, encode_datagrams, encode_lists, encode_settings, program, replay, text
@@ -91,6 +92,8 @@ NAMED = {
     "receive_refusals": lambda calls: each_fault(calls, "receive"),
     "receive_two_faults": lambda calls: each_pair(calls, "receive", 5),
     "receive_delivered": lambda calls: each_variation(calls, "receive"),
+    "part_refusals": lambda calls: each_fault(calls, "part"),
+    "part_delivered": lambda calls: each_variation(calls, "part"),
     "send_refusals": lambda calls: each_fault(calls, "send", lambda fault: fault[0] != 14),
     "send_too_big_with_message": lambda calls: each_fault(
         calls, "send", lambda fault: fault[0] == 14 and "message" not in fault[1]),
@@ -142,15 +145,62 @@ NAMED = {
     "advertise_many_options_from_unspecified": asked_from_unspecified,
     "advertise_from_nearly_unspecified": asked_from_nearly_unspecified,
     "advertisement_many_options": advertised_with_many_options,
+    "pieces_two": pieces.two_pieces,
+    "pieces_many": pieces.many_pieces,
+    "pieces_of_the_longest_payloads": pieces.longest_payloads,
+    "pieces_longer_than_the_packet": pieces.longer_than_the_packet,
+    "pieces_by_rfc_791": pieces.by_rfc_791,
+    "pieces_interleaved": pieces.interleaved,
+    "pieces_free_fields": pieces.free_fields,
+    "pieces_unfit": pieces.unfit,
+    "pieces_unfit_first": pieces.unfit_first,
+    "pieces_overlapping": pieces.overlaps,
+    "pieces_dropped_place": pieces.dropped_place,
+    "pieces_repeated": pieces.repeats,
+    "pieces_repeated_unequal": pieces.unequal_repeats,
+    "pieces_repeated_with_a_gap": pieces.repeats_with_a_gap,
+    "pieces_two_ends": pieces.two_ends,
+    "pieces_one_end": pieces.one_end,
+    "pieces_eight_places": pieces.eight_places,
+    "pieces_of_known_keys_when_full": pieces.known_key_when_full,
+    "pieces_keys": pieces.keys,
+    "pieces_destinations": pieces.destinations,
+    "pieces_30_seconds": pieces.thirty_seconds,
+    "pieces_not_renewed": pieces.not_renewed,
+    "pieces_at_earlier_times": pieces.earlier_arguments,
+    "pieces_late_by_others": pieces.late_by_others,
+    "pieces_expired_places": pieces.expired_places,
+    "pieces_expired_key": pieces.expired_key,
+    "pieces_long_ages": pieces.long_ages,
+    "pieces_near_the_end": pieces.pieces_near_the_end,
+    "pieces_joined_and_refused": pieces.joined_and_refused,
+    "pieces_joined_sources": pieces.joined_sources,
+    "pieces_routers_between": pieces.routers_between,
+    "pieces_memory_written": pieces.memory_written,
+    "pieces_memory_of_refused": pieces.memory_of_refused,
+    "pieces_last_place": pieces.last_place,
+    "pieces_left_in_memory": pieces.left_in_memory,
+    "pieces_short_memory": pieces.short_memory,
+    "pieces_numbers_before": pieces.numbers_before,
+    "pieces_parts": pieces.parts_of_pieces,
+    "pieces_wholes_between": pieces.wholes_between,
+    "pieces_others_between": pieces.others_between,
+    "pieces_cut_by_chance": lambda calls: [pieces.random_cuttings(calls) for _ in range(12)],
+    "pieces_by_chance": lambda calls: [pieces.random_pieces(calls) for _ in range(12)],
     "no_calls": lambda calls: None,
 }
 EIGHT = [(bytes((198, 18, place, 9)), interface) for place, interface in enumerate((0, 7, 255, 7, 3, 0, 128, 31))]
+NEAR = [(bytes(parts), 0) for parts in ((10, 0, 0, 1), (11, 0, 0, 1), (10, 1, 0, 1), (10, 0, 128, 1), (10, 0, 0, 3))]
+TWICE = [(bytes((10, 0, 0, 1)), 0), (bytes((10, 0, 0, 1)), 1), (bytes((10, 0, 0, 2)), 0), (bytes((10, 0, 0, 1)), 255)]
 NAMED_SETTINGS = {"double_faults": (double_faults.SETTINGS, double_faults.make),
                   "eight_locators": ({"locators": EIGHT}, each_locator), "sixteen_routers": ({"routers": numbered(1, 16)}, each_router),
                   "reporting_address": ({"reporting": GLOBAL}, lambda calls: calls.send([(14, {"more": 1})])),
                   "other_interval": ({"interval": 77}, lambda calls: [asking(calls), advertised_alone(calls)]),
                   "eight_prefixes": ({"prefixes": PREFIXES}, each_prefix), "fe80_among_prefixes": ({"prefixes": [LINK_LOCAL]}, each_prefix),
                   "prefix_twice": ({"prefixes": [PREFIXES[1], PREFIXES[0], PREFIXES[1]]}, each_prefix),
+                  "pieces_destinations_eight": ({"locators": EIGHT}, pieces.destinations),
+                  "pieces_near_destinations": ({"locators": NEAR}, pieces.destinations),
+                  "pieces_on_two_interfaces": ({"locators": TWICE}, pieces.two_interfaces),
                   "no_router": ({"routers": []}, no_router), "identification_wrap": ({"identification": 65530}, sends),
                   "send_path_sizes_large_link": ({"link": 9216}, lambda calls: path_sizes(calls, (8166, 1500, 9216))),
                   "report_plateaus_large_link": ({"link": 9216}, plateaus),
@@ -171,9 +221,9 @@ def named_inputs():
     yield from {f"advertise_{name}": good + data for name, data in longest_lists()}.items()
     yield from {f"bad_input_advertise_{name}": good + data for name, data in bad_advertisings()}.items()
     yield from {"bad_input_empty": b"", "bad_input_cut_settings": good[:11], "bad_input_cut": good[:-1],
-                "bad_input_kind_0": good + b"\0", "bad_input_kind_9": good + b"\x09" + bytes(70), "bad_input_flag": encode_settings(plain_settings())[:-1] + b"\2",
+                "bad_input_kind_0": good + b"\0", "bad_input_kind_11": good + b"\x0b" + bytes(70), "bad_input_flag": encode_settings(plain_settings())[:-1] + b"\2",
                 "bad_input_flag_before_address": encode_settings(plain_settings())[:-1] + b"\2" + GLOBAL,
-                "bad_input_refused_settings": encode_settings(plain_settings(ttl=0)) + b"\x09",
+                "bad_input_refused_settings": encode_settings(plain_settings(ttl=0)) + b"\x0b",
                 "bad_input_refused_settings_preference_3":
                     encode_settings(plain_settings(ttl=0)) + advertising(Advertisement(routes=[operator_route(preference=3)])),
                 "bad_input_reporting_cut": encode_settings(plain_settings(reporting=GLOBAL))[:-1]}.items()
@@ -235,6 +285,12 @@ def program_inputs():
     yield "refused_settings", encode_lists(Settings([(own, 0)], [], [own])) + encode_datagrams(example)
     for name, length in (("of_65536_bytes", 2), ("of_65537_bytes", 3)):
         yield name, start + encode_datagrams([(0, bytes(65515)), (0, bytes(length))])
+    inner = packet(link_local(peer), link_local(own), bytes(range(50)))
+    first, last = ([(0, piece(part, at, more, peer, own, identification=u16(key))) for key in range(10)]
+                   for part, at, more in ((inner[:32], 0, True), (inner[32:], 32, False)))
+    yield "pieces", start + encode_datagrams([first[0], last[0], last[0], last[0], first[0], first[1], (1, last[1][1]), (0, b""), last[1]])
+    yield "pieces_of_ten_keys", start + encode_datagrams(first + first + last[2:9] + first[8:] + last)
+    yield "pieces_far_apart", start + encode_datagrams(first[:1] + 70 * example[:1] + last[:1])
 
 
 BATCHES = range(1, 13)                                        # seeds
@@ -261,9 +317,9 @@ def expected(batches=True):
 
 # ---- Stored data
 
-STORED_LAST = ("long_ages", "times_near_the_end")             # they leave no time for others
+STORED_LAST = ("long_ages", "times_near_the_end", "pieces_near_the_end")  # they leave no time for others
 NOT_STORED = ("longest_packets", "longest_lifetime", "neighbours_64", "neighbours_65", "neighbours_64_reported_again",
-              "identifications")                              # long, or shown by others
+              "identifications", "pieces_of_the_longest_payloads", "pieces_by_rfc_791", "pieces_two")  # long, or shown by others
 
 
 def stored():

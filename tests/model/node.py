@@ -1,7 +1,8 @@
 """The node: one tunnel end. Path sizes are the plain record: every accepted report, in order."""
-from .octets import LINK_LOCAL, checksum_right, dotted, forbidden, number, pseudo_header
-from .rules import check_solicitation, gets_no_message, inner_length, inner_source_bad, need, outer_header, reported_candidate
-from .rules import router_advertisement, smallest_lifetime, solicitation, too_big_message, wrapped
+from .joining import Collection, Piece
+from .octets import LINK_LOCAL, checksum_right, dotted, forbidden, pseudo_header
+from .rules import Refused, check_solicitation, gets_no_message, inner_length, inner_source_bad, is_whole, need, outer_header
+from .rules import reported_candidate, router_advertisement, smallest_lifetime, solicitation, too_big_message, wrapped
 
 
 class Node:
@@ -12,6 +13,7 @@ class Node:
         self.record = []                                      # (neighbour, candidate, latest time)
         self.routers = [(router, 0) for router in settings.routers]  # At setup all are due at time 0 (R2.12)
         self.identification = settings.identification
+        self.collection = Collection()
 
     def raise_time(self, time):
         """An earlier one is read as the latest (R1.10)."""
@@ -33,21 +35,47 @@ class Node:
             others.add(reporter)
         return self.settings.link
 
-    def receive(self, interface, datagram):
-        """Order 2 to 10 (R5.1); where the inner packet starts, and its length."""
+    def outer(self, interface, datagram):
+        """2, 3, 4, 6, 7 of receiving, in this order; the header's length and the total length."""
         header, total = outer_header(datagram)
         need(checksum_right(datagram[:header]), 3)
         need(datagram[9] == 41, 4)
-        need(number(datagram[6:8]) & 0x3fff == 0, 5)
         need((datagram[16:20], interface) in self.settings.locators, 6)
         outer_source = datagram[12:16]
         need(not forbidden(outer_source), 7)
-        length = inner_length(datagram[header:total])
-        source = datagram[header + 8:header + 24]
+        return header, total
+
+    def inner(self, payload, outer_source):
+        """8, 9, 10 of receiving, in this order; the inner packet's length."""
+        length = inner_length(payload)
+        source = payload[8:24]
         need(not inner_source_bad(source), 9)
         embeds = self.settings.isatap(source) and source[12:] == outer_source
         need(embeds or self.listed(outer_source), 10)
-        return f"deliver {header} {length}"
+        return length
+
+    def receive(self, interface, time, memory, datagram):
+        """The call for the number: order 15, 2, 3, 4, 6, 7, then that of a whole datagram or of a piece (R23.1); where the inner packet
+        starts, in the datagram or in the memory, and its length."""
+        self.raise_time(time)
+        need(len(memory) >= 16384, 15)
+        header, total = self.outer(interface, datagram)
+        if is_whole(datagram):
+            length = self.inner(datagram[header:total], datagram[12:16])
+            return f"deliver {header} {length}"
+        joined = self.collection.take(Piece(datagram, header, total), self.latest, memory)
+        length = self.inner(bytes(joined.within(memory)[:joined.end()]), joined.key[0])
+        return f"joined {2048 * joined.place} {length}"
+
+    def part(self, interface, datagram):
+        """The call for the part, by R5 alone: empty for whatever number, and for every piece (R23.18)."""
+        try:
+            header, total = self.outer(interface, datagram)
+            need(is_whole(datagram), 5)
+            length = self.inner(datagram[header:total], datagram[12:16])
+        except Refused:
+            return b""
+        return datagram[header:header + length]
 
     def send(self, index, time, next_hop, output, packet):
         """Order 8, 11, 12, 13, 14, 23, 15 (R7.1); writes into `output`."""

@@ -88,6 +88,11 @@ def outer_header(datagram):
     return header, total
 
 
+def is_whole(datagram):
+    """More-fragments is clear and the offset is 0 (R5.6)."""
+    return number(datagram[6:8]) & 0x3fff == 0
+
+
 def inner_length(packet):
     """40 + payload length; 8 if malformed as in receiving."""
     need(len(packet) >= 40, 8)

@@ -6,6 +6,7 @@ from .faults import FORBIDDEN, GLOBAL, PLATEAU_BELOW
 from .formats import lent
 from .node import Node
 from .octets import LINK_LOCAL, LOOPBACK, UNSPECIFIED, dotted, isatap_address, link_local, number, pseudo_header, u16
+from .pieces import DROPS, FULL, UNFIT, Whole
 from .rules import Advertisement, Settings, router_advertisement, solicitation, too_big_message, wrapped
 
 PREFIXES = [bytes.fromhex(text) for text in ("20010db800000001", "20010db800000002", "2002c00002010000", "fec0000000000000",
@@ -19,13 +20,14 @@ def plain_settings(**changes):
 
 
 REFUSED_AT_ONCE = [("report", (b"",), "refuse 16"), ("send", (bytes(16), 3, b""), "refuse 8"), ("ask", (60,), "refuse 11"),
-                   ("routers", ([bytes(4)],), "refuse 1"), ("advertisement", (bytes(39),), "refuse 8")]
+                   ("routers", ([bytes(4)],), "refuse 1"), ("advertisement", (bytes(39),), "refuse 8"),
+                   ("receive", (16383, b""), "refuse 15"), ("receive", (16384, b""), "refuse 2")]
 
 
 def raise_time(calls, time, way=None):
     """Any call with a time raises the latest time, also a refused one."""
     name, rest, want = way or calls.random.choice(REFUSED_AT_ONCE)
-    number = (255,) if name in ("send", "ask") else ()
+    number = (255,) if name in ("send", "ask", "receive") else ()
     calls.call(name, *number, time, *rest, want=want)
 
 
@@ -94,9 +96,25 @@ def refused_calls():
     yield lambda calls, time: calls.advertisement([(21, {"source6": link_local(calls.fresh())})], time=time)
 
 
+def received_calls():
+    """Each answer of receiving's call for the number, as a call at a given time, up to a second after those that it needs before it."""
+    for number, changes in ((15, {"room": 16383}), (2, {"version": 5}), (3, {"spoil": 1}), (4, {"protocol": 4}), (7, {"source": FORBIDDEN[1]}),
+                            (6, {"interface": lambda calls, f: calls.other_interface(f["destination"])}), (8, {"version6": 4}),
+                            (9, {"source6": UNSPECIFIED}), (10, {"source6": GLOBAL})):
+        yield lambda calls, time, fault=(number, changes): calls.receive([fault], time=time)
+    yield lambda calls, time: calls.receive(time=time)
+    yield lambda calls, time: Whole(calls).begin(time=time)
+    for part, want in (((0, 8), "refuse 27"), ((8, 16), "refuse 27"), ((0, 16), DROPS), ((0, 9, True), UNFIT), ((8, 64), "joined")):
+        yield lambda calls, time, part=part, want=want: Whole(calls).begin(time=time - 1).give(*part, time=time, want=want)
+    for number, payload in ((8, bytes(64)), (9, packet(UNSPECIFIED, GLOBAL)), (10, packet(GLOBAL, GLOBAL))):
+        yield lambda calls, time, payload=payload, want=f"refuse {number}": Whole(calls, payload=payload).begin(time=time - 1).give(
+            8, len(payload), time=time, want=want)
+    yield lambda calls, time: [Whole(calls).begin(time=time - 1, want="") for _ in range(8)] + [Whole(calls).begin(time=time, want=FULL)]
+
+
 def times_raised_by_refused_calls(calls):
     """A size is in force in its last second and gone in the next, whichever call comes then and whatever number it is given."""
-    for refused in refused_calls():
+    for refused in (*refused_calls(), *received_calls()):
         neighbour, start = calls.fresh(), calls.node.latest
         calls.report(neighbour=neighbour, candidate=500, time=start)
         refused(calls, start + 599)
@@ -335,7 +353,7 @@ def earlier_times(calls):
                 lambda time: calls.report(neighbour=calls.fresh(), time=time), lambda time: ask(calls, time=time, want=dotted(router)),
                 lambda time: calls.call("routers", time, [router], want="accepted 1"),
                 lambda time: calls.advertisement(router=router, lifetime=0, options=[], time=time),
-                *[lambda time, refused=refused: refused(calls, time) for refused in list(refused_calls())[:13]]):
+                *[lambda time, refused=refused: refused(calls, time) for refused in (*list(refused_calls())[:13], *received_calls())]):
         neighbour, start = calls.fresh(), calls.node.latest
         calls.report(neighbour=neighbour, candidate=500, time=start)
         raise_time(calls, start + 600)
@@ -398,7 +416,7 @@ def router_lists(calls):
     seventeen = [calls.fresh() for _ in range(17)]
     for refused in ([calls.random.choice(FORBIDDEN)], [kept[0], new[0], kept[0]], [kept[2], own], seventeen):
         calls.call("routers", calls.time(), refused, want="refuse 1")
-    calls.call("receive", 0, b"", want="refuse 2")
+    calls.call("receive", 0, 0, 16384, b"", want="refuse 2")
     for router in (kept[2], new[0], new[1]):
         ask(calls, want=dotted(router) if calls.settings.interval > 30 else "")
     ask(calls)

@@ -4,18 +4,37 @@ from .edits import swapped, wrong
 wrong("node", "order of receiving: 3 before 2", "        header, total = outer_header(datagram)\n",
       "        need(len(datagram) < 20 or checksum_right(datagram[:4 * (datagram[0] & 15)]), 3)\n        header, total = outer_header(datagram)\n")
 swapped("order of receiving: 4 before 3", "need(checksum_right(datagram[:header]), 3)", "need(datagram[9] == 41, 4)")
-swapped("order of receiving: 5 before 4", "need(datagram[9] == 41, 4)", "need(number(datagram[6:8]) & 0x3fff == 0, 5)")
-swapped("order of receiving: 6 before 5", "need(number(datagram[6:8]) & 0x3fff == 0, 5)",
-        "need((datagram[16:20], interface) in self.settings.locators, 6)")
+swapped("order of receiving: 6 before 4", "need(datagram[9] == 41, 4)", "need((datagram[16:20], interface) in self.settings.locators, 6)")
 wrong("node", "order of receiving: 7 before 6", "        need((datagram[16:20], interface) in self.settings.locators, 6)\n",
       "        need(not forbidden(datagram[12:16]), 7)\n        need((datagram[16:20], interface) in self.settings.locators, 6)\n")
-swapped("order of receiving: 8 before 7", "need(not forbidden(outer_source), 7)", "length = inner_length(datagram[header:total])")
-wrong("node", "order of receiving: 9 before 8", "        length = inner_length(datagram[header:total])\n",
-      "        need(total - header < 40 or not inner_source_bad(datagram[header + 8:header + 24]), 9)\n"
-      "        length = inner_length(datagram[header:total])\n")
+wrong("node", "order of receiving: 8 before 7", "        need(not forbidden(outer_source), 7)\n",
+      "        inner_length(datagram[header:total] if is_whole(datagram) else b'\\x60' + bytes(39))\n        need(not forbidden(outer_source), 7)\n")
+wrong("node", "order of receiving: 9 before 8", "        length = inner_length(payload)\n",
+      "        need(len(payload) < 40 or not inner_source_bad(payload[8:24]), 9)\n        length = inner_length(payload)\n")
 wrong("node", "order of receiving: 10 before 9", "        need(not inner_source_bad(source), 9)\n",
       "        need(self.settings.isatap(source) and source[12:] == outer_source or self.listed(outer_source), 10)\n"
       "        need(not inner_source_bad(source), 9)\n")
+for name, test in (("2", "outer_header(datagram)"), ("3", "need(len(datagram) < 20 or checksum_right(datagram[:4 * (datagram[0] & 15)]), 3)"),
+                   ("6", "need(len(datagram) < 20 or (datagram[16:20], interface) in self.settings.locators, 6)"),
+                   ("7", "need(len(datagram) < 20 or not forbidden(datagram[12:16]), 7)"), ("2 to 7", "self.outer(interface, datagram)")):
+    wrong("node", f"order of receiving: {name} before 15", "        need(len(memory) >= 16384, 15)\n",
+          f"        {test}\n        need(len(memory) >= 16384, 15)\n")
+wrong("node", "order of receiving: 30 before 2", "        header, total = outer_header(datagram)\n",
+      "        len(datagram) < 20 or is_whole(datagram) or Piece(datagram, 20, int.from_bytes(datagram[2:4], 'big')).check()\n"
+      "        header, total = outer_header(datagram)\n")
+for number, line in ((3, "need(checksum_right(datagram[:header]), 3)"), (4, "need(datagram[9] == 41, 4)"),
+                     (6, "need((datagram[16:20], interface) in self.settings.locators, 6)"), (7, "need(not forbidden(outer_source), 7)")):
+    wrong("node", f"order of receiving: 30 before {number}", f"        {line}\n",
+          f"        is_whole(datagram) or Piece(datagram, header, total).check()\n        {line}\n")
+CHECKED, KNOWN = "        piece.check()\n", "        datagram = next((one for one in self.live(now) if one.key == piece.key), None)\n"
+wrong("joining", "order of receiving: 29 and 27 before 30", CHECKED + KNOWN,
+      KNOWN + "        datagram is None or self.compare(datagram, piece, memory)\n" + CHECKED)
+wrong("joining", "order of receiving: 28 before 30", CHECKED + KNOWN, KNOWN + "        datagram or self.lowest(now)\n" + CHECKED)
+wrong("joining", "order of receiving: 28 before 29", KNOWN, "        self.lowest(now)\n" + KNOWN)
+wrong("joining", "order of receiving: 27 before 29", "        if datagram.disagrees(piece):\n",
+      "        if octets <= held:\n            raise Refused(27)\n        if datagram.disagrees(piece):\n")
+wrong("node", "order of receiving: 8 to 10 before 27", "        joined = self.collection.take(",
+      "        datagram[6:8] == b' \\0' and self.inner(datagram[header:total], datagram[12:16])\n        joined = self.collection.take(")
 wrong("node", "order of sending: 11 before 8", "        need(inner_length(packet) == len(packet), 8)\n",
       "        self.locator(index)\n        need(inner_length(packet) == len(packet), 8)\n")
 swapped("order of sending: 12 before 11", "source = self.locator(index)", "need(self.settings.isatap(next_hop), 12)")
@@ -36,7 +55,7 @@ wrong("node", "order of sending: 8 last of all",
 wrong("node", "order of reports: 17 before 16", "        need(checksum_right(message), 16)\n",
       "        need(self.settings.own(message[20:24]) and message[17] == 41, 17)\n        need(checksum_right(message), 16)\n")
 wrong("node", "order of reports: 18 before 16", "        need(checksum_right(message), 16)\n",
-      "        need(not 1 <= number(message[6:8]) < 68, 18)\n        need(checksum_right(message), 16)\n")
+      "        need(not 1 <= int.from_bytes(message[6:8], 'big') < 68, 18)\n        need(checksum_right(message), 16)\n")
 wrong("node", "order of reports: 18 before 17", "        neighbour = quoted[16:20]\n",
       "        need(reported_candidate(message, quoted) >= 68, 18)\n        neighbour = quoted[16:20]\n")
 wrong("node", "order of reports: 19 before 17", "        neighbour = quoted[16:20]\n",

@@ -1,6 +1,8 @@
 """Wrong receivers."""
 from .edits import wrong
 
+WHOLE = "length = self.inner(datagram[header:total], datagram[12:16])\n            return f\"deliver"
+
 for name, old, new in (
         ("outer version not asked", "need(datagram[0] >> 4 == 4, 2)", "pass"),
         ("outer version below 4 taken", "need(datagram[0] >> 4 == 4, 2)", "need(datagram[0] >> 4 <= 4, 2)"),
@@ -55,13 +57,15 @@ for name, old, new in (
          "need(checksum_right(datagram[:header]) and datagram[10:12] != b'\\xff\\xff', 3)"),
         ("outer protocol not asked", "need(datagram[9] == 41, 4)", "pass"),
         ("outer protocol 4 too", "need(datagram[9] == 41, 4)", "need(datagram[9] in (4, 41), 4)"),
-        ("pieces taken", "need(number(datagram[6:8]) & 0x3fff == 0, 5)", "pass"),
-        ("first piece taken", "& 0x3fff == 0, 5)", "& 0x1fff == 0, 5)"),
-        ("last piece taken", "& 0x3fff == 0, 5)", "& 0x2000 == 0, 5)"),
-        ("offset read from its second byte", "& 0x3fff == 0, 5)", "& 0x20ff == 0, 5)"),
-        ("offset without its highest bit", "& 0x3fff == 0, 5)", "& 0x2fff == 0, 5)"),
-        ("don't-fragment taken for a piece", "& 0x3fff == 0, 5)", "& 0x7fff == 0, 5)"),
-        ("reserved flag taken for a piece", "& 0x3fff == 0, 5)", "& 0xbfff == 0, 5)"),
+        ("outer checksum not asked of a piece", "need(checksum_right(datagram[:header]), 3)",
+         "need(not is_whole(datagram) or checksum_right(datagram[:header]), 3)"),
+        ("outer protocol not asked of a piece", "need(datagram[9] == 41, 4)", "need(not is_whole(datagram) or datagram[9] == 41, 4)"),
+        ("locator not matched for a piece", "need((datagram[16:20], interface) in self.settings.locators, 6)",
+         "need(not is_whole(datagram) or (datagram[16:20], interface) in self.settings.locators, 6)"),
+        ("locator of a piece matched by its address alone", "need((datagram[16:20], interface) in self.settings.locators, 6)",
+         "need(self.settings.own(datagram[16:20]) and not is_whole(datagram) or (datagram[16:20], interface) in self.settings.locators, 6)"),
+        ("forbidden outer source of a piece taken", "need(not forbidden(outer_source), 7)",
+         "need(not is_whole(datagram) or not forbidden(outer_source), 7)"),
         ("locator matched by address alone", "need((datagram[16:20], interface) in self.settings.locators, 6)",
          "need(self.settings.own(datagram[16:20]), 6)"),
         ("locator matched by interface alone", "need((datagram[16:20], interface) in self.settings.locators, 6)",
@@ -77,10 +81,8 @@ for name, old, new in (
          "need(not forbidden(outer_source) and not self.settings.own(outer_source), 7)"),
         ("a listed router's bad inner source taken", "need(not inner_source_bad(source), 9)",
          "need(self.listed(outer_source) or not inner_source_bad(source), 9)"),
-        ("inner packet read up to the end of the bytes", "length = inner_length(datagram[header:total])",
-         "length = inner_length(datagram[header:])"),
-        ("inner packet read 20 bytes in, whatever the options", "        length = inner_length(datagram[header:total])\n",
-         "        header = 20\n        length = inner_length(datagram[header:total])\n"),
+        ("inner packet read up to the end of the bytes", WHOLE, WHOLE.replace("header:total", "header:")),
+        ("inner packet read 20 bytes in, whatever the options", WHOLE, "header = 20\n            " + WHOLE),
         ("inner length from the IPv4 length, so that padding is delivered", "return f\"deliver {header} {length}\"",
          "return f\"deliver {header} {total - header}\""),
         ("delivered up to the end of the bytes", "return f\"deliver {header} {length}\"",
@@ -105,3 +107,49 @@ for name, old, new in (
         ("sixteenth listed router not admitted", "return address in [router for router, _ in self.routers]",
          "return address in [router for router, _ in self.routers[:15]]")):
     wrong("node", "receiving: " + name, old, new)
+
+# ---- Which datagram is a piece
+
+for name, new in (("no piece", "True"), ("first piece taken for whole", "number(datagram[6:8]) & 0x1fff == 0"),
+                  ("last piece taken for whole", "number(datagram[6:8]) & 0x2000 == 0"),
+                  ("offset read from its second byte", "number(datagram[6:8]) & 0x20ff == 0"),
+                  ("offset without its highest bit", "number(datagram[6:8]) & 0x2fff == 0"),
+                  ("offset without its lowest bit", "number(datagram[6:8]) & 0x3ffe == 0"),
+                  ("don't-fragment taken for a piece", "number(datagram[6:8]) & 0x7fff == 0"),
+                  ("reserved flag taken for a piece", "number(datagram[6:8]) & 0xbfff == 0"),
+                  ("every datagram a piece", "False")):
+    wrong("rules", "receiving: " + name, "return number(datagram[6:8]) & 0x3fff == 0", f"return {new}")
+
+# ---- The call for the part
+
+PART = "            length = self.inner(datagram[header:total], datagram[12:16])\n        except Refused:\n            return b\"\"\n"
+GIVEN = "return datagram[header:header + length]"
+for name, old, new in (
+        ("of a piece too", "            need(is_whole(datagram), 5)\n", ""),
+        ("of a first piece too", "need(is_whole(datagram), 5)", "need(is_whole(datagram) or datagram[6] & 0x20, 5)"),
+        ("of a last piece too", "need(is_whole(datagram), 5)", "need(not datagram[6] & 0x20, 5)"),
+        ("of a piece its payload", "            need(is_whole(datagram), 5)\n",
+         "            if not is_whole(datagram):\n                return datagram[header:total]\n"),
+        ("of the piece that completes", "        try:\n            header, total = self.outer(interface, datagram)\n            need(is_whole",
+         "        try:\n            header, total = self.outer(interface, datagram)\n            if not is_whole(datagram) and any("
+         "one.key == Piece(datagram, header, total).key for one in self.collection.live(self.latest)):\n"
+         "                return datagram[header:total]\n            need(is_whole"),
+        ("always empty", GIVEN, "return b''"),
+        ("the whole datagram", GIVEN, "return datagram"),
+        ("up to the total length", GIVEN, "return datagram[header:total]"),
+        ("up to the end of the bytes", GIVEN, "return datagram[header:]"),
+        ("from byte 20 on", GIVEN, "return datagram[20:20 + length]"),
+        ("a byte less", GIVEN, "return datagram[header:header + length - 1]"),
+        ("without the inner header", GIVEN, "return datagram[header + 40:header + length]"),
+        ("of what 2 to 7 refuse", "            header, total = self.outer(interface, datagram)\n            need(is_whole",
+         "            header, total = outer_header(datagram)\n            need(is_whole"),
+        ("of what 8 to 10 refuse", PART, PART.replace("self.inner(datagram[header:total], datagram[12:16])", "inner_length(datagram[header:total])")),
+        ("what remains, of a malformed packet", PART, PART.replace("return b\"\"", "return datagram[20:]")),
+        ("a piece is taken", "            need(is_whole(datagram), 5)\n",
+         "            is_whole(datagram) or self.collection.take(Piece(datagram, header, total), self.latest, memoryview(bytearray(16384)))\n"
+         "            need(is_whole(datagram), 5)\n"),
+        ("a piece drops its datagram", "            need(is_whole(datagram), 5)\n",
+         "            if not is_whole(datagram):\n                self.collection.datagrams = [one for one in self.collection.datagrams"
+         " if one.key != Piece(datagram, header, total).key]\n            need(is_whole(datagram), 5)\n"),
+        ("the time raised", "            need(is_whole(datagram), 5)\n", "            self.raise_time(self.latest + 1)\n            need(is_whole(datagram), 5)\n")):
+    wrong("node", "part: " + name, old, new)

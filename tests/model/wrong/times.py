@@ -1,7 +1,7 @@
 """Wrong latest times and due times."""
 from .edits import ANSWERED, wrong
 
-START = {"send": "writes into `output`.", "report": "of the record.", "replace_routers": "a new one is due now (R2.13).",
+START = {"receive": "or in the memory, and its length.", "send": "writes into `output`.", "report": "of the record.", "replace_routers": "a new one is due now (R2.13).",
          "ask": "lowest place on a tie (R13.1, R13.3).", "advertisement": "follows from the smallest lifetime."}
 
 
@@ -15,10 +15,12 @@ for call, comment in START.items():
     wrong("node", f"time: not raised by {call}", start, f"{comment}\"\"\"\n")
     wrong("node", f"time: {call} goes back to an earlier one", start, f"{comment}\"\"\"\n        self.latest = time\n")
     unraised(f"time: not raised by a refused call of {call}", f"name == {call.replace('replace_', '')!r} and line.startswith('refuse')")
-for call, numbers in (("send", (8, 11, 12, 13, 15)), ("report", (16, 17, 18, 19)), ("ask", (11, 22, 15)), ("advertisement", (8, 20, 21))):
+for call, numbers in (("receive", (15, 2, 3, 4, 6, 7, 8, 9, 10, 30, 29, 28, 27)), ("send", (8, 11, 12, 13, 15)), ("report", (16, 17, 18, 19)), ("ask", (11, 22, 15)), ("advertisement", (8, 20, 21))):
     for given in numbers:
         unraised(f"time: not raised by {call} refused with {given}", f"name == {call!r} and line == 'refuse {given}'")
 unraised("time: not raised by a Too Big", "line.startswith('too-big')")
+unraised("time: not raised by a whole datagram that is delivered", "line.startswith('deliver')")
+unraised("time: not raised by the piece that completes", "line.startswith('joined')")
 wrong("node", "time: the first one kept", "self.latest = max(self.latest, time)", "self.latest = self.latest or time")
 wrong("node", "time: compared as signed", "self.latest = max(self.latest, time)",
       "self.latest = max(self.latest, time, key=lambda one: one ^ 0x80000000)")
