@@ -2,12 +2,12 @@
 
 use crate::check::Check;
 use crate::measure::Row;
-use crate::nodes::Nodes;
 use crate::packets::{address, advertisement, datagram, option, packet, put, put16, put32};
 use crate::packets::{repair_outer, size_report, solicitation};
 use crate::plain::rules::link_local;
 use crate::plain::Address;
-use crate::work::{nodes, work, Advertised, Call, Turn, Work, KEPT, OTHER, OWN, PREFIXES, ROOM, ROUTERS};
+use crate::work::{nodes, work, Advertised, Call, Turn, Work, INTERFACE, START};
+use crate::work::{KEPT, OTHER, OWN, PREFIXES, ROOM, ROUTERS};
 use crate::{inside, plain_way, pointer_way};
 use bogtrumpet::raw::{AdvertisedPrefix, AdvertisedRoute, Advertisement};
 
@@ -35,7 +35,6 @@ fn refused(check: &mut Check, turn: u32, number: u8) -> Vec<u8> {
         2 => put16(&mut d, 2, 85),
         3 => d[8] ^= 1,
         4 => d[9] = 17,
-        5 => put16(&mut d, 6, 0x2000),
         6 => put32(&mut d, 16, OWN + 1),
         7 => put32(&mut d, 12, 0x7f00_0001 + turn),
         8 => put16(&mut d, 24, 25),
@@ -54,12 +53,55 @@ fn receives(check: &mut Check) -> Vec<Work> {
         let nodes = nodes(check, 0);
         works.push(work(format!("receive {length}"), Call::Receive, 0, nodes, |turn| delivered(check, turn, length)));
     }
-    for number in 2..=10 {
+    for number in [2, 3, 4, 6, 7, 8, 9, 10] {
         let nodes = nodes(check, 0);
         let name = format!("receive, refused by {number}");
         works.push(work(name, Call::Receive, number, nodes, |turn| refused(check, turn, number)));
     }
     works
+}
+
+/// The pieces, of these lengths, of a datagram that is delivered.
+fn cut(check: &mut Check, turn: u32, lengths: &[usize]) -> Vec<Vec<u8>> {
+    let (source, inner_source) = passing(turn);
+    let payload = packet(&mut check.random, lengths.iter().sum(), 17, &inner_source);
+    let mut at = 0;
+    let mut pieces = Vec::new();
+    for length in lengths {
+        let end = at + length;
+        let mut piece = datagram(&mut check.random, (source, OWN), 0, &payload[at..end], 0);
+        put16(&mut piece, 4, turn as u16);
+        put16(&mut piece, 6, (at / 8) as u16 | u16::from(end < payload.len()) << 13);
+        repair_outer(&mut piece);
+        pieces.push(piece);
+        at = end;
+    }
+    pieces
+}
+
+/// The numbered piece of each of four datagrams that are cut so, of which so many pieces have come.
+fn piece(check: &mut Check, name: &str, lengths: &[usize], come: usize, next: usize) -> Work {
+    let mut nodes = nodes(check, 0);
+    let cuttings = [0, 1, 2, 3].map(|turn| cut(check, turn, lengths));
+    for piece in cuttings.iter().flat_map(|pieces| &pieces[..come]) {
+        assert_eq!(nodes.receive(check, piece, INTERFACE, START), Err(27));
+    }
+    let (call, number) = if next + 1 == lengths.len() { (Call::Last, 0) } else { (Call::Piece, 27) };
+    work(name.into(), call, number, nodes, |turn| cuttings[turn as usize][next].clone())
+}
+
+/// A first piece, whose key comes again when its last datagram is 32 s old; one that has come already; such as complete their datagram.
+fn pieces(check: &mut Check) -> Vec<Work> {
+    let mut first = piece(check, "piece 512, first of two", &[512, 512], 0, 0);
+    first.step = 8;
+    let nine = [56, 56, 56, 56, 56, 56, 56, 56, 52];
+    vec![
+        first,
+        piece(check, "piece 512, come already", &[512, 512], 1, 0),
+        piece(check, "piece 512, last of two", &[512, 512], 1, 1),
+        piece(check, "piece 28 behind 1472", &[1472, 28], 1, 1),
+        piece(check, "piece 52, last of nine", &nine, 8, 8),
+    ]
 }
 
 /// Four packets to a next hop that a full path table keeps.
@@ -161,11 +203,18 @@ fn advertises(check: &mut Check) -> Vec<Work> {
 
 /// Makes the calls of some turns on both nodes: answers, outputs and next states must be the same, and the number the row's.
 fn compare(check: &mut Check, work: &Work) {
-    let mut nodes = Nodes { library: work.nodes.library, plain: work.nodes.plain };
+    let mut nodes = work.nodes.clone();
     for turn in 0..256 {
-        let Turn { input, next_hop, advertised, interface, locator, time, .. } = work.turn(turn, &mut []);
+        let Turn { input, next_hop, advertised, interface, locator, time, place, .. } =
+            work.turn(turn, &mut [], &mut []);
         let number = match work.call {
-            Call::Receive => nodes.receive(check, input, interface),
+            Call::Receive | Call::Piece => nodes.receive(check, input, interface, time).err().unwrap_or(0),
+            Call::Last => {
+                let answer = nodes.receive(check, input, interface, time);
+                nodes.library.service.pieces.places[place] = work.nodes.library.service.pieces.places[place];
+                nodes.plain.places_mut()[place] = work.nodes.plain.places()[place];
+                answer.err().unwrap_or(0)
+            }
             Call::Send => nodes.send(check, input, *next_hop, locator, time, ROOM),
             Call::Report => nodes.report(check, input, time),
             Call::Ask => nodes.ask(check, locator, time, ROOM),
@@ -178,6 +227,7 @@ fn compare(check: &mut Check, work: &Work) {
 
 pub fn rows(check: &mut Check) -> Vec<Row> {
     let mut works = receives(check);
+    works.extend(pieces(check));
     works.extend(sends(check));
     works.extend(reports(check));
     works.push(ask(check));

@@ -2,14 +2,24 @@
 
 use crate::measure::Turns;
 use crate::nodes::number;
-use crate::plain::Sent;
+use crate::plain::{Received, Sent};
 use crate::work::{Call, Turn, Work, INTERFACE, LOCATOR, ROOM, START};
 use bogtrumpet::raw::{Address, Node, Paths};
 use std::hint::black_box;
 
 // Each gives the sum of what its calls answer: a refused one its number, another its length or size.
 extern "C" {
-    fn bench_receive(node: Node, all: *const u8, length: usize, size: usize, interface: u8, count: u32) -> u64;
+    fn bench_receive(
+        node: Node,
+        all: *const u8,
+        length: usize,
+        size: usize,
+        interface: u8,
+        time: u32,
+        memory: *mut u8,
+        memory_length: usize,
+        count: u32,
+    ) -> u64;
     fn bench_send(
         node: Node,
         all: *const u8,
@@ -38,27 +48,33 @@ pub fn sizes(table: &Paths, link: u16, first: u32, count: u32, now: u32) -> u64 
 }
 
 /// The sum of what so many calls answer, of a kind of call that has a loop.
-fn many(work: &Work, out: &mut [u8], count: u32) -> Option<u64> {
+fn many(work: &Work, memory: &mut [u8], out: &mut [u8], count: u32) -> Option<u64> {
     let (node, all, length) = (work.nodes.library, work.all.as_ptr(), work.all.len());
     let (size, next_hop) = (length / 4, Address { bytes: work.next_hop });
+    let (bytes, lent) = (memory.as_mut_ptr(), memory.len());
     let (output, room) = (out.as_mut_ptr(), out.len());
     unsafe {
         match work.call {
-            Call::Receive => Some(bench_receive(node, all, length, size, INTERFACE, count)),
+            Call::Receive => Some(bench_receive(node, all, length, size, INTERFACE, START, bytes, lent, count)),
             Call::Send => Some(bench_send(node, all, length, size, next_hop, LOCATOR, START, output, room, count)),
-            Call::Report | Call::Ask | Call::Hear | Call::Advertise => None,
+            Call::Piece | Call::Last | Call::Report | Call::Ask | Call::Hear | Call::Advertise => None,
         }
     }
 }
 
 /// The sum in plain Rust.
-fn plain_many(work: &Work, out: &mut [u8], count: u32) -> u64 {
+fn plain_many(work: &Work, memory: &mut [u8], out: &mut [u8], count: u32) -> u64 {
     let mut node = work.nodes.plain;
     let mut sum = 0;
     for turn in 0..count {
-        let Turn { input, next_hop, advertised, interface, locator, time, out } = work.turn(turn, out);
+        let Turn { input, next_hop, advertised, interface, locator, time, memory, out, .. } =
+            work.turn(turn, memory, out);
         let answer = match work.call {
-            Call::Receive => node.receive(input, interface).map(|part| part.len() as u64),
+            Call::Receive | Call::Piece | Call::Last => {
+                node.receive(input, interface, time, memory).map(|received| match received {
+                    Received::Whole(part) | Received::Joined(part) => part.len() as u64,
+                })
+            }
             Call::Send => node.send(input, next_hop, locator, time, out).map(|sent| match sent {
                 Sent::Wrapped { length } => length as u64,
                 Sent::TooBig { size, .. } => size.into(),
@@ -77,18 +93,20 @@ fn plain_many(work: &Work, out: &mut [u8], count: u32) -> u64 {
 fn compare(work: &Work) {
     for count in [0, 1, 2, 3, 255, 256] {
         let (mut plain, mut library) = ([0x55; ROOM], [0x55; ROOM]);
-        let sums = (Some(plain_many(work, &mut plain, count)), many(work, &mut library, count));
-        assert_eq!(sums.0, sums.1, "{} {count} times", work.name);
-        assert!(plain == library, "{} {count} times: outputs", work.name);
+        let mut memories = [work.nodes.memory.clone(), work.nodes.memory.clone()];
+        let expected = plain_many(work, &mut memories[0], &mut plain, count);
+        let sum = many(work, &mut memories[1], &mut library, count);
+        assert_eq!(Some(expected), sum, "{} {count} times", work.name);
+        assert!(plain == library && memories[0] == memories[1], "{} {count} times: outputs", work.name);
     }
 }
 
 pub fn way(work: &'static Work) -> Option<Turns> {
-    let mut out = vec![0; ROOM];
-    many(work, &mut out, 0)?;
+    let (mut memory, mut out) = (work.nodes.memory.clone(), vec![0; ROOM]);
+    many(work, &mut memory, &mut out, 0)?;
     compare(work);
     Some(Box::new(move |turns| {
-        black_box(many(black_box(work), &mut out, turns));
-        black_box(&out);
+        black_box(many(black_box(work), &mut memory, &mut out, turns));
+        black_box((&memory, &out));
     }))
 }

@@ -21,7 +21,7 @@ fn turns<T: 'static>(node: T, first: u32, lookup: impl Fn(&T, u32) -> u16 + 'sta
 
 /// The sizes toward 64 neighbours from the first on.
 fn lookup(check: &mut Check, name: &str, first: u32) -> Row {
-    let Nodes { plain, library } = nodes(check, COUNT);
+    let Nodes { plain, library, .. } = nodes(check, COUNT);
     let table = library.paths;
     let mut sum = 0;
     for neighbour in first..first + COUNT {

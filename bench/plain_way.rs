@@ -1,15 +1,20 @@
 //! The calls in plain Rust: each call a function of its own, the node by reference.
 
 use crate::measure::Turns;
-use crate::plain::{Address, Advertisement, Node, Refusal, Sent};
+use crate::plain::{Address, Advertisement, Node, Received, Refusal, Sent};
 use crate::work::{turns, Call, Work};
 use std::hint::black_box;
-use std::ops::Range;
 
 pub fn way(work: &'static Work) -> Turns {
     let node = work.nodes.plain;
     match work.call {
-        Call::Receive => turns(work, node, |node, turn| _ = black_box(&receive(node, turn.input, turn.interface))),
+        Call::Receive | Call::Piece => turns(work, node, |node, turn| {
+            _ = black_box(&receive(node, turn.input, turn.interface, turn.time, turn.memory));
+        }),
+        Call::Last => turns(work, node, move |node, turn| {
+            _ = black_box(&receive(node, turn.input, turn.interface, turn.time, turn.memory));
+            node.places_mut()[turn.place] = work.nodes.plain.places()[turn.place];
+        }),
         Call::Send => turns(work, node, |node, turn| {
             _ = black_box(&send(node, turn.input, turn.next_hop, turn.locator, turn.time, turn.out));
         }),
@@ -23,8 +28,8 @@ pub fn way(work: &'static Work) -> Turns {
 }
 
 #[inline(never)]
-fn receive(node: &Node, datagram: &[u8], interface: u8) -> Result<Range<usize>, Refusal> {
-    node.receive(datagram, interface)
+fn receive(node: &mut Node, datagram: &[u8], interface: u8, time: u32, memory: &mut [u8]) -> Result<Received, Refusal> {
+    node.receive(datagram, interface, time, memory)
 }
 
 #[inline(never)]

@@ -8,7 +8,13 @@ use std::hint::black_box;
 pub fn way(work: &'static Work) -> Turns {
     let node = work.nodes.library;
     match work.call {
-        Call::Receive => turns(work, node, |node, turn| _ = black_box(&node.receive(turn.input, turn.interface))),
+        Call::Receive | Call::Piece => turns(work, node, |node, turn| {
+            _ = black_box(&node.receive(turn.input, turn.interface, turn.time, turn.memory));
+        }),
+        Call::Last => turns(work, node, move |node, turn| {
+            _ = black_box(&node.receive(turn.input, turn.interface, turn.time, turn.memory));
+            node.service.pieces.places[turn.place] = work.nodes.library.service.pieces.places[turn.place];
+        }),
         Call::Send => turns(work, node, |node, turn| {
             let next_hop = Address { bytes: *turn.next_hop };
             _ = black_box(&node.send(turn.input, next_hop, turn.locator, turn.time, turn.out));

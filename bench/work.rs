@@ -46,11 +46,18 @@ pub struct Turn<'a> {
     pub interface: u8,
     pub locator: usize,
     pub time: u32,
+    pub memory: &'a mut [u8],
+    /// Of four places, the one that is set back.
+    pub place: usize,
     pub out: &'a mut [u8],
 }
 
 pub enum Call {
     Receive,
+    /// Receiving of a piece.
+    Piece,
+    /// Receiving of a piece that ends what waits in its place, which is set back to wait for the next turn.
+    Last,
     Send,
     Report,
     Ask,
@@ -76,10 +83,11 @@ pub struct Work {
 
 impl Work {
     /// What a turn is given.
-    pub fn turn<'a>(&'a self, turn: u32, out: &'a mut [u8]) -> Turn<'a> {
-        let (input, time) = (self.inputs[turn as usize % 4], START + turn * self.step);
-        let Work { next_hop, advertised, .. } = self;
-        Turn { input, next_hop, advertised, interface: INTERFACE, locator: LOCATOR, time, out }
+    pub fn turn<'a>(&'a self, turn: u32, memory: &'a mut [u8], out: &'a mut [u8]) -> Turn<'a> {
+        let (place, time) = (turn as usize % 4, START + turn * self.step);
+        let Work { inputs, next_hop, advertised, .. } = self;
+        let (input, interface, locator) = (inputs[place], INTERFACE, LOCATOR);
+        Turn { input, next_hop, advertised, interface, locator, time, memory, place, out }
     }
 }
 
@@ -111,17 +119,17 @@ pub fn nodes(check: &mut Check, kept: u32) -> Nodes {
 /// Turns of a call, each run from the same node and time, the inputs in turn. Answers are handed to `black_box` where they stand: a
 /// copy of one, read in other pieces than it was written in, would wait for it.
 pub fn turns<N: Copy + 'static>(work: &'static Work, start: N, call: impl Fn(&mut N, Turn) + 'static) -> Turns {
-    let mut out = vec![0; ROOM];
+    let (mut memory, mut out) = (work.nodes.memory.clone(), vec![0; ROOM]);
     Box::new(move |turns| {
         let (work, interface, locator) = black_box((work, INTERFACE, LOCATOR));
         let mut node = start;
         let mut time = START;
-        for (_, input) in (0..turns).zip(work.inputs.iter().cycle()) {
+        for (_, (place, input)) in (0..turns).zip(work.inputs.iter().enumerate().cycle()) {
             let Work { next_hop, advertised, .. } = work;
-            let turn = Turn { input, next_hop, advertised, interface, locator, time, out: &mut out };
-            call(&mut node, turn);
+            let (memory, out) = (&mut memory, &mut out);
+            call(&mut node, Turn { input, next_hop, advertised, interface, locator, time, memory, place, out });
             time += work.step;
         }
-        black_box((&node, &out));
+        black_box((&node, &memory, &out));
     })
 }

@@ -1,6 +1,6 @@
 /*
- * Two tunnel ends in one program: the centre wraps a packet, the station unwraps it, and the centre takes a size report and
- * asks its router. examples/run builds it and compares what it prints with examples/station.txt.
+ * Two tunnel ends in one program: the centre wraps a packet, the station unwraps it, whole and in pieces, and the centre takes a size
+ * report and asks its router. examples/run builds it and compares what it prints with examples/station.txt.
  */
 #include "bogtrumpet.h"
 
@@ -12,6 +12,37 @@
 
 static void say(const char *call, uint8_t number) {
     printf("%s: %s\n", call, bogtrumpet_number_text(number));
+}
+
+/* What comes in pieces is joined here. Every call of receiving on one node is lent the same memory, and nobody else writes into it. */
+static uint8_t memory[BOGTRUMPET_MEMORY];
+
+/* A datagram that the station gets at the time, and whether it brings the packet. */
+static void receive(struct bogtrumpet_node *station, const uint8_t *datagram, size_t length, uint32_t time,
+                    const uint8_t *packet, size_t packet_length) {
+    struct bogtrumpet_received received =
+        bogtrumpet_receive(station, datagram, length, 0, time, memory, sizeof memory);
+    say("receive", received.number);
+    if (received.number == BOGTRUMPET_OK) {
+        const uint8_t *inner = (received.joined ? memory : datagram) + received.offset;
+        bool same = received.length == packet_length && memcmp(inner, packet, packet_length) == 0;
+        printf("  %zu bytes, %s%s\n", received.length, same ? "as they were sent" : "others than were sent",
+               received.joined ? ", joined" : "");
+    }
+}
+
+/* The piece of a datagram from a byte of its payload on, a multiple of 8, as it is cut for a link of 1,492 bytes. */
+static size_t cut(const uint8_t *datagram, size_t length, size_t start, uint8_t *piece) {
+    size_t rest = length - BOGTRUMPET_OUTER_HEADER_LENGTH - start, payload = rest > 1472 ? 1472 : rest;
+    size_t total = BOGTRUMPET_OUTER_HEADER_LENGTH + payload, fragment = start / 8 | (rest > payload ? 0x2000u : 0);
+    memcpy(piece, datagram, BOGTRUMPET_OUTER_HEADER_LENGTH);
+    memcpy(piece + BOGTRUMPET_OUTER_HEADER_LENGTH, datagram + BOGTRUMPET_OUTER_HEADER_LENGTH + start, payload);
+    piece[2] = (uint8_t)(total >> 8), piece[3] = (uint8_t)total;
+    piece[6] = (uint8_t)(fragment >> 8), piece[7] = (uint8_t)fragment;
+    piece[10] = piece[11] = 0;
+    uint16_t sum = bogtrumpet_checksum(0, piece, BOGTRUMPET_OUTER_HEADER_LENGTH);
+    piece[10] = (uint8_t)(~sum >> 8), piece[11] = (uint8_t)~sum;
+    return total;
 }
 
 int main(void) {
@@ -29,11 +60,14 @@ int main(void) {
     say("send", sent.number);
     printf("  a datagram of %zu bytes\n", sent.length);
 
-    struct bogtrumpet_received received = bogtrumpet_receive(&station, out, sent.length, 0);
-    say("receive", received.number);
-    bool same = received.length == sizeof packet && memcmp(out + received.offset, packet, sizeof packet) == 0;
-    printf("  %zu bytes, %s\n", received.length, same ? "as they were sent" : "others than were sent");
-    say("receive on another interface", bogtrumpet_receive(&station, out, sent.length, 1).number);
+    receive(&station, out, sent.length, 1000, packet, sizeof packet);
+    say("receive on another interface",
+        bogtrumpet_receive(&station, out, sent.length, 1, 1000, memory, sizeof memory).number);
+
+    /* The same datagram in two pieces, the last one first. */
+    uint8_t piece[1492];
+    receive(&station, piece, cut(out, sent.length, 1472, piece), 1000, packet, sizeof packet);
+    receive(&station, piece, cut(out, sent.length, 0, piece), 1001, packet, sizeof packet);
 
     /* A size report of a router between the two about the datagram. */
     uint8_t message[28] = {3, 4, [6] = 1400 >> 8, 1400 & 255};

@@ -1,8 +1,8 @@
-//! Two tunnel ends in one program: the centre wraps a packet, the station unwraps it, and the centre takes a size report and
-//! asks its router. examples/run builds it and compares what it prints with examples/station.txt.
+//! Two tunnel ends in one program: the centre wraps a packet, the station unwraps it, whole and in pieces, and the centre takes a size
+//! report and asks its router. examples/run builds it and compares what it prints with examples/station.txt.
 
 use bogtrumpet::rules::{checksum, link_local};
-use bogtrumpet::{Asked, Locator, Node, Refusal, Reported, Sent, Settings};
+use bogtrumpet::{Asked, Locator, Node, Received, Refusal, Reported, Sent, Settings};
 use std::net::Ipv4Addr;
 
 const CENTRE: Ipv4Addr = Ipv4Addr::new(10, 0, 0, 1);
@@ -24,6 +24,30 @@ fn packet_from_centre() -> [u8; 1480] {
     packet[6] = 17;
     packet[8..24].copy_from_slice(&link_local(CENTRE).octets());
     packet
+}
+
+/// A datagram that the station gets at the time, and whether it brings the packet.
+fn receive(station: &mut Node, datagram: &[u8], time: u32, memory: &mut [u8], packet: &[u8]) {
+    let Some(received) = say("receive", station.receive(datagram, 0, time, memory)) else { return };
+    let joined = if matches!(received, Received::Joined(_)) { ", joined" } else { "" };
+    let inner = received.packet();
+    let same = if inner == packet { "as they were sent" } else { "others than were sent" };
+    println!("  {} bytes, {same}{joined}", inner.len());
+}
+
+/// The piece of a datagram from a byte of its payload on, a multiple of 8, as it is cut for a link of 1,492 bytes.
+fn cut(datagram: &[u8], start: usize) -> Vec<u8> {
+    let (header, payload) = datagram.split_at(20);
+    let end = payload.len().min(start + 1472);
+    let mut piece = [header, &payload[start..end]].concat();
+    let total = u16::try_from(piece.len()).expect("no longer than a datagram");
+    let fragment = u16::try_from(start / 8).expect("an offset in a datagram") | u16::from(end < payload.len()) << 13;
+    piece[2..4].copy_from_slice(&total.to_be_bytes());
+    piece[6..8].copy_from_slice(&fragment.to_be_bytes());
+    piece[10..12].fill(0);
+    let sum = checksum(0, &piece[..20]);
+    piece[10..12].copy_from_slice(&(!sum).to_be_bytes());
+    piece
 }
 
 /// A size report of a router between the two about the datagram.
@@ -55,14 +79,18 @@ fn send(centre: &mut Node, packet: &[u8], time: u32) -> Vec<u8> {
 
 fn main() {
     let mut centre = say("new", Node::new(&Settings::new(&[Locator::new(CENTRE, 0)]).routers(&[STATION]))).unwrap();
-    let station = say("new", Node::new(&Settings::new(&[Locator::new(STATION, 0)]))).unwrap();
+    let mut station = say("new", Node::new(&Settings::new(&[Locator::new(STATION, 0)]))).unwrap();
     let packet = packet_from_centre();
     let datagram = send(&mut centre, &packet, 1000);
 
-    let received = say("receive", station.receive(&datagram, 0)).unwrap();
-    let same = if received == packet { "as they were sent" } else { "others than were sent" };
-    println!("  {} bytes, {same}", received.len());
-    say("receive on another interface", station.receive(&datagram, 1));
+    // What comes in pieces is joined here. Every call of receiving on one node is lent the same memory.
+    let mut memory = [0; bogtrumpet::MEMORY];
+    receive(&mut station, &datagram, 1000, &mut memory, &packet);
+    say("receive on another interface", station.receive(&datagram, 1, 1000, &mut memory));
+
+    // The same datagram in two pieces, the last one first.
+    receive(&mut station, &cut(&datagram, 1472), 1000, &mut memory, &packet);
+    receive(&mut station, &cut(&datagram, 0), 1001, &mut memory, &packet);
 
     let message = size_report(&datagram, 1400);
     let Reported { neighbour, size } = say("report", centre.report(&message, 1001)).unwrap();

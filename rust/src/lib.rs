@@ -5,8 +5,9 @@
 //! the build script looks for it in `../target/staticlib`, or in the folder that `BOGTRUMPET_LIB_DIR` names.
 //!
 //! No call allocates, blocks, panics or keeps what it is lent. One needs at most 16 KiB of stack. After a refusal the output is as it
-//! was and the node too, but for its latest time. Bytes of an output behind what was written stay as they were. Time is a count of
-//! seconds that the caller hands over; one earlier than the latest is read as the latest.
+//! was and the node too, but for its latest time; of pieces of datagrams [`Node::receive`] says what else may have changed. Bytes of an
+//! output behind what was written stay as they were. Time is a count of seconds that the caller hands over; one earlier than the latest is
+//! read as the latest.
 //!
 //! ```
 //! use bogtrumpet::rules::link_local;
@@ -16,7 +17,7 @@
 //! # fn main() -> Result<(), Refusal> {
 //! let (centre, station) = (Ipv4Addr::new(10, 0, 0, 1), Ipv4Addr::new(10, 0, 0, 2));
 //! let mut sender = Node::new(&Settings::new(&[Locator::new(centre, 0)]))?;
-//! let receiver = Node::new(&Settings::new(&[Locator::new(station, 0)]))?;
+//! let mut receiver = Node::new(&Settings::new(&[Locator::new(station, 0)]))?;
 //!
 //! // An IPv6 packet without payload, from the centre.
 //! let mut packet = [0; 40];
@@ -29,8 +30,10 @@
 //!     panic!("40 bytes pass everywhere");
 //! };
 //! assert_eq!(datagram.len(), 60);
-//! assert_eq!(receiver.receive(datagram, 0), Ok(&packet[..]));
-//! assert_eq!(receiver.receive(datagram, 1), Err(Refusal::NotForUs));
+//! // What comes in pieces is joined in memory that the receiver is lent, always the same.
+//! let mut memory = [0; bogtrumpet::MEMORY];
+//! assert_eq!(receiver.receive(datagram, 0, 1000, &mut memory)?.packet(), packet);
+//! assert_eq!(receiver.receive(datagram, 1, 1000, &mut memory), Err(Refusal::NotForUs));
 //! # Ok(())
 //! # }
 //! ```
@@ -43,7 +46,7 @@ pub mod rules;
 mod settings;
 
 pub use advertisement::{AdvertisedPrefix, AdvertisedRoute, Advertisement, Preference};
-pub use node::{Asked, Node, Reported, Router, Sent};
+pub use node::{Asked, Node, Received, Reported, Router, Sent};
 pub use refusal::Refusal;
 pub use settings::{Locator, Prefix, Settings};
 
@@ -57,6 +60,8 @@ pub const MAX_ROUTERS: usize = 16;
 pub const MAX_NEIGHBOURS: usize = 64;
 /// The most prefixes of an advertisement that is written, and the most routes of it.
 pub const MAX_ADVERTISED: usize = 8;
+/// The memory that [`Node::receive`] is lent: so many bytes or more.
+pub const MEMORY: usize = 16_384;
 /// The length of the IPv4 header that is written.
 pub const OUTER_HEADER_LENGTH: usize = 20;
 /// The length of a router solicitation.

@@ -6,10 +6,30 @@ use crate::refusal::{unless, Refusal};
 use crate::settings::{numbers, Settings};
 use std::net::{Ipv4Addr, Ipv6Addr};
 
-/// One tunnel end. A plain value of 1,168 bytes: a copy keeps the state that it had.
+/// One tunnel end. A plain value of 1,616 bytes: a copy keeps the state that it had.
 #[derive(Clone, Copy, Debug)]
 pub struct Node {
     raw: raw::Node,
+}
+
+/// The inner packet of a datagram, as the part that holds it of what was lent.
+#[derive(Clone, Copy, Debug, PartialEq, Eq)]
+#[must_use]
+pub enum Received<'d, 'm> {
+    /// Of a datagram that came whole: it stands in the datagram.
+    Whole(&'d [u8]),
+    /// Of one that came in pieces: it stands in the memory, until a later piece is written over it.
+    Joined(&'m [u8]),
+}
+
+impl<'p> Received<'p, 'p> {
+    /// The packet, wherever it stands.
+    #[must_use]
+    pub fn packet(self) -> &'p [u8] {
+        match self {
+            Received::Whole(packet) | Received::Joined(packet) => packet,
+        }
+    }
 }
 
 /// What sending gives: one of two things that go different ways.
@@ -67,16 +87,37 @@ impl Node {
         unless(number, || node)
     }
 
-    /// The inner packet of a datagram that arrived on the interface, as the part of the datagram that holds it.
+    /// The inner packet of a datagram that arrived on the interface, or of one that this piece completes.
+    ///
+    /// Up to 8 datagrams are collected at once, each of at most 2,048 bytes of payload, until 30 s from the first piece. What has come of them
+    /// stands in the memory, [`MEMORY`](crate::MEMORY) bytes or more: every call is lent the same, as the last one left it. A repeated piece is
+    /// compared with what stands there, so who writes into it turns [`Refusal::PieceWaits`] into [`Refusal::PiecesDisagree`].
     ///
     /// # Errors
-    /// In this order: [`Refusal::OuterMalformed`], [`Refusal::OuterChecksum`], [`Refusal::OtherProtocol`], [`Refusal::Piece`],
-    /// [`Refusal::NotForUs`], [`Refusal::OuterSourceForbidden`], [`Refusal::InnerMalformed`], [`Refusal::InnerSourceBad`],
-    /// [`Refusal::OuterSourceWrong`].
+    /// In this order: [`Refusal::OutputShort`] (the memory is too short), [`Refusal::OuterMalformed`], [`Refusal::OuterChecksum`],
+    /// [`Refusal::OtherProtocol`], [`Refusal::NotForUs`], [`Refusal::OuterSourceForbidden`]; of a piece [`Refusal::PieceUnfit`],
+    /// [`Refusal::PiecesDisagree`], [`Refusal::NoPlace`], [`Refusal::PieceWaits`]; of a whole datagram, and of what a piece completes,
+    /// [`Refusal::InnerMalformed`], [`Refusal::InnerSourceBad`], [`Refusal::OuterSourceWrong`].
+    ///
+    /// After [`Refusal::PieceWaits`] and where a completed datagram is refused, what is collected and the memory may be others than before;
+    /// after [`Refusal::PiecesDisagree`] what is collected is. [`Refusal::Piece`] is not given.
     #[inline]
-    pub fn receive<'d>(&self, datagram: &'d [u8], interface: u8) -> Result<&'d [u8], Refusal> {
-        let received = self.raw.receive(datagram, interface);
-        unless(received.number, || &datagram[received.offset..][..received.length])
+    pub fn receive<'d, 'm>(
+        &mut self,
+        datagram: &'d [u8],
+        interface: u8,
+        time: u32,
+        memory: &'m mut [u8],
+    ) -> Result<Received<'d, 'm>, Refusal> {
+        let received = self.raw.receive(datagram, interface, time, memory);
+        let memory: &'m [u8] = memory;
+        unless(received.number, || {
+            if received.joined {
+                Received::Joined(&memory[received.offset..][..received.length])
+            } else {
+                Received::Whole(&datagram[received.offset..][..received.length])
+            }
+        })
     }
 
     /// Wraps an IPv6 packet for the next hop, from the numbered locator, counted from 0.

@@ -74,7 +74,48 @@ pub struct RouterList {
     pub count: usize,
 }
 
-/// The settings, the routers and the next identification.
+/// What the pieces of one datagram have in common.
+#[repr(C)]
+#[derive(Clone, Copy, Debug, Default, PartialEq, Eq)]
+pub struct Key {
+    /// The outer source.
+    pub source: u32,
+    /// The outer destination.
+    pub destination: u32,
+    /// The datagram's identification.
+    pub identification: u16,
+    /// 41.
+    pub protocol: u8,
+}
+
+/// A datagram of which some pieces have come.
+#[repr(C)]
+#[derive(Clone, Copy, Debug, Default, PartialEq, Eq)]
+pub struct Place {
+    /// Which units of 8 bytes of its payload have come: unit u is bit u % 64 of word u / 64.
+    pub held: [u64; 4],
+    /// What its pieces have in common.
+    pub key: Key,
+    /// The latest time at its first piece; from 30 s later on the place is free.
+    pub first: u32,
+    /// The length of its payload, 0 while that is not known.
+    pub end: u16,
+    /// Where the last of its pieces ends that have more-fragments set.
+    pub reach: u16,
+    /// 0 where the place is free.
+    pub used: u8,
+}
+
+/// The datagrams that are collected. What has come of the payload of place k stands in the memory that the caller lends, from byte 2,048 k
+/// on.
+#[repr(C)]
+#[derive(Clone, Copy, Debug, Default, PartialEq, Eq)]
+pub struct Collection {
+    /// Place 0 to 7.
+    pub places: [Place; 8],
+}
+
+/// The settings, the routers, the datagrams that are collected and the next identification.
 #[repr(C)]
 #[derive(Clone, Copy, Debug, PartialEq, Eq)]
 pub struct Service {
@@ -82,6 +123,8 @@ pub struct Service {
     pub settings: Settings,
     /// The list now in force.
     pub routers: RouterList,
+    /// The datagrams that are collected.
+    pub pieces: Collection,
     /// Of the next wrapped packet.
     pub identification: u16,
 }
@@ -104,7 +147,7 @@ pub struct Paths {
 #[repr(C)]
 #[derive(Clone, Copy, Debug, PartialEq, Eq)]
 pub struct Node {
-    /// The settings, the routers and the next identification.
+    /// The settings, the routers, the datagrams that are collected and the next identification.
     pub service: Service,
     /// The accepted size reports.
     pub paths: Paths,
@@ -174,12 +217,14 @@ pub struct Advertisement {
     pub other: u8,
 }
 
-/// Where in a datagram the inner packet stands.
+/// Where the inner packet stands: in the datagram, or in the memory of what was joined.
 #[repr(C)]
 #[derive(Clone, Copy, Debug, PartialEq, Eq)]
 pub struct Received {
-    /// 0, or 2 to 10.
+    /// 0, 2 to 10, 15, or 27 to 30, as the function says.
     pub number: u8,
+    /// Whether it stands in the memory.
+    pub joined: bool,
     /// Where the inner packet starts.
     pub offset: usize,
     /// Its length.
@@ -313,7 +358,15 @@ extern "C" {
     // As the header has them: pointers valid for their lengths, or null with a length of 0.
     pub fn bogtrumpet_defaults(settings: Settings) -> Settings;
     pub fn bogtrumpet_new(node: *mut Node, settings: Settings) -> u8;
-    pub fn bogtrumpet_receive(node: *const Node, datagram: *const u8, length: usize, interface: u8) -> Received;
+    pub fn bogtrumpet_receive(
+        node: *mut Node,
+        datagram: *const u8,
+        length: usize,
+        interface: u8,
+        time: u32,
+        memory: *mut u8,
+        memory_length: usize,
+    ) -> Received;
     pub fn bogtrumpet_send(
         node: *mut Node,
         packet: *const u8,
@@ -385,12 +438,25 @@ impl Settings {
     }
 }
 
+impl Place {
+    /// Free, and all values 0.
+    const EMPTY: Place = Place {
+        held: [0; 4],
+        key: Key { source: 0, destination: 0, identification: 0, protocol: 0 },
+        first: 0,
+        end: 0,
+        reach: 0,
+        used: 0,
+    };
+}
+
 impl Node {
     /// The node of empty settings: all values 0.
     pub const EMPTY: Node = Node {
         service: Service {
             settings: Settings::EMPTY,
             routers: RouterList { routers: [Router { address: 0, due: 0 }; 16], count: 0 },
+            pieces: Collection { places: [Place::EMPTY; 8] },
             identification: 0,
         },
         paths: Paths { neighbours: [0; 64], sizes: [0; 64], times: [0; 64], count: 0 },
@@ -404,11 +470,13 @@ impl Node {
         unsafe { bogtrumpet_new(self, settings) }
     }
 
-    /// Numbers, in this order: 2, 3, 4, 5, 6, 7, 8, 9, 10.
+    /// Numbers, in this order: 15, 2, 3, 4, 6, 7; then of a piece 30, 29, 28, 27; then of a whole datagram, and of what a piece completes,
+    /// 8, 9, 10.
     #[must_use]
     #[inline]
-    pub fn receive(&self, datagram: &[u8], interface: u8) -> Received {
-        unsafe { bogtrumpet_receive(self, datagram.as_ptr(), datagram.len(), interface) }
+    pub fn receive(&mut self, datagram: &[u8], interface: u8, time: u32, memory: &mut [u8]) -> Received {
+        let (bytes, room) = (memory.as_mut_ptr(), memory.len());
+        unsafe { bogtrumpet_receive(self, datagram.as_ptr(), datagram.len(), interface, time, bytes, room) }
     }
 
     /// Numbers, in this order: 8, 11, 12, 13, 14, 23, 15.
@@ -544,9 +612,10 @@ pub fn solicitation(locator: u32, router: u32, out: &mut [u8]) -> Written {
 
 // The header asserts the same of the C structs, and the places of all fields.
 const _: () = {
-    assert!(size_of::<Node>() == 1168 && align_of::<Node>() == 8, "the archive is for 64-bit targets");
-    assert!(offset_of!(Node, paths) == 512 && offset_of!(Node, latest) == 1160);
+    assert!(size_of::<Node>() == 1616 && align_of::<Node>() == 8, "the archive is for 64-bit targets");
+    assert!(offset_of!(Node, paths) == 960 && offset_of!(Node, latest) == 1608);
     assert!(size_of::<Settings>() == 240 && size_of::<Paths>() == 648 && size_of::<Sent>() == 24);
+    assert!(size_of::<Key>() == 12 && size_of::<Place>() == 56 && size_of::<Received>() == 24);
     assert!(
         size_of::<AdvertisedPrefix>() == 28 && size_of::<AdvertisedRoute>() == 24 && size_of::<Advertisement>() == 440
     );

@@ -25,7 +25,7 @@ macro_rules! refusals {
                 self as u8
             }
 
-            /// The refusal of that number; `None` for 0, 14 and those above 26.
+            /// The refusal of that number; `None` for 0, 14 and those above 30.
             #[must_use]
             pub fn from_number(number: u8) -> Option<Refusal> {
                 match number {
@@ -52,7 +52,7 @@ refusals! {
     OuterChecksum 3 "outer checksum wrong";
     /// The protocol is not 41.
     OtherProtocol 4 "protocol is not 41";
-    /// A piece of a datagram: more-fragments set or offset not 0.
+    /// A piece of a datagram: more-fragments set or offset not 0. Of the rules without state alone.
     Piece 5 "a piece of a datagram";
     /// Destination and arrival interface match no locator.
     NotForUs 6 "destination and arrival interface match no locator";
@@ -70,8 +70,8 @@ refusals! {
     NextHopNotIsatap 12 "next hop is no ISATAP address";
     /// The tunnel end is forbidden, or a locator's address.
     TunnelEndForbidden 13 "tunnel end forbidden, or a locator's address";
-    /// The output is too short for what would be written.
-    OutputShort 15 "output too short";
+    /// The output is too short for what would be written, or the memory of receiving too short.
+    OutputShort 15 "output or memory too short";
     /// No well-formed size report.
     ReportMalformed 16 "no well-formed size report";
     /// The quote is not of our sending.
@@ -94,6 +94,14 @@ refusals! {
     AskerNotIsatap 25 "the asker's address is not link-local ISATAP";
     /// Too many prefixes or routes, or a prefix length above 128.
     OptionsBad 26 "too many prefixes or routes, or a prefix length above 128";
+    /// A piece of a datagram that waits for others, or is ignored.
+    PieceWaits 27 "a piece that waits for others, or is ignored";
+    /// No place is free for a new datagram's piece.
+    NoPlace 28 "no place is free for a new datagram's piece";
+    /// Pieces overlap, or disagree about the end: their datagram is dropped.
+    PiecesDisagree 29 "pieces overlap, or disagree about the end";
+    /// A piece's payload is empty, ends past 2,048 bytes, or is no multiple of 8 though more-fragments is set.
+    PieceUnfit 30 "a piece's payload is empty, ends past 2,048 bytes, or before the last piece is no multiple of 8";
 }
 
 impl fmt::Display for Refusal {

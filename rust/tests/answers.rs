@@ -2,7 +2,7 @@
 
 use bogtrumpet::rules::{self, link_local, Outer};
 use bogtrumpet::{AdvertisedPrefix, AdvertisedRoute, Advertisement, Preference};
-use bogtrumpet::{Locator, Node, Prefix, Refusal, Sent, Settings};
+use bogtrumpet::{Locator, Node, Prefix, Received, Refusal, Sent, Settings, MEMORY};
 use std::net::{Ipv4Addr, Ipv6Addr};
 
 const OWN: Ipv4Addr = Ipv4Addr::new(10, 0, 0, 1);
@@ -76,30 +76,92 @@ fn settings() {
 
 #[test]
 fn receiving() {
-    let node = node();
+    let mut node = node();
+    let mut memory = [0x55; MEMORY];
     let inner = packet(60, link_local(NEIGHBOUR));
     let good = datagram(&inner, NEIGHBOUR);
-    assert_eq!(node.receive(&good, 7), Ok(&inner[..]));
-    assert_eq!(node.receive(&good, 8), Err(Refusal::NotForUs));
-    assert_eq!(node.receive(&good[..19], 7), Err(Refusal::OuterMalformed));
-    assert_eq!(node.receive(&[], 7), Err(Refusal::OuterMalformed));
-    let changed = |at: usize, value: u8| {
+    assert_eq!(node.receive(&good, 7, 5, &mut memory), Ok(Received::Whole(&inner)));
+    assert_eq!(node.receive(&good, 8, 5, &mut memory), Err(Refusal::NotForUs));
+    assert_eq!(node.receive(&good[..19], 7, 5, &mut memory), Err(Refusal::OuterMalformed));
+    assert_eq!(node.receive(&[], 7, 5, &mut memory), Err(Refusal::OuterMalformed));
+    assert_eq!(node.receive(&good, 7, 6, &mut memory[1..]), Err(Refusal::OutputShort));
+    assert_eq!(node.latest(), 6);
+    let mut changed = |at: usize, value: u8| {
         let mut datagram = good.clone();
         datagram[at] = value;
         if at < 20 {
             repair(&mut datagram[..20], 10, 0);
         }
-        node.receive(&datagram, 7).map(<[u8]>::len)
+        node.receive(&datagram, 7, 5, &mut memory).map(|received| received.packet().len())
     };
     assert_eq!(changed(9, 17), Err(Refusal::OtherProtocol));
-    assert_eq!(changed(6, 0x20), Err(Refusal::Piece));
     assert_eq!(changed(12, 127), Err(Refusal::OuterSourceForbidden));
     assert_eq!(changed(20, 0x40), Err(Refusal::InnerMalformed));
     assert_eq!(changed(28, 0xff), Err(Refusal::InnerSourceBad));
     assert_eq!(changed(15, 2), Err(Refusal::OuterSourceWrong));
     let mut wrong = good.clone();
     wrong[10] ^= 1;
-    assert_eq!(node.receive(&wrong, 7), Err(Refusal::OuterChecksum));
+    assert_eq!(node.receive(&wrong, 7, 5, &mut memory), Err(Refusal::OuterChecksum));
+    assert!(memory == [0x55; MEMORY]);
+}
+
+/// A piece of the datagram: the part of its payload, and whether more-fragments is set.
+fn piece(datagram: &[u8], part: std::ops::Range<usize>, more: bool) -> Vec<u8> {
+    let mut piece = [&datagram[..20], &datagram[20..][part.clone()]].concat();
+    let total = u16::try_from(piece.len()).unwrap();
+    let fragment = u16::try_from(part.start / 8).unwrap() | u16::from(more) << 13;
+    piece[2..4].copy_from_slice(&total.to_be_bytes());
+    piece[6..8].copy_from_slice(&fragment.to_be_bytes());
+    repair(&mut piece[..20], 10, 0);
+    piece
+}
+
+#[test]
+fn joining() {
+    let mut node = node();
+    let mut memory = vec![0x55; MEMORY + 1];
+    let inner = packet(100, link_local(NEIGHBOUR));
+    let whole = datagram(&inner, NEIGHBOUR);
+    let (first, last) = (piece(&whole, 0..48, true), piece(&whole, 48..100, false));
+    for (one, other) in [(&first, &last), (&last, &first)] {
+        for _ in 0..2 {
+            assert_eq!(node.receive(one, 7, 5, &mut memory), Err(Refusal::PieceWaits));
+        }
+        assert_eq!(node.receive(other, 7, 34, &mut memory), Ok(Received::Joined(&inner)));
+        assert_eq!(memory[..100], inner);
+        assert_eq!(node.receive(&whole, 7, 34, &mut memory), Ok(Received::Whole(&inner)));
+        node = Node::new(&node.settings()).unwrap();
+    }
+    assert!(memory[100..].iter().all(|&byte| byte == 0x55));
+    // After 30 s the first piece is gone, and this one is the first of another datagram.
+    assert_eq!(node.receive(&first, 7, 5, &mut memory), Err(Refusal::PieceWaits));
+    assert_eq!(node.receive(&last, 7, 35, &mut memory), Err(Refusal::PieceWaits));
+    assert_eq!(node.receive(&first, 7, 36, &mut memory).map(Received::packet), Ok(&inner[..]));
+}
+
+#[test]
+fn joining_refused() {
+    let mut node = node();
+    let mut memory = [0; MEMORY];
+    let whole = datagram(&packet(100, link_local(ROUTER)), NEIGHBOUR);
+    let (first, last) = (piece(&whole, 0..48, true), piece(&whole, 48..100, false));
+    let mut receive = |piece: &[u8]| node.receive(piece, 7, 5, &mut memory).map(|received| received.packet().len());
+    assert_eq!(receive(&piece(&whole, 0..47, true)), Err(Refusal::PieceUnfit));
+    assert_eq!(receive(&piece(&whole, 0..0, true)), Err(Refusal::PieceUnfit));
+    assert_eq!(receive(&first), Err(Refusal::PieceWaits));
+    assert_eq!(receive(&piece(&whole, 40..100, false)), Err(Refusal::PiecesDisagree));
+    assert_eq!(receive(&first), Err(Refusal::PieceWaits));
+    assert_eq!(receive(&piece(&whole, 40..48, false)), Err(Refusal::PiecesDisagree));
+    assert_eq!(receive(&first), Err(Refusal::PieceWaits));
+    assert_eq!(receive(&last), Err(Refusal::OuterSourceWrong));
+    // Eight datagrams wait, and a ninth finds no place.
+    for identification in 0..9 {
+        let mut other = first.clone();
+        other[5] = identification;
+        repair(&mut other[..20], 10, 0);
+        let refusal = if identification < 8 { Refusal::PieceWaits } else { Refusal::NoPlace };
+        assert_eq!(receive(&other), Err(refusal));
+    }
 }
 
 #[test]
@@ -260,13 +322,13 @@ fn rules_without_state() {
 #[test]
 fn refusals() {
     let numbers: Vec<u8> = Refusal::ALL.iter().map(|refusal| refusal.number()).collect();
-    assert_eq!(numbers, (1..=26).filter(|&number| number != 14).collect::<Vec<u8>>());
+    assert_eq!(numbers, (1..=30).filter(|&number| number != 14).collect::<Vec<u8>>());
     for &refusal in Refusal::ALL {
         assert_eq!(Refusal::from_number(refusal.number()), Some(refusal));
         let error: &dyn std::error::Error = &refusal;
         assert!(!error.to_string().is_empty());
     }
-    for number in [0, 14, 27, 255] {
+    for number in [0, 14, 31, 255] {
         assert_eq!(Refusal::from_number(number), None);
     }
 }

@@ -1,12 +1,15 @@
 //! Nodes of any bytes, as a caller in C can hand them over: no call goes wrong on one. What holds of every node is checked: an answer
-//! is one of the call's numbers, a refusal leaves the output alone and changes the latest time only, a part lies in the datagram; and
-//! answer, node and output are the same when the call is made once more elsewhere in memory.
+//! is one of the call's numbers, a refusal leaves the output alone and changes the latest time only, but for what a piece may change; a part
+//! lies in the datagram or in the memory; and answer, node and output are the same when the call is made once more elsewhere in memory.
 
 use crate::advertised;
 use crate::check::{hex, same, Check};
-use crate::packets;
-use crate::totals::Call;
-use bogtrumpet::raw::{Address, Addresses, Node};
+use crate::nodes::may_change;
+use crate::packets::{self, put};
+use crate::pieces;
+use crate::plain::pieces::{Key, MEMORY, ROOM};
+use crate::totals::{Call, JOINED};
+use bogtrumpet::raw::{self, Address, Addresses, Node, Service};
 use std::fmt::Debug;
 use std::hint::black_box;
 
@@ -21,50 +24,107 @@ pub fn any_node(check: &mut Check) {
     let packet = packets::packet(&mut check.random, length, 58, &source);
 
     let datagram = packets::datagram(&mut check.random, (router, locator.address), 0, &packet, 3);
-    let tried = Tried { node: &node, bytes: &datagram, room: 0, time: 0, name: "receive" };
-    let received = tried.twice(check, |node, bytes, _| node.receive(bytes, locator.interface));
-    let end = received.answer.offset + received.answer.length;
-    same("part in the datagram", &true, &(end <= datagram.len()), &|| tried.words());
-    same("node", &node, &received.node, &|| tried.words());
-    tried.count(check, received.answer.number, &[0, 2, 3, 4, 5, 6, 7, 8, 9, 10]);
+    let room = check.random.one_of(&[MEMORY, MEMORY, MEMORY, MEMORY + 7, MEMORY - 1, 0]);
+    let mut memory = check.pattern(room);
+    receiving(check, &node, &datagram, locator.interface, time, &memory);
+    for source in [router, router, 0x0a01_0001] {
+        let key = Key { source, destination: locator.address, identification: 1, protocol: 41 };
+        let (node, piece) = on_its_way(check, &node, key, &packet, time);
+        // Some places hold the packet.
+        memory.chunks_exact_mut(ROOM).filter(|_| check.random.once_in(3)).for_each(|place| put(place, 0, &packet));
+        receiving(check, &node, &piece, locator.interface, time, &memory);
+    }
 
     let size = check.random.next() as u16;
     let message = packets::size_report(&mut check.random, size, 1500, (locator.address, router), 0, 8);
-    let tried = Tried { node: &node, bytes: &message, room: 0, time, name: "report" };
+    let tried = Tried { node: &node, bytes: &message, memory: None, room: 0, time, name: "report" };
     let reported = tried.twice(check, |node, bytes, _| node.report(bytes, time));
     tried.refused(reported.answer.number, &reported);
     tried.count(check, reported.answer.number, &[0, 16, 17, 18, 19]);
 
     let advertisement = packets::advertisement(&mut check.random, &source, 1800, &[]);
-    let tried = Tried { node: &node, bytes: &advertisement, room: 0, time, name: "hear" };
+    let tried = Tried { node: &node, bytes: &advertisement, memory: None, room: 0, time, name: "hear" };
     let heard = tried.twice(check, |node, bytes, _| node.hear(bytes, time));
     tried.refused(heard.answer.number, &heard);
     tried.count(check, heard.answer.number, &[0, 8, 20, 21]);
 
     let list = Addresses { routers: node.service.settings.routers, count: number };
-    let tried = Tried { node: &node, bytes: &[], room: 0, time, name: "replace_routers" };
+    let tried = Tried { node: &node, bytes: &[], memory: None, room: 0, time, name: "replace_routers" };
     let replaced = tried.twice(check, |node, _, _| node.replace_routers(list, time));
     tried.refused(replaced.answer, &replaced);
     tried.count(check, replaced.answer, &[0, 1]);
 
-    let tried = Tried { node: &node, bytes: &[], room: 0, time: 0, name: "path_size" };
+    let tried = Tried { node: &node, bytes: &[], memory: None, room: 0, time: 0, name: "path_size" };
     let size = tried.twice(check, |node, _, _| node.path_size(router));
     same("node", &node, &size.node, &|| tried.words());
     check.totals.count(Call::AnyNode, 0);
     writing(check, &node, &packet, Address { bytes: source }, number, time);
 }
 
+fn receiving(check: &mut Check, node: &Node, datagram: &[u8], interface: u8, time: u32, memory: &[u8]) {
+    let tried = Tried { node, bytes: datagram, memory: Some(memory), room: memory.len(), time, name: "receive" };
+    let received = tried.twice(check, |node, bytes, memory| node.receive(bytes, interface, time, memory));
+    let answer = &received.answer;
+    let holds = if answer.joined { memory.len() } else { datagram.len() };
+    same("part in what holds it", &true, &(answer.offset + answer.length <= holds), &|| tried.words());
+    let (collects, writes) = may_change(datagram, answer.number);
+    same("memory left alone", &true, &(received.silent || writes), &|| tried.words());
+    let pieces = if collects { received.node.service.pieces } else { node.service.pieces };
+    let service = Service { pieces, ..node.service };
+    let kept = Node { service, latest: node.latest.max(time), ..*node };
+    same("node but for what is collected", &kept, &received.node, &|| tried.words());
+    tried.count(check, answer.number, &[0, 2, 3, 4, 6, 7, 8, 9, 10, 15, 27, 28, 29, 30]);
+    if answer.joined {
+        check.totals.count(Call::AnyNode, JOINED);
+    }
+}
+
+/// A piece of the packet, and the node with its key in some places, live or not, and anything held there.
+fn on_its_way(check: &mut Check, node: &Node, key: Key, packet: &[u8], time: u32) -> (Node, Vec<u8>) {
+    let random = &mut check.random;
+    let parts = pieces::cut(random, key, packet);
+    let mut part = parts[random.below(parts.len())].clone();
+    // All units but those of the part.
+    let mut others = [u64::MAX; 4];
+    let units = part.offset..(8 * part.offset + part.payload.len()).div_ceil(8);
+    units.for_each(|unit| others[unit / 64] &= !(1 << (unit % 64)));
+    if random.once_in(6) {
+        pieces::damage(random, &mut part);
+    }
+    let mut node = *node;
+    let now = node.latest.max(time);
+    let full = random.once_in(12);
+    for place in &mut node.service.pieces.places {
+        let any = random.next();
+        if full {
+            (place.used, place.first) = (any as u8 | 1, now);
+            continue;
+        }
+        if random.once_in(3) {
+            let Key { source, destination, identification, protocol } = key;
+            place.key = raw::Key { source, destination, identification, protocol };
+        }
+        place.used = random.one_of(&[0, 1, 1, 2, 255, any as u8]);
+        place.first =
+            random.one_of(&[now, now.wrapping_sub(29), now.wrapping_sub(30), now.wrapping_add(5), any as u32]);
+        place.end = random.one_of(&[0, 0, packet.len() as u16, 2048, 2049, u16::MAX, any as u16]);
+        place.reach = random.one_of(&[0, 0, 96, 2048, u16::MAX, any as u16]);
+        place.held = random.one_of(&[others, others, [any; 4], [0; 4], [u64::MAX; 4]]);
+    }
+    (node, part.bytes(random))
+}
+
 /// Sending, asking and advertising.
 fn writing(check: &mut Check, node: &Node, packet: &[u8], next_hop: Address, locator: usize, time: u32) {
     let room = check.random.one_of(&[0, 47, 48, 79, 80, 1279, 1280, 1600]);
-    let tried = Tried { node, bytes: packet, room, time, name: "send" };
+    let tried = Tried { node, bytes: packet, memory: None, room, time, name: "send" };
     let sent = tried.twice(check, |node, bytes, out| node.send(bytes, next_hop, locator, time, out));
     tried.refused(sent.answer.number, &sent);
     let longest = sent.answer.length.max(sent.answer.message_length);
     same("length in the room", &true, &(longest <= room), &|| tried.words());
     tried.count(check, sent.answer.number, &[0, 8, 11, 12, 13, 14, 15, 23]);
 
-    let tried = Tried { node, bytes: &[], room, time, name: "ask" };
+    let tried = Tried { node, bytes: &[], memory: None, room, time, name: "ask" };
     let asked = tried.twice(check, |node, _, out| node.ask(locator, time, out));
     tried.refused(asked.answer.number, &asked);
     tried.count(check, asked.answer.number, &[0, 11, 22, 15]);
@@ -81,7 +141,7 @@ fn advertising(check: &mut Check, node: &Node, mut asker: Address, locator: usiz
     packets::repair_icmpv6(&mut packet);
     let advertised = advertised::any(&mut check.random);
     let room = check.random.one_of(&[0, 55, 56, 120, 300, advertised::LONGEST]);
-    let tried = Tried { node, bytes: &packet, room, time: 0, name: "advertise" };
+    let tried = Tried { node, bytes: &packet, memory: None, room, time: 0, name: "advertise" };
     let gave = tried.twice(check, |node, bytes, out| node.advertise(bytes, locator, advertised, out));
     tried.refused(gave.answer.number, &gave);
     same("node", node, &gave.node, &|| tried.words());
@@ -93,6 +153,8 @@ fn advertising(check: &mut Check, node: &Node, mut asker: Address, locator: usiz
 struct Tried<'a> {
     node: &'a Node,
     bytes: &'a [u8],
+    /// What stands in the output, where that matters.
+    memory: Option<&'a [u8]>,
     room: usize,
     time: u32,
     name: &'static str,
@@ -113,12 +175,15 @@ impl Tried<'_> {
         call: impl Fn(&mut Node, &[u8], &mut [u8]) -> A,
     ) -> Gave<A> {
         let mut once = || {
-            let (loan, node) = check.lend_node(self.node, self.bytes, self.room);
+            let (loan, node) = match self.memory {
+                Some(memory) => check.lend_memory(self.node, self.bytes, memory),
+                None => check.lend_node(self.node, self.bytes, self.room),
+            };
             let answer = call(node, loan.input, loan.library);
             let node = *black_box(node);
-            // The output, as far as it differs from what stood there.
-            let changed: Vec<Option<u8>> =
-                loan.plain.iter().zip(&*loan.library).map(|(was, is)| (was != is).then_some(*is)).collect();
+            // The output, as far as it differs from what stood there: mostly not at all.
+            let written = loan.plain.iter().zip(&*loan.library).map(|(was, is)| (was != is).then_some(*is));
+            let changed: Vec<Option<u8>> = if loan.plain == loan.library { Vec::new() } else { written.collect() };
             (answer, node, changed)
         };
         let (first, second) = (once(), once());

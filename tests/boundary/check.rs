@@ -46,6 +46,11 @@ impl Check {
         }
     }
 
+    /// So many bytes, others each time.
+    pub fn pattern(&mut self, length: usize) -> Vec<u8> {
+        pattern(&self.pattern, self.random.next(), length).to_vec()
+    }
+
     /// Lends a copy of the bytes, and `room` bytes of output that hold a new pattern.
     pub fn lend(&mut self, bytes: &[u8], room: usize) -> Loan<'_> {
         let choice = self.random.next();
@@ -57,6 +62,13 @@ impl Check {
         let choice = self.random.next();
         let lent = self.node.node(node, choice & 1 << 35 != 0);
         (self.bytes.lend(bytes, pattern(&self.pattern, choice, room), choice), lent)
+    }
+
+    /// Lends a copy of the node, a copy of the bytes, and copies of this memory for the output.
+    pub fn lend_memory(&mut self, node: &Node, bytes: &[u8], memory: &[u8]) -> (Loan<'_>, &mut Node) {
+        let choice = self.random.next();
+        let lent = self.node.node(node, choice & 1 << 35 != 0);
+        (self.bytes.lend(bytes, memory, choice), lent)
     }
 
     /// Lends a copy of the bytes.

@@ -263,7 +263,7 @@ fn tried_at_each_place(check: &mut Check, address: u32, full: Address) {
         for (destination, interface) in [(LOCATOR, 7), (LOCATOR, 8), (address, 7)] {
             let ends = (source, destination);
             let datagram = packets::datagram(&mut check.random, ends, 0, &packet, 2);
-            nodes.receive(check, &datagram, interface);
+            _ = nodes.receive(check, &datagram, interface, 0);
         }
     }
     nodes.send(check, &packet, full, 0, 1, 100);
@@ -358,13 +358,13 @@ pub fn changed(bytes: &[u8], first: usize, mut tried: impl FnMut(Vec<u8>)) {
 }
 
 fn changed_datagrams(check: &mut Check) {
-    let nodes = node(check, &settings());
+    let mut nodes = node(check, &settings());
     for (words, padding, source) in [(0, 0, NEIGHBOUR), (2, 0, NEIGHBOUR), (0, 5, NEIGHBOUR), (1, 1, ROUTER)] {
         let packet = packets::packet(&mut check.random, 47, 17, &packets::address(&PREFIX, 2, source));
         let datagram = packets::datagram(&mut check.random, (source, LOCATOR), words, &packet, padding);
         changed(&datagram, 64, |mut tried| {
             for _ in 0..2 {
-                nodes.receive(check, &tried, 7);
+                _ = nodes.receive(check, &tried, 7, 0);
                 stateless::read_outer(check, &tried);
                 stateless::unwrap(check, &tried);
                 packets::repair_outer(&mut tried);
@@ -375,11 +375,11 @@ fn changed_datagrams(check: &mut Check) {
             let mut tried = datagram.clone();
             put16(&mut tried, 2, total as u16);
             packets::repair_outer(&mut tried);
-            nodes.receive(check, &tried, 7);
+            _ = nodes.receive(check, &tried, 7, 0);
             stateless::unwrap(check, &tried);
         }
         for interface in 0..=255 {
-            nodes.receive(check, &datagram, interface);
+            _ = nodes.receive(check, &datagram, interface, 0);
         }
     }
 }

@@ -23,7 +23,11 @@ fn given(check: &mut Check, words: &[&str]) -> u8 {
     let mut nodes = Nodes::new(check, &settings.defaults()).expect("settings within the rules");
     let last = words[words.len() - 1];
     match words[0] {
-        "receive" => nodes.receive(check, &bytes(last), number(words[3]) as u8),
+        "receive" => {
+            let (interface, room) = (number(words[3]) as u8, number(words[4]));
+            let receive = |datagram| number_of(nodes.receive_in(check, &bytes(datagram), interface, 0, room));
+            last.split(',').map(receive).last().expect("a datagram")
+        }
         "send" => {
             let next_hop = bytes(words[4]).try_into().expect("16 bytes");
             nodes.send(check, &bytes(last), next_hop, number(words[3]), 0, number(words[5]))
@@ -33,7 +37,7 @@ fn given(check: &mut Check, words: &[&str]) -> u8 {
         "advertisement" => nodes.hear(check, &bytes(last), 0),
         "advertise" => {
             let (locator, room, advertised) = (number(words[3]), number(words[4]), advertised(&bytes(words[5])));
-            nodes.advertise(check, &bytes(last), locator, &advertised, room).err().unwrap_or(0)
+            number_of(nodes.advertise(check, &bytes(last), locator, &advertised, room))
         }
         other => panic!("no call: {other}"),
     }
@@ -64,6 +68,11 @@ fn advertised(mut bytes: &[u8]) -> Advertisement {
         }
     }
     advertised
+}
+
+/// 0, where the call was not refused.
+fn number_of<T>(answer: Result<T, u8>) -> u8 {
+    answer.err().unwrap_or(0)
 }
 
 fn number(word: &str) -> usize {

@@ -12,7 +12,7 @@ use std::mem::offset_of;
 extern "C" {
     static bogtrumpet_layout: [usize; 0];
     static bogtrumpet_layout_length: usize;
-    static bogtrumpet_constants: [usize; 12];
+    static bogtrumpet_constants: [usize; 13];
     fn bogtrumpet_text(number: u8) -> *const c_char;
 }
 
@@ -37,6 +37,7 @@ pub fn compare() {
         bogtrumpet::SOLICITATION_LENGTH,
         bogtrumpet::MAX_TOO_BIG_LENGTH,
         bogtrumpet::MAX_SENT_LENGTH,
+        bogtrumpet::MEMORY,
         ENTRIES,
         advertised::LONGEST,
         HIGH.into(),
@@ -69,14 +70,17 @@ fn places() {
         Settings: locators locator_count prefixes prefix_count routers router_count link_size ttl interval identification reporting;
         Router: address due;
         RouterList: routers count;
-        Service: settings routers identification;
+        Key: source destination identification protocol;
+        Place: held key first end reach used;
+        Collection: places;
+        Service: settings routers pieces identification;
         Paths: neighbours sizes times count;
         Node: service paths latest;
         Addresses: routers count;
         AdvertisedPrefix: bytes valid preferred length on_link autonomous;
         AdvertisedRoute: bytes lifetime length preference;
         Advertisement: prefixes prefix_count routes route_count lifetime managed other;
-        Received: number offset length;
+        Received: number joined offset length;
         Sent: number size length message_length;
         Reported: number neighbour size;
         Asked: number router;

@@ -4,6 +4,8 @@ use crate::advertised;
 use crate::check::Check;
 use crate::nodes::{self, Nodes};
 use crate::packets::{self, put, put16, put32, EDGES};
+use crate::pieces::{self, Part};
+use crate::plain::pieces::{Key, MEMORY};
 use crate::plain::rules::link_local;
 use crate::plain::{Address, Locator, Settings};
 use crate::random::Random;
@@ -21,6 +23,8 @@ struct World {
     settings: Settings,
     neighbours: Vec<u32>,
     routers: Vec<u32>,
+    /// Pieces on their way to it.
+    parts: Vec<Part>,
     /// Seconds that pass between two calls, at most.
     pace: usize,
 }
@@ -45,9 +49,9 @@ pub fn list(check: &mut Check, calls: usize) {
     let neighbours = (0..count).map(|i| 0x0a01_0000 + i as u32).collect();
     let routers = (0..20).map(|i| 0x0a02_0000 + i).chain(settings.routers).collect();
     let pace = random.one_of(&[0, 1, 1, 3, 10, 100, 700]);
-    let mut world = World { nodes, hearer, settings, neighbours, routers, pace };
+    let mut world = World { nodes, hearer, settings, neighbours, routers, parts: Vec::new(), pace };
     // A list has its own habits, so that tables fill in some and age in others.
-    let mut weights = [0; 7];
+    let mut weights = [0; 8];
     weights.iter_mut().for_each(|weight| *weight = random.one_of(&[1, 4, 16]));
     if random.once_in(6) {
         let start = random.one_of(&[u32::MAX - 3000, u32::MAX - 600, 1 << 31]);
@@ -61,7 +65,7 @@ pub fn list(check: &mut Check, calls: usize) {
     }
 }
 
-fn call(check: &mut Check, world: &mut World, weights: &[usize; 7]) {
+fn call(check: &mut Check, world: &mut World, weights: &[usize; 8]) {
     let mut choice = check.random.below(weights.iter().sum());
     let mut kind = 0;
     while choice >= weights[kind] {
@@ -75,7 +79,8 @@ fn call(check: &mut Check, world: &mut World, weights: &[usize; 7]) {
         3 => replace(check, world),
         4 => ask(check, world),
         5 => hear(check, world),
-        _ => advertise(check, world),
+        6 => advertise(check, world),
+        _ => receive_piece(check, world),
     }
     let neighbour = any_address(&mut check.random, world);
     world.nodes.path_size(check, neighbour);
@@ -153,7 +158,8 @@ pub fn break_settings(random: &mut Random, settings: &mut Settings) {
     }
 }
 
-/// The time of the next call: a little later, at an edge of a report's age or of a router's due time, or earlier.
+/// The time of the next call: a little later, at an edge of a report's age, of a router's due time or of a collected datagram's life, or
+/// earlier.
 fn time(random: &mut Random, world: &World) -> u32 {
     let latest = world.nodes.plain.latest();
     let reports = world.nodes.plain.reports();
@@ -170,6 +176,10 @@ fn time(random: &mut Random, world: &World) -> u32 {
             later(latest, (due + random.below(3) as u64).saturating_sub(1), 5000)
         }
         4 if random.once_in(400) => u32::MAX - random.below(3) as u32,
+        6 => {
+            let first = random.one_of(world.nodes.plain.places()).first;
+            later(latest, u64::from(first) + random.between(28, 31) as u64, 60)
+        }
         5 if random.once_in(40) => latest.saturating_add(random.one_of(&[599, 600, 601, 3600])),
         _ => latest.saturating_add(random.between(0, world.pace) as u32),
     }
@@ -243,23 +253,44 @@ fn length(random: &mut Random) -> usize {
     }
 }
 
-fn receive(check: &mut Check, world: &mut World) {
-    let random = &mut check.random;
-    let source = any_address(random, world);
+/// A packet, mostly one that is delivered.
+fn inner(random: &mut Random, world: &World, source: u32, length: usize) -> Vec<u8> {
     let inner_source =
         if random.once_in(6) { other_source(random) } else { embedding(random, &world.settings, source) };
-    let inner_length = length(random).min(65515);
     let next_header = random.next() as u8;
-    let mut inner = packets::packet(random, inner_length, next_header, &inner_source);
+    let mut inner = packets::packet(random, length, next_header, &inner_source);
     match random.below(16) {
         0 => inner[0] = random.next() as u8,
-        1 => put16(&mut inner, 4, (inner_length as u16).wrapping_sub(random.between(38, 42) as u16)),
-        2 => inner.truncate(random.between(0, inner_length)),
+        1 => put16(&mut inner, 4, (length as u16).wrapping_sub(random.between(38, 42) as u16)),
+        2 => inner.truncate(random.between(0, length)),
         _ => (),
     }
+    inner
+}
+
+/// A destination and an interface, mostly of a locator.
+fn arrival(random: &mut Random, world: &World) -> (u32, u8) {
     let locator = world.settings.locators[random.below(world.settings.locator_count)];
     let destination = if random.once_in(20) { any_address(random, world) } else { locator.address };
     let interface = if random.once_in(12) { random.one_of(&[0, 255, 1]) } else { locator.interface };
+    (destination, interface)
+}
+
+/// How much memory is lent: mostly all.
+fn room(random: &mut Random, world: &World) -> usize {
+    if random.once_in(30) {
+        random.one_of(&[MEMORY, MEMORY - 1, MEMORY - 2048, 1, 0])
+    } else {
+        world.nodes.memory.len()
+    }
+}
+
+fn receive(check: &mut Check, world: &mut World) {
+    let random = &mut check.random;
+    let source = any_address(random, world);
+    let length = length(random).min(65515);
+    let inner = inner(random, world, source, length);
+    let (destination, interface) = arrival(random, world);
     let words = if random.once_in(3) { random.between(0, 10) } else { 0 };
     let words = if inner.len() > 65000 { 0 } else { words };
     let padding = if random.once_in(3) { random.between(0, 60) } else { 0 };
@@ -267,9 +298,64 @@ fn receive(check: &mut Check, world: &mut World) {
     if random.once_in(3) {
         damage_datagram(random, &mut datagram);
     }
-    world.nodes.receive(check, &datagram, interface);
+    let (time, room) = (time(random, world), room(random, world));
+    _ = world.nodes.receive_in(check, &datagram, interface, time, room);
     stateless::read_outer(check, &datagram);
     stateless::unwrap(check, &datagram);
+}
+
+/// A piece of those on their way, which are those of some datagrams at once: as it is, damaged, or one that comes again later.
+fn receive_piece(check: &mut Check, world: &mut World) {
+    let random = &mut check.random;
+    let interface = match random.below(4) {
+        0 => cut_datagram(check, world),
+        _ => arrival(random, world).1,
+    };
+    let random = &mut check.random;
+    let Some(place) = world.parts.len().checked_sub(1).map(|last| random.between(0, last)) else { return };
+    let mut part = world.parts[place].clone();
+    if !random.once_in(5) {
+        world.parts.swap_remove(place);
+    }
+    if random.once_in(5) {
+        pieces::damage(random, &mut part);
+    }
+    let mut piece = part.bytes(random);
+    if random.once_in(16) {
+        damage_datagram(random, &mut piece);
+    }
+    if random.once_in(60) {
+        // Somebody writes into the memory.
+        let at = random.below(MEMORY);
+        world.nodes.memory[at] ^= 1;
+    }
+    let (time, room) = (time(random, world), room(random, world));
+    _ = world.nodes.receive_in(check, &piece, interface, time, room);
+}
+
+/// Sends a datagram on its way in pieces, and gives its interface.
+fn cut_datagram(check: &mut Check, world: &mut World) -> u8 {
+    let random = &mut check.random;
+    let source = any_address(random, world);
+    let length = match random.below(8) {
+        0 => random.between(2030, 2060),
+        1 => random.between(200, 2048),
+        _ => random.between(40, 120),
+    };
+    let payload = inner(random, world, source, length);
+    let (destination, interface) = arrival(random, world);
+    let identification = random.one_of(&[0, 1, 2, 3, 4, 5, 6, 7, 8, 9, 0x8000, 0xffff]);
+    let key = Key { source, destination, identification, protocol: 41 };
+    if random.once_in(4) {
+        let key = Key { protocol: random.one_of(&[41, 41, 41, 41, 41, 41, 41, 4]), ..key };
+        pieces::joins(check, &world.nodes, key, &payload, interface);
+        return interface;
+    }
+    world.parts.extend(pieces::cut(random, key, &payload));
+    // Some are lost.
+    let surplus = world.parts.len().saturating_sub(60);
+    world.parts.drain(..surplus);
+    interface
 }
 
 fn damage_datagram(random: &mut Random, datagram: &mut Vec<u8>) {

@@ -20,6 +20,8 @@ mod lists;
 mod nodes;
 mod null;
 mod packets;
+mod piece_edges;
+mod pieces;
 #[allow(dead_code)]
 mod plain;
 mod random;
@@ -48,6 +50,7 @@ fn compare(check: &mut Check, calls: u64, with_edges: bool) {
     if with_edges {
         edges::edges(check);
         advertise_edges::edges(check);
+        piece_edges::edges(check);
         rules::edges(check);
     }
     while check.totals.calls < calls {

@@ -1,14 +1,19 @@
 //! A node of the library beside one of plain Rust. Each call is made on both; answers, next states and outputs must be the same.
 
 use crate::check::{hex, same, same_input, same_node, Check};
+use crate::packets::is_piece;
+use crate::plain::pieces::{Key, Place, MEMORY};
 use crate::plain::rules::{Preference, Prefix, Route};
 use crate::plain::{self, Address, Refusal};
-use crate::totals::{Call, TOO_BIG_SILENT};
+use crate::totals::{Call, IGNORED, JOINED, TOO_BIG_SILENT};
 use bogtrumpet::raw::{self, Advertised, Asked, Heard, Received, Reported, Sent};
 
+#[derive(Clone)]
 pub struct Nodes {
     pub library: raw::Node,
     pub plain: plain::Node,
+    /// What receiving is lent, as both left it.
+    pub memory: Vec<u8>,
 }
 
 /// The number of an answer, 0 where it is no refusal.
@@ -35,6 +40,25 @@ pub fn boundary_settings(settings: &plain::Settings) -> raw::Settings {
         identification: settings.identification,
         reporting: settings.reporting,
     }
+}
+
+/// The place of a datagram as the boundary has it.
+fn boundary_place(place: &Place) -> raw::Place {
+    let Key { source, destination, identification, protocol } = place.key;
+    raw::Place {
+        held: place.held,
+        key: raw::Key { source, destination, identification, protocol },
+        first: place.first,
+        end: place.end,
+        reach: place.reach,
+        used: place.used.into(),
+    }
+}
+
+/// Whether receiving that gave the number may have changed what is collected, and whether it may have written into the memory.
+pub fn may_change(datagram: &[u8], number: u8) -> (bool, bool) {
+    let collects = is_piece(datagram) && matches!(number, 0 | 8 | 9 | 10 | 27 | 29);
+    (collects, collects && number != 29)
 }
 
 /// The preferences of a route; any other byte is medium.
@@ -94,23 +118,54 @@ impl Nodes {
             same("node of refused settings", &raw::Node::EMPTY, &library, &call);
             return None;
         };
-        let nodes = Nodes { library, plain };
+        let surplus = check.random.one_of(&[0, 0, 1, 9000]);
+        let nodes = Nodes { library, plain, memory: check.pattern(MEMORY + surplus) };
         nodes.same_state(&call);
         Some(nodes)
     }
 
-    pub fn receive(&self, check: &mut Check, datagram: &[u8], interface: u8) -> u8 {
-        let (loan, node) = check.lend_node(&self.library, datagram, 0);
-        let library = node.receive(loan.input, interface);
-        let plain = self.plain.receive(datagram, interface);
-        let call = || format!("receive {} interface {interface}, {}", hex(datagram), self.state());
-        let part = plain.clone().unwrap_or(0..0);
-        let expected = Received { number: number(&plain), offset: part.start, length: part.end - part.start };
-        same("answer", &expected, &library, &call);
-        same_input(datagram, loan.input, &call);
-        same_node(&self.library, node, &call);
-        check.totals.count(Call::Receive, library.number.into());
-        library.number
+    /// Receiving with all of the memory: the packet that is delivered, or the number.
+    pub fn receive(&mut self, check: &mut Check, datagram: &[u8], interface: u8, time: u32) -> Result<Vec<u8>, u8> {
+        self.receive_in(check, datagram, interface, time, self.memory.len())
+    }
+
+    /// Receiving with so many bytes of the memory.
+    pub fn receive_in(
+        &mut self,
+        check: &mut Check,
+        datagram: &[u8],
+        interface: u8,
+        time: u32,
+        room: usize,
+    ) -> Result<Vec<u8>, u8> {
+        let before = self.state_before();
+        let (loan, node) = check.lend_memory(&self.library, datagram, &self.memory[..room]);
+        let library = node.receive(loan.input, interface, time, loan.library);
+        let plain = self.plain.receive(datagram, interface, time, loan.plain);
+        let call = || format!("receive {} interface {interface} time {time} memory {room}, {before}", hex(datagram));
+        let (joined, part) = match plain.clone() {
+            Ok(plain::Received::Whole(part)) => (false, part),
+            Ok(plain::Received::Joined(part)) => (true, part),
+            Err(_) => (false, 0..0),
+        };
+        let (number, offset, length) = (number(&plain), part.start, part.len());
+        same("answer", &Received { number, joined, offset, length }, &library, &call);
+        loan.same_output(datagram, &call);
+        let packet = if joined { loan.library[part].to_vec() } else { loan.input[part].to_vec() };
+        let collected = before.0.places() != self.plain.places();
+        let written = self.memory[..room] != *loan.library;
+        let (collects, writes) = may_change(datagram, number);
+        same("collection changed", &false, &(collected && !collects), &call);
+        same("memory changed", &false, &(written && !writes), &call);
+        self.memory[..room].copy_from_slice(loan.library);
+        self.next_collected(collected, *node, time, &call);
+        let answer = match number {
+            0 if joined => JOINED,
+            27 if !collected => IGNORED,
+            _ => number.into(),
+        };
+        check.totals.count(if is_piece(datagram) { Call::Piece } else { Call::Receive }, answer);
+        plain.map(|_| packet).map_err(|refusal| refusal as u8)
     }
 
     pub fn send(
@@ -254,6 +309,16 @@ impl Nodes {
         self.same_state(call);
     }
 
+    /// The same of receiving, which changes the latest time and what is collected alone.
+    fn next_collected(&mut self, collected: bool, node: raw::Node, time: u32, call: &dyn Fn() -> String) {
+        let pieces = if collected { node.service.pieces } else { self.library.service.pieces };
+        let service = raw::Service { pieces, ..self.library.service };
+        let kept = raw::Node { service, latest: self.library.latest.max(time), ..self.library };
+        same("node but for what is collected", &kept, &node, call);
+        self.library = node;
+        self.same_state(call);
+    }
+
     /// Every field that a later call can read: entries behind a list's count are not among them.
     fn same_state(&self, call: &dyn Fn() -> String) {
         let (plain, library) = (&self.plain, &self.library);
@@ -266,6 +331,13 @@ impl Nodes {
             let given = &service.routers.routers[place];
             if (given.address, given.due) != (router.address, router.due) {
                 same(&format!("router {place}"), &(router.address, router.due), &(given.address, given.due), call);
+            }
+        }
+        for (number, (place, given)) in plain.places().iter().zip(&service.pieces.places).enumerate() {
+            // What a free place has is not read.
+            let differs = if place.used { boundary_place(place) != *given } else { given.used != 0 };
+            if differs {
+                same(&format!("place {number}"), &boundary_place(place), given, call);
             }
         }
         let paths = &library.paths;

@@ -2,6 +2,7 @@
 
 use crate::check::{same, Check};
 use crate::packets;
+use crate::plain::pieces::MEMORY;
 use crate::plain::rules;
 use crate::totals::Call;
 use bogtrumpet::raw::{self, *};
@@ -15,13 +16,14 @@ pub fn null_slices(check: &mut Check, settings: Settings) {
     let hop = raw::link_local(0x0a01_0001);
     let mut packet = [0; 40];
     (packet[0], packet[8]) = (0x60, 1);
-    let mut numbers = [0; 11];
+    let mut numbers = [0; 12];
+    let mut memory = vec![0x55; MEMORY];
     // SAFETY: null with a length of 0, or a slice's own pointer and length.
     unsafe {
         let (loan, _) = check.lend_node(&start, &packet, 100);
         let (bytes, length) = (loan.input.as_ptr(), loan.input.len());
         let (out, room) = (loan.library.as_mut_ptr(), loan.library.len());
-        numbers[0] = bogtrumpet_receive(&node, null(), 0, 0).number;
+        numbers[0] = bogtrumpet_receive(&mut node, null(), 0, 0, 0, memory.as_mut_ptr(), MEMORY).number;
         numbers[1] = bogtrumpet_send(&mut node, null(), 0, hop, 0, 0, out, room).number;
         numbers[2] = bogtrumpet_send(&mut node, bytes, length, hop, 0, 0, null_mut(), 0).number;
         numbers[3] = bogtrumpet_report(&mut node, null(), 0, 0).number;
@@ -32,12 +34,14 @@ pub fn null_slices(check: &mut Check, settings: Settings) {
         numbers[8] = bogtrumpet_too_big(hop, 1280, null(), 0, out, room).number;
         numbers[9] = bogtrumpet_too_big(hop, 1280, bytes, length, null_mut(), 0).number;
         numbers[10] = bogtrumpet_solicitation(1, 2, null_mut(), 0).number;
+        numbers[11] = bogtrumpet_receive(&mut node, bytes, length, 0, 0, null_mut(), 0).number;
         let call = || "an output beside a null input".into();
         loan.same_output(&packet, &call);
     }
     let call = || "each call with (NULL, 0) in turn".into();
-    same("numbers", &[2, 8, 15, 16, 15, 8, 2, 2, 8, 15, 15], &numbers, &call);
+    same("numbers", &[2, 8, 15, 16, 15, 8, 2, 2, 8, 15, 15, 15], &numbers, &call);
     same("node", &start, &node, &call);
+    same("memory", &vec![0x55; MEMORY], &memory, &call);
     large_and_silent(&mut node, hop);
     advertises(check, &node, hop);
     sums(check);

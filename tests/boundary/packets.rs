@@ -1,5 +1,6 @@
 //! Packets, datagrams and messages as bytes, valid ones and those with one thing wrong.
 
+use crate::plain::pieces::Key;
 use crate::plain::rules::{checksum, link_local, u16_at};
 use crate::plain::Address;
 use crate::random::Random;
@@ -71,6 +72,23 @@ pub fn datagram(random: &mut Random, ends: (u32, u32), words: usize, inner: &[u8
     put(&mut datagram, header, inner);
     repair_outer(&mut datagram);
     datagram
+}
+
+/// A piece under the key with this payload, which stands from the offset on, in units of 8 bytes. What no rule names is random.
+pub fn piece(random: &mut Random, key: &Key, offset: usize, more: bool, payload: &[u8]) -> Vec<u8> {
+    let (words, padding) = (random.one_of(&[0, 0, 0, 1, 10]), random.one_of(&[0, 0, 0, 3]));
+    let mut piece = datagram(random, (key.source, key.destination), words, payload, padding);
+    put16(&mut piece, 4, key.identification);
+    let flags = u16_at(&piece, 6);
+    put16(&mut piece, 6, flags | u16::from(more) << 13 | offset as u16);
+    piece[9] = key.protocol;
+    repair_outer(&mut piece);
+    piece
+}
+
+/// Whether more-fragments is set or the offset is not 0.
+pub fn is_piece(datagram: &[u8]) -> bool {
+    datagram.len() >= 8 && u16_at(datagram, 6) & 0x3fff != 0
 }
 
 /// Puts the outer checksum right, for the header length that the header names.

@@ -1,10 +1,13 @@
 //! One tunnel end in plain Rust, written from the rules (docs/RULES.md) alone: the second implementation that the proved library is compared
 //! with, and the baseline of the benchmarks. No heap; each call changes the node in place.
 
+#[path = "plain_pieces.rs"]
+pub mod pieces;
 #[path = "plain_rules.rs"]
 pub mod rules;
 
-use rules::{address_at, forbidden, isatap, u16_at, u32_at, Outer, OUTER_HEADER, TUNNELLED};
+use pieces::{Collection, Piece, Place, MEMORY};
+use rules::{address_at, forbidden, isatap, u16_at, u32_at, Outer, OuterRead, OUTER_HEADER, TUNNELLED};
 pub use rules::{Address, Advertisement, Refusal};
 use std::ops::Range;
 
@@ -196,6 +199,13 @@ impl PathTable {
     }
 }
 
+/// Where the inner packet stands of a datagram that is delivered: in the datagram, or in the memory of what was joined.
+#[derive(Clone, Debug, PartialEq, Eq)]
+pub enum Received {
+    Whole(Range<usize>),
+    Joined(Range<usize>),
+}
+
 /// What sending answers when it does not refuse; `TooBig` is number 14.
 #[derive(Clone, Copy, Debug, PartialEq, Eq)]
 pub enum Sent {
@@ -208,6 +218,7 @@ pub enum Sent {
 pub struct Node {
     settings: Settings,
     routers: RouterList,
+    pieces: Collection,
     identification: u16,
     paths: PathTable,
     latest: u32,
@@ -222,15 +233,50 @@ impl Node {
         Ok(Node {
             settings: *settings,
             routers: RouterList::default().replaced(&settings.routers[..settings.router_count], 0),
+            pieces: Collection::default(),
             identification: settings.identification,
             paths: PathTable::new(),
             latest: 0,
         })
     }
 
-    /// Where in the datagram the inner packet stands; 2 to 10.
-    pub fn receive(&self, datagram: &[u8], interface: u8) -> Result<Range<usize>, Refusal> {
-        let outer = rules::read_outer(datagram)?;
+    /// Where the inner packet stands, also of a datagram that a piece completes; 15, 2, 3, 4, 6, 7, then for a piece 30, 29, 28, 27, and 8,
+    /// 9, 10.
+    pub fn receive(
+        &mut self,
+        datagram: &[u8],
+        interface: u8,
+        time: u32,
+        memory: &mut [u8],
+    ) -> Result<Received, Refusal> {
+        self.raise(time);
+        let memory = memory.first_chunk_mut::<MEMORY>().ok_or(Refusal::Room)?;
+        let outer = rules::read_any_outer(datagram)?;
+        self.arrives(&outer, interface)?;
+        let payload = outer.payload(datagram);
+        if !outer.is_piece() {
+            let start = usize::from(outer.header);
+            let length = self.admitted(outer.source, payload)?;
+            return Ok(Received::Whole(start..start + length));
+        }
+        let joined = self.pieces.take(&Piece::new(&outer, payload), self.latest, memory)?;
+        let length = self.admitted(outer.source, &memory[joined.clone()])?;
+        Ok(Received::Joined(joined.start..joined.start + length))
+    }
+
+    /// The part of the datagram that holds the inner packet, empty where it is refused, and for a piece.
+    pub fn received_part<'d>(&self, datagram: &'d [u8], interface: u8) -> &'d [u8] {
+        let judged = || {
+            let outer = rules::read_outer(datagram)?;
+            self.arrives(&outer, interface)?;
+            let payload = outer.payload(datagram);
+            self.admitted(outer.source, payload).map(|length| &payload[..length])
+        };
+        judged().unwrap_or(&[])
+    }
+
+    /// Whether the datagram is for us, from an address that may send; 6, 7.
+    fn arrives(&self, outer: &OuterRead, interface: u8) -> Result<(), Refusal> {
         let ours = Locator { address: outer.destination, interface };
         if !self.settings.locators().contains(&ours) {
             return Err(Refusal::NotOurs);
@@ -238,23 +284,21 @@ impl Node {
         if forbidden(outer.source) {
             return Err(Refusal::OuterSource);
         }
-        let start = usize::from(outer.header);
-        let inner = &datagram[start..usize::from(outer.total)];
-        let length = rules::inner_length(inner)?;
-        let source = address_at(inner, 8);
+        Ok(())
+    }
+
+    /// The length of the inner packet at the start of a datagram's payload, whose outer source may send it; 8, 9, 10.
+    fn admitted(&self, outer_source: u32, payload: &[u8]) -> Result<usize, Refusal> {
+        let length = rules::inner_length(payload)?;
+        let source = address_at(payload, 8);
         if rules::bad_source(&source) {
             return Err(Refusal::InnerSource);
         }
-        let embedded = isatap(self.settings.prefixes(), &source) == Some(outer.source);
-        if !embedded && self.routers.find(outer.source).is_none() {
+        let embedded = isatap(self.settings.prefixes(), &source) == Some(outer_source);
+        if !embedded && self.routers.find(outer_source).is_none() {
             return Err(Refusal::SourcesDiffer);
         }
-        Ok(start..start + length)
-    }
-
-    /// The part of the datagram that holds the inner packet, empty where it is refused.
-    pub fn received_part<'d>(&self, datagram: &'d [u8], interface: u8) -> &'d [u8] {
-        self.receive(datagram, interface).map_or(&[], |part| &datagram[part])
+        Ok(length)
     }
 
     /// Wraps the packet for the next hop, or answers Too Big; 8, 11, 12, 13, 23, 15.
@@ -385,6 +429,15 @@ impl Node {
 
     pub fn reports(&self) -> &[Report] {
         self.paths.as_slice()
+    }
+
+    /// The places of the datagrams that are collected.
+    pub fn places(&self) -> &[Place] {
+        &self.pieces.places
+    }
+
+    pub fn places_mut(&mut self) -> &mut [Place] {
+        &mut self.pieces.places
     }
 
     pub fn identification(&self) -> u16 {

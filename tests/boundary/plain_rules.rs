@@ -34,6 +34,10 @@ pub enum Refusal {
     NoSolicitation = 24,
     Asker = 25,
     Entries = 26,
+    PieceWaits = 27,
+    NoPlace = 28,
+    PiecesDisagree = 29,
+    PieceUnfit = 30,
 }
 
 pub const OUTER_HEADER: usize = 20;
@@ -149,17 +153,41 @@ pub fn bad_source(address: &Address) -> bool {
 }
 
 /// An outer header as read.
-#[derive(Clone, Copy, Debug, PartialEq, Eq)]
+#[derive(Clone, Copy, Debug, Default, PartialEq, Eq)]
 pub struct OuterRead {
     pub header: u16,
     pub total: u16,
+    pub identification: u16,
+    /// More-fragments and the 13 bits of the offset; don't-fragment and the reserved bit make no piece.
+    pub fragment: u16,
     pub protocol: u8,
     pub source: u32,
     pub destination: u32,
 }
 
-/// The outer header; 2, 3, 4, 5.
+impl OuterRead {
+    pub fn is_piece(&self) -> bool {
+        self.fragment != 0
+    }
+
+    /// What stands between the header and the total length.
+    pub fn payload<'d>(&self, datagram: &'d [u8]) -> &'d [u8] {
+        &datagram[usize::from(self.header)..usize::from(self.total)]
+    }
+}
+
+/// The outer header of a whole datagram; 2, 3, 4, 5.
 pub fn read_outer(datagram: &[u8]) -> Result<OuterRead, Refusal> {
+    let outer = read_any_outer(datagram)?;
+    if outer.is_piece() {
+        return Err(Refusal::Piece);
+    }
+    Ok(outer)
+}
+
+/// The outer header of a whole datagram or a piece; 2, 3, 4.
+#[inline]
+pub fn read_any_outer(datagram: &[u8]) -> Result<OuterRead, Refusal> {
     if datagram.len() < OUTER_HEADER || datagram[0] >> 4 != 4 {
         return Err(Refusal::OuterMalformed);
     }
@@ -175,13 +203,11 @@ pub fn read_outer(datagram: &[u8]) -> Result<OuterRead, Refusal> {
     if protocol != TUNNELLED {
         return Err(Refusal::Protocol);
     }
-    // More-fragments and the 13 bits of the offset; don't-fragment and the reserved bit make no piece.
-    if u16_at(datagram, 6) & 0x3fff != 0 {
-        return Err(Refusal::Piece);
-    }
     Ok(OuterRead {
         header: header as u16,
         total: total as u16,
+        identification: u16_at(datagram, 4),
+        fragment: u16_at(datagram, 6) & 0x3fff,
         protocol,
         source: u32_at(datagram, 12),
         destination: u32_at(datagram, 16),
@@ -204,7 +230,7 @@ pub fn inner_length(bytes: &[u8]) -> Result<usize, Refusal> {
 pub fn unwrap(datagram: &[u8]) -> Result<Range<usize>, Refusal> {
     let outer = read_outer(datagram)?;
     let start = usize::from(outer.header);
-    let length = inner_length(&datagram[start..usize::from(outer.total)])?;
+    let length = inner_length(outer.payload(datagram))?;
     Ok(start..start + length)
 }
 

@@ -3,11 +3,13 @@
 
 use crate::advertised;
 use crate::packets;
+use crate::plain::pieces::{Key, MEMORY, ROOM};
 use crate::plain::rules::link_local;
 use crate::random::Random;
 use bogtrumpet::raw::{self, *};
 use std::arch::asm;
 use std::hint::black_box;
+use std::ops::Range;
 
 /// Bytes below the call that are painted; a call that needs more ends the program.
 const PAINTED: usize = 3 << 20;
@@ -75,7 +77,8 @@ fn all() -> Needs {
         let message = packets::size_report(&mut random, 1400, 1500, (LOCATOR, NEIGHBOUR + neighbour), 0, 8);
         assert_eq!(node.report(&message, 1000).number, 0);
     }
-    receiving(&mut needs, &mut random, &node);
+    receiving(&mut needs, &mut random, node);
+    joining(&mut needs, &mut random, node);
     sending(&mut needs, &mut random, node);
     reports(&mut needs, &mut random, node);
     routers(&mut needs, &mut random, node);
@@ -101,19 +104,53 @@ fn settings() -> Settings {
 }
 
 /// Sources of every kind: by the last prefix, a listed router's, one that is refused at the end of all lists.
-fn receiving(needs: &mut Needs, random: &mut Random, node: &Node) {
+fn receiving(needs: &mut Needs, random: &mut Random, mut node: Node) {
+    let mut memory = vec![0; MEMORY];
     for source in [NEIGHBOUR, ROUTER + 15, NEIGHBOUR + 1, 0x7f00_0001] {
         for (length, words) in [(40, 0), (65_475, 10), (65_515, 0)] {
             let inner = packets::packet(random, length, 58, &packets::address(&PREFIX, 2, NEIGHBOUR));
             let mut datagram = packets::datagram(random, (source, LOCATOR + 7), words, &inner, 70_000);
             for _ in 0..2 {
-                needs.call("receive", || node.receive(&datagram, 7));
+                needs.call("receive", || node.receive(&datagram, 7, 1001, &mut memory));
+                needs.call("receive", || node.receive(&datagram, 7, 1001, &mut []));
                 needs.call("read_outer", || raw::read_outer(&datagram));
                 needs.call("unwrap", || raw::unwrap(&datagram));
                 datagram[10] ^= 1;
             }
         }
     }
+}
+
+/// Datagrams that the last prefix admits, the last router, and neither, in pieces of each length.
+fn joining(needs: &mut Needs, random: &mut Random, start: Node) {
+    for source in [NEIGHBOUR, ROUTER + 15, NEIGHBOUR + 1] {
+        for step in [8, 64, 1024] {
+            joining_by(needs, random, start, source, step);
+        }
+    }
+}
+
+/// Eight datagrams of the longest payload in pieces of that length, and a ninth that finds no place; at both ends each piece twice; then one
+/// that overlaps, one that is unfit, and the last pieces.
+fn joining_by(needs: &mut Needs, random: &mut Random, mut node: Node, source: u32, step: usize) {
+    let mut memory = vec![0; MEMORY];
+    let payload = packets::packet(random, ROOM, 58, &packets::address(&PREFIX, 2, NEIGHBOUR));
+    let mut receive = |identification: u16, bytes: Range<usize>| {
+        let key = Key { source, destination: LOCATOR + 7, identification, protocol: 41 };
+        let piece = packets::piece(random, &key, bytes.start / 8, bytes.end < ROOM, &payload[bytes.clone()]);
+        if (2 * step..ROOM - 2 * step).contains(&bytes.start) {
+            // Painting takes its time, and the pieces between are like the others.
+            _ = node.receive(&piece, 7, 1001, &mut memory);
+        } else {
+            (0..2).for_each(|_| needs.call("receive", || node.receive(&piece, 7, 1001, &mut memory)));
+        }
+    };
+    for at in (0..ROOM - step).step_by(step) {
+        (0..9).for_each(|identification| receive(identification, at..at + step));
+    }
+    receive(0, 8..ROOM);
+    receive(1, 8..15);
+    (1..8).for_each(|identification| receive(identification, ROOM - step..ROOM));
 }
 
 fn sending(needs: &mut Needs, random: &mut Random, start: Node) {

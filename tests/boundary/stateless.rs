@@ -54,8 +54,7 @@ pub fn bad_source(check: &mut Check, address: Address) {
 pub fn read_outer(check: &mut Check, datagram: &[u8]) {
     let library = raw::read_outer(check.lend_input(datagram));
     let plain = rules::read_outer(datagram);
-    let none = rules::OuterRead { header: 0, total: 0, protocol: 0, source: 0, destination: 0 };
-    let read = plain.unwrap_or(none);
+    let read = plain.unwrap_or_default();
     let expected = raw::OuterRead {
         number: number(&plain),
         protocol: read.protocol,
@@ -72,7 +71,8 @@ pub fn unwrap(check: &mut Check, datagram: &[u8]) {
     let library = raw::unwrap(check.lend_input(datagram));
     let plain = rules::unwrap(datagram);
     let part = plain.clone().unwrap_or(0..0);
-    let expected = raw::Received { number: number(&plain), offset: part.start, length: part.end - part.start };
+    let (offset, length) = (part.start, part.len());
+    let expected = raw::Received { number: number(&plain), joined: false, offset, length };
     same("answer", &expected, &library, &|| format!("unwrap {}", hex(datagram)));
     check.totals.count(Call::Unwrap, library.number.into());
 }

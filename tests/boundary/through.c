@@ -16,7 +16,9 @@ typedef const uint8_t *bytes_t;
 
 FORWARD(struct bogtrumpet_settings, defaults, (struct bogtrumpet_settings s), (s))
 FORWARD(uint8_t, new, (node_t *n, struct bogtrumpet_settings s), (n, s))
-FORWARD(struct bogtrumpet_received, receive, (const node_t *n, bytes_t d, size_t length, uint8_t i), (n, d, length, i))
+FORWARD(struct bogtrumpet_received, receive,
+        (node_t *n, bytes_t d, size_t length, uint8_t i, uint32_t time, uint8_t *memory, size_t memory_length),
+        (n, d, length, i, time, memory, memory_length))
 FORWARD(struct bogtrumpet_sent, send,
         (node_t *n, bytes_t p, size_t length, address_t hop, size_t locator, uint32_t time, uint8_t *out, size_t room),
         (n, p, length, hop, locator, time, out, room))
@@ -48,10 +50,10 @@ FORWARD(struct bogtrumpet_written, solicitation, (uint32_t locator, uint32_t rou
 const char *bogtrumpet_text(uint8_t number);
 const char *bogtrumpet_text(uint8_t number) { return bogtrumpet_number_text(number); }
 
-const size_t bogtrumpet_constants[12] = {
+const size_t bogtrumpet_constants[13] = {
     BOGTRUMPET_MAX_LOCATORS, BOGTRUMPET_MAX_PREFIXES, BOGTRUMPET_MAX_ROUTERS, BOGTRUMPET_MAX_NEIGHBOURS,
     BOGTRUMPET_OUTER_HEADER_LENGTH, BOGTRUMPET_SOLICITATION_LENGTH, BOGTRUMPET_MAX_TOO_BIG_LENGTH,
-    BOGTRUMPET_MAX_SENT_LENGTH, BOGTRUMPET_MAX_ADVERTISED, BOGTRUMPET_MAX_ADVERTISEMENT_LENGTH,
+    BOGTRUMPET_MAX_SENT_LENGTH, BOGTRUMPET_MEMORY, BOGTRUMPET_MAX_ADVERTISED, BOGTRUMPET_MAX_ADVERTISEMENT_LENGTH,
     BOGTRUMPET_PREFERENCE_HIGH, BOGTRUMPET_PREFERENCE_LOW,
 };
 
@@ -67,7 +69,10 @@ const size_t bogtrumpet_layout[] = {
     AT(settings, interval), AT(settings, identification), AT(settings, reporting), SIZE(settings),
     AT(router, address), AT(router, due), SIZE(router),
     AT(router_list, routers), AT(router_list, count), SIZE(router_list),
-    AT(service, settings), AT(service, routers), AT(service, identification), SIZE(service),
+    AT(key, source), AT(key, destination), AT(key, identification), AT(key, protocol), SIZE(key),
+    AT(place, held), AT(place, key), AT(place, first), AT(place, end), AT(place, reach), AT(place, used), SIZE(place),
+    AT(collection, places), SIZE(collection),
+    AT(service, settings), AT(service, routers), AT(service, pieces), AT(service, identification), SIZE(service),
     AT(paths, neighbours), AT(paths, sizes), AT(paths, times), AT(paths, count), SIZE(paths),
     AT(node, service), AT(node, paths), AT(node, latest), SIZE(node),
     AT(addresses, routers), AT(addresses, count), SIZE(addresses),
@@ -77,7 +82,7 @@ const size_t bogtrumpet_layout[] = {
     AT(advertised_route, preference), SIZE(advertised_route),
     AT(advertisement, prefixes), AT(advertisement, prefix_count), AT(advertisement, routes), AT(advertisement, route_count),
     AT(advertisement, lifetime), AT(advertisement, managed), AT(advertisement, other), SIZE(advertisement),
-    AT(received, number), AT(received, offset), AT(received, length), SIZE(received),
+    AT(received, number), AT(received, joined), AT(received, offset), AT(received, length), SIZE(received),
     AT(sent, number), AT(sent, size), AT(sent, length), AT(sent, message_length), SIZE(sent),
     AT(reported, number), AT(reported, neighbour), AT(reported, size), SIZE(reported),
     AT(asked, number), AT(asked, router), SIZE(asked),

@@ -7,9 +7,11 @@ struct Kind {
     answers: &'static [usize],
 }
 
-/// Too Big with no message: counted apart from 14, behind the last number.
-pub const TOO_BIG_SILENT: usize = 27;
-const ANSWERS: usize = 28;
+/// Counted apart, behind the last number: Too Big with no message, of 14; a piece that is ignored, of 27; what is joined, of 0.
+pub const TOO_BIG_SILENT: usize = 31;
+pub const IGNORED: usize = 32;
+pub const JOINED: usize = 33;
+const ANSWERS: usize = 34;
 
 macro_rules! kinds {
     ($($constant:ident $name:literal $answers:expr;)*) => {
@@ -22,7 +24,9 @@ macro_rules! kinds {
 kinds! {
     Defaults "defaults" [0];
     New "new" [0, 1];
-    Receive "receive" [0, 2, 3, 4, 5, 6, 7, 8, 9, 10];
+    Receive "receive" [0, 2, 3, 4, 6, 7, 8, 9, 10, 15];
+    Piece "receive of a piece" [JOINED, 2, 3, 4, 6, 7, 8, 9, 10, 15, 27, IGNORED, 28, 29, 30];
+    Joined "joined as whole" [0, 4, 6, 7, 8, 9, 10];
     Send "send" [0, 8, 11, 12, 13, 14, TOO_BIG_SILENT, 15];
     Report "report" [0, 16, 17, 18, 19];
     Replace "replace_routers" [0, 1];
@@ -43,7 +47,7 @@ kinds! {
     TooBig "too_big" [0, 8, 15];
     Solicitation "solicitation" [0, 15];
     Null "with (NULL, 0)" [0];
-    AnyNode "on any node" [0, 1, 11, 14, 15, 17, 19, 21, 22, 24, 25, 26];
+    AnyNode "on any node" [0, JOINED, 1, 8, 10, 11, 14, 15, 17, 19, 21, 22, 24, 25, 26, 27, 28, 29, 30];
 }
 
 pub struct Totals {
@@ -85,9 +89,10 @@ fn kind_line(kind: &Kind, counts: &[u64; ANSWERS]) -> String {
 }
 
 fn answer_name(answer: usize) -> String {
-    if answer == TOO_BIG_SILENT {
-        "14 silent".into()
-    } else {
-        answer.to_string()
+    match answer {
+        TOO_BIG_SILENT => "14 silent".into(),
+        IGNORED => "27 ignored".into(),
+        JOINED => "0 joined".into(),
+        _ => answer.to_string(),
     }
 }
