@@ -71,7 +71,8 @@ pub extern "C" fn bogtrumpet_new(node: &mut Node, settings: Settings) -> u8
     step.answer
 }
 
-// Where the inner packet stands, in the datagram or in the memory: Node::receive. A whole datagram moves no byte of what is collected.
+// Where the inner packet stands, in the datagram or in the memory: Node::receive. Of the node the latest time is written, and what is collected
+// where the datagram is a piece.
 #[no_mangle]
 pub extern "C" fn bogtrumpet_receive(
     node: &mut Node,

@@ -39,6 +39,7 @@ use Rattle.pieces.specs.declared.Answer.the-variants as taken
 use Rattle.pieces.proofs.Joining as pieces
 use Rattle.pieces.proofs.Joining.{Step, State, answer, after, afterAll, In, under}
 use Rattle.pieces.proofs.Holds.{pieces-join}
+use Rattle.pieces.proofs.History.{kept-grown}
 use Rattle.pieces.proofs.Keys.{of-live, of-key}
 use Rattle.receiving.specs.Collect.{isPiece, joinedBy}
 use Rattle.receiving.specs.Facts.{headerLength, totalLength, encapsulated, innerLength, OuterWhole}
@@ -54,69 +55,19 @@ use Rattle.demands.specs.Calls.{NodeCall, receiving, receivingPart, send
 use Rattle.demands.specs.Cuttings.{Cutting, Repeats}
 use Rattle.demands.specs.Joining.{HandsIn, IsLent, memoryAfter, Untouched, AtEach, NotForeign, IsOne, Admitted, HasKey, NoneLive, Arrive, WaitsOr, bytesBy, numberBy, deliveredBy, GetsTheWhole, PiecesJoin}
 use Rattle.demands.proofs.Left.{left, settings-kept}
-use Rattle.demands.specs.Collecting.{keyOf, partIn}
+use Rattle.demands.specs.Collecting.{keyOf, partIn, handedIn, CollectedByHistory}
 use Rattle.demands.proofs.PieceOf.{is-same, runs-on, same-payloads, in-parts, parts-in}
 use Rattle.demands.proofs.Steps.{arrival, stepAt, stepBy, stepsOf, stateOf, inwardRows, inward, stopped, answered-step, answered-whole, received}
 use Rattle.demands.proofs.Runs.{lent-step, steps, allSteps, memoryAfterAll, after-append, all-steps}
+use Rattle.demands.proofs.Collecting.{collected-by-history}
 use Rattle.demands.proofs.Arrivals.{onward, goes-onward, onward-number, one-right, one-key, one-piece, one-memory, one-arrival, one-stops}
 use Rattle.demands.proofs.Lift.{arrives, all-admitted, came, waits, back}
 
--- ---- eight places, on every node
-
-set-eight : (k : ℕ) (d : Place) (c : Collection) → length (c .places) ≡ 8 → length (set (c .places) k d) ≡ 8
-set-eight k d c h = length-set (c .places) k d ∙ h
-
-settled-eight : (k : ℕ) (d : Place) (c : Collection) → length (c .places) ≡ 8 → length (settled k d c .collection .places) ≡ 8
-unfolding settled
-settled-eight k d c h = go (isWhole d)
-  where
-    go : (b : Bool) → length (cond {A = Taken} b (record { answer = taken.Joined k (d .end); collection = withPlace k (freed d) c }) (record { answer = taken.Refused PieceWaits; collection = withPlace k d c }) .collection .places) ≡ 8
-    go true = set-eight k (freed d) c h
-    go false = set-eight k d c h
-
-taken-eight : (p : Plan) (now : ℕ) (key : Key) (x : Part) (c : Collection) → length (c .places) ≡ 8 → length (takenBy p now key x c .collection .places) ≡ 8
-taken-eight plan.Unfit now key x c h = h
-taken-eight plan.Full now key x c h = h
-taken-eight plan.Ignore now key x c h = h
-taken-eight (plan.Drop k) now key x c h = set-eight k (freed (placeAt c k)) c h
-taken-eight (plan.Extend k) now key x c h = settled-eight k (extended x (placeAt c k)) c h
-taken-eight (plan.Begin k) now key x c h = settled-eight k (extended x (begun key now)) c h
-
-step-eight : (s : State) (x : Step) → length (s .collection .places) ≡ 8 → length (after s x .collection .places) ≡ 8
-unfolding takenOf
-step-eight s x h = taken-eight (planOf (x .time) (x .key) (x .piece) (s .collection) (s .memory)) (x .time) (x .key) (x .piece) (s .collection) h
-
-steps-eight : (s : State) (xs : List Step) → length (s .collection .places) ≡ 8 → length (afterAll s xs .collection .places) ≡ 8
-steps-eight s [] h = h
-steps-eight s (x ∷ xs) h = steps-eight (after s x) xs (step-eight s x h)
-
--- a call that is no step leaves the places
-unchanged : (n : Node) (x : NodeCall) → stepsOf n x ≡ [] → IsLent n [] x → length (outcomeOf n x .node .service .pieces .places) ≡ length (n .service .pieces .places)
-unchanged n x none lent = ap (λ (s : State). length (s .collection .places)) (steps n [] x lent ∙ ap (λ (l : List Step). afterAll (stateOf n []) l) none)
-
--- a call keeps the places
-call-eight : (n : Node) (x : NodeCall) → length (n .service .pieces .places) ≡ 8 → length (outcomeOf n x .node .service .pieces .places) ≡ 8
-call-eight n (receiving e j time memory) h = ap (λ (s : State). length (s .collection .places)) (received n e j time memory) ∙ steps-eight (stateOf n memory) (stepsOf n (receiving e j time memory)) h
-call-eight n (receivingPart e j) h = h
-call-eight n (sending packet hop k time out) h = unchanged n (sending packet hop k time out) refl (λ a i. absurd (List·Memᴰ·not-nil i)) ∙ h
-call-eight n (reporting m time) h = unchanged n (reporting m time) refl (λ a i. absurd (List·Memᴰ·not-nil i)) ∙ h
-call-eight n (relisting addresses count time) h = unchanged n (relisting addresses count time) refl (λ a i. absurd (List·Memᴰ·not-nil i)) ∙ h
-call-eight n (asking k time out) h = unchanged n (asking k time out) refl (λ a i. absurd (List·Memᴰ·not-nil i)) ∙ h
-call-eight n (hearing packet time) h = unchanged n (hearing packet time) refl (λ a i. absurd (List·Memᴰ·not-nil i)) ∙ h
-call-eight n (advertising packet k a out) h = h
-
-pub calls-eight : (n : Node) (xs : List NodeCall) → length (n .service .pieces .places) ≡ 8 → length (nodeAfter n xs .service .pieces .places) ≡ 8
-calls-eight n [] h = h
-calls-eight n (x ∷ xs) h = calls-eight (outcomeOf n x .node) xs (call-eight n x h)
-
-chosen-eight : (b : Bool) (x y : Setup) → length (x .node .service .pieces .places) ≡ 8 → length (y .node .service .pieces .places) ≡ 8
-    → length (cond b x y .node .service .pieces .places) ≡ 8
-chosen-eight true x y p q = p
-chosen-eight false x y p q = q
-
-pub setup-eight : (s : Settings) → length (setupOf s .node .service .pieces .places) ≡ 8
-unfolding setupOf nodeOf
-setup-eight s = chosen-eight (isAccepted s) _ _ refl refl
+-- a node that grew from settings has eight places
+grown-eight : (s : Settings) → isAccepted s ≡ true → (before : List NodeCall) → length (nodeAfter (setupOf s .node) before .service .pieces .places) ≡ 8
+unfolding CollectedByHistory
+grown-eight s accepted before =
+    ap (λ (c : Collection). length (c .places)) (collected-by-history s accepted before) ∙ kept-grown (handedIn (setupOf s .node) before) .eight
 
 -- ---- lists of calls one behind another
 
@@ -407,4 +358,4 @@ module _ (i : ℕ) (d : List ℕ) (ps : List (List ℕ)) (n : Node) (e : List �
 pub pieces-join-on-nodes : PiecesJoin
 unfolding PiecesJoin
 pieces-join-on-nodes s accepted before i d ps e t m others f u w a =
-    joined-as-whole i d ps (nodeAfter (setupOf s .node) before) e t m others f u w (calls-eight (setupOf s .node) before (setup-eight s)) a
+    joined-as-whole i d ps (nodeAfter (setupOf s .node) before) e t m others f u w (grown-eight s accepted before) a

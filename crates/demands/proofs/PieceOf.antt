@@ -23,15 +23,6 @@ use Rattle.receiving.specs.Facts.{encapsulated}
 use Rattle.demands.specs.Collecting.{keyOf, partIn}
 use Rattle.demands.specs.Cuttings.{SameKey, HeaderRight, beginning, MoreFragments, RunOn, payloads, Repeats}
 
--- that is what the call reads
-pub key-read : (e : List ℕ) → pieceOf e (outerOf e) .key ≡ keyOf e
-unfolding pieceOf outerOf
-key-read e = refl
-
-pub part-read : (e : List ℕ) → partOf (pieceOf e (outerOf e)) (payloadOf e (outerOf e)) ≡ partIn e
-unfolding pieceOf outerOf payloadOf
-part-read e = refl
-
 -- ---- keys
 
 pub own-key : (a : List ℕ) → SameKey a a
@@ -52,9 +43,6 @@ key-back p = record {
   protocol = sym (p .protocol);
   identification = sym (p .identification);
 }
-
-pub same-keys : {e d : List ℕ} → SameKey e d → keyOf e ≡ keyOf d
-same-keys {e} {d} k = rw (k .source, k .destination, k .identification, k .protocol)
 
 pub is-same : {e d : List ℕ} → SameKey e d → isSame (keyOf d) (keyOf e) ≡ true
 unfolding isSame

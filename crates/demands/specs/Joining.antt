@@ -120,7 +120,7 @@ bytesBy (Delivered offset size) d memory = part offset size d
 bytesBy (Joined offset size) d memory = part offset size memory
 bytesBy (Refused r) d memory = []
 
--- what the call for the number gives, on the node n: its number, and the bytes delivered
+-- the number that the call for it gives, on the node n
 abbrev pub numberBy : Node → List ℕ → ℕ → ℕ → List ℕ → ℕ
 numberBy n d i time memory = outcomeOf n (receiving d i time memory) .given .number
 

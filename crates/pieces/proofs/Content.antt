@@ -47,9 +47,6 @@ module _ (ps : List Part) (payload : List ℕ) (cut : Fitted ps payload) where
   pub some-payload : 0 < length payload
   some-payload = let l = final 0 ps (cut .runs) in omega (arith, fits (l .0) (l .1) .some, lying (l .0) (l .1) .to)
 
-  pub small-payload : length payload ≤ room
-  small-payload = let l = final 0 ps (cut .runs) in omega (arith, fits (l .0) (l .1) .inside, lying (l .0) (l .1) .last (l .2))
-
   -- at first nothing has come
   pub content-none : (key : Key) (now k : ℕ) (memory : List ℕ) → Content [] k (begun key now) memory
   unfolding anyHeld allHeld

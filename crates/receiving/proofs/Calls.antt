@@ -68,22 +68,6 @@ pub stop-pair : {A B : Type 0} (f : Refusal → A) (g : Refusal → B) (k : Chec
 stop-pair f g Pass x y = refl
 stop-pair f g (Stop r) x y = refl
 
-module _ (s : Settings) (routers : List Router) (lent : ℕ) (d : List ℕ) (interface : ℕ) where
-  -- a whole datagram: what its arrival says, and then what its payload and its source say
-  pub whole-verdict : wholeOf s routers lent d interface
-      ≡ stopOr Refused (arrivalCheck s interface lent d)
-      (stopOr Refused (packetCheck s routers (quadAt d 12) (encapsulated d)) (Delivered (headerLength d) (innerOf (encapsulated d) .length)))
-  unfolding wholeOf outerOf payloadOf
-  whole-verdict =
-      let p = payloadOf d (outerOf d) in
-      stop-append Refused (arrivalRows s interface lent d (outerOf d)) (innerRows s (listed (quadAt d 12) routers) (quadAt d 12) (length p) (innerOf p))
-      (Delivered (headerLength d) (innerOf p .length))
-
--- what a piece completes: what the payload and the source say, whatever place it stands in
-pub joined-verdict : (s : Settings) (routers : List Router) (v k n : ℕ) (memory p : List ℕ) → part (2048 * k) n memory ≡ p
-    → joinedBy s routers v (taken.Joined k n) memory ≡ stopOr Refused (packetCheck s routers v p) (Joined (2048 * k) (innerOf p .length))
-joined-verdict s routers v k n memory p e = rw (← e)
-
 module _ (s : Settings) (routers : List Router) (c : Collection) (now : ℕ) (d : List ℕ) (interface : ℕ) (memory : List ℕ) where
   -- a whole datagram leaves collection and memory
   pub whole-call : Unfragmented d
@@ -107,11 +91,3 @@ module _ (s : Settings) (routers : List Router) (c : Collection) (now : ℕ) (d 
       let e = decides-piece d .passes h in
       let l = low-bits (wordAt d 6) in
       (rw (e, l), rw (e, l))
-
--- two datagrams that pass 2 and 3, from one source to one destination, of one protocol, fare alike in 15, 2, 3, 4, 6, 7 on one interface
-pub same-arrival : (s : Settings) (interface lent : ℕ) (d e : List ℕ) → OuterWhole d → SumRight d → OuterWhole e → SumRight e
-    → quadAt d 12 ≡ quadAt e 12 → quadAt d 16 ≡ quadAt e 16 → getD d 9 0 ≡ getD e 9 0
-    → arrivalCheck s interface lent d ≡ arrivalCheck s interface lent e
-unfolding outerOf isSumWrong isRightFrom
-same-arrival s interface lent d e wd sd we se source destination protocol =
-    rw (bytes-whole-outer d wd, eq-eqb _ _ sd, bytes-whole-outer e we, eq-eqb _ _ se, source, destination, protocol)

@@ -7,4 +7,3 @@ pub mod Delivered
 pub mod Cases
 pub mod Calls
 pub mod Collected
-pub mod Changes

@@ -95,24 +95,6 @@ pub joined-stages : (s : Settings) (routers : List Router) (source k n : ℕ) (m
 unfolding openedOf innerCheck
 joined-stages s routers source k n memory = sym (joined-stop (room * k) _ (innerCheck s (listed source routers) source (length (part (room * k) n memory)) (innerOf (part (room * k) n memory))))
 
-module _ (s : Settings) (c : Collection) (now : ℕ) (d : List ℕ) (interface : ℕ) (memory : List ℕ) where
-  -- a piece: 15, 2, 3, 4, 6, 7, then what comes of it
-  pub fragment-stages : (routers : List Router)
-      → fragmentOf s routers c now d interface memory
-      ≡ readOr (λ (r : Refusal). record { answer = Refused r; pieces = c }) (arrivalOf s interface (length memory) d) (λ (o : Outer). takenPiece s routers c now d o memory)
-  unfolding fragmentOf arrivalOf
-  fragment-stages routers =
-      sym (read-stop (λ (r : Refusal). record { answer = Refused r; pieces = c }) (firstOf (arrivalRows s interface (length memory) d (outerOf d))) (outerOf d)
-      (λ (o : Outer). takenPiece s routers c now d o memory))
-
-  -- and what stands in the memory then
-  pub fragment-memory : fragmentMemory s c now d interface memory
-      ≡ readOr (λ (r : Refusal). memory) (arrivalOf s interface (length memory) d) (λ (o : Outer). takenMemory c now d o memory)
-  unfolding fragmentMemory arrivalOf
-  fragment-memory =
-      sym (read-stop (λ (r : Refusal). memory) (firstOf (arrivalRows s interface (length memory) d (outerOf d))) (outerOf d)
-      (λ (o : Outer). takenMemory c now d o memory))
-
 -- what is judged of a piece that was taken is what it completes
 judged-stage : (s : Settings) (routers : List Router) (d memory : List ℕ) (o : Outer) (a : Answer)
     → judgedOf s routers d memory o (stageOf a) ≡ joinedBy s routers (o .source) a memory
