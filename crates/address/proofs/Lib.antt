@@ -1,4 +1,5 @@
 -- What the proofs of several functions use, and the laws that callers cite.
 pub mod Laws
-pub mod Quads
+pub mod Numbers
+pub mod Bytes
 pub mod Facts

@@ -24,10 +24,6 @@ isForbidden a =
     || (isWithin (quadOf 224 0 0 0) (quadOf 239 255 255 255) a
     || eqb a (quadOf 255 255 255 255)))
 
--- two numbers of 32 bits as one of 64, the first the higher
-abbrev pub wideOf : ℕ → ℕ → ℕ
-wideOf high low = high * 4294967296 + low
-
 -- the last 32 bits of an IPv6 address
 unfoldable pub lastQuad : List ℕ → ℕ
 lastQuad a = quadOf (getD a 12 0) (getD a 13 0) (getD a 14 0) (getD a 15 0)
@@ -61,10 +57,6 @@ isIdentifier a =
 -- R6.1: an ISATAP address has an on-link prefix, the identifier, and then the IPv4 address
 unfoldable pub embeddedIn : List (List ℕ) → ℕ → List ℕ → Embedded
 embeddedIn prefixes count a = cond (isOnLink prefixes count a && isIdentifier a) (Ipv4 (lastQuad a)) Nothing
-
--- R6.1, R6.2: an ISATAP address with the link-local prefix, which embeds v
-unfoldable pub isLinkLocalIsatap : List ℕ → ℕ → Bool
-isLinkLocalIsatap a v = isLinkLocal a && (isIdentifier a && eqb (lastQuad a) v)
 
 -- R6.3: those we form have 00
 abbrev pub firstIdentifierByte : ℕ

@@ -1,3 +1,4 @@
 pub mod Address
+pub mod Quads
 pub mod Prefixes
 pub mod Facts

@@ -1,7 +1,7 @@
 -- What the proofs of several functions use, and the laws that callers cite.
 pub mod Stages
 pub mod InPlace
-pub mod LinkLocal
+pub mod Embeds
 pub mod Facts
 pub mod Delivered
 pub mod Cases

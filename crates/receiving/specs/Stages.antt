@@ -1,10 +1,12 @@
 -- The orders of receiving in stages, as the code goes through them: 2 to 4, and 2 to 5, are read with the outer header (`headerReadOf`,
--- `outerReadOf`). That they are the tables of `receiveRows` and `arrivalRows` is proved. Only functions of the crate's own cite this.
-use Prim.Native.Nat.{ℕ, _<_, _*_}
-use mathlib.Core.Bool.{Bool, cond, not}
+-- `outerReadOf`). That they are the tables of `receiveRows` and `arrivalRows` is proved. Only functions of the crate's own cite this, and
+-- who gathers and judges by itself (`judgedOf`, `judgedWith`).
+use Prim.Native.Nat.{ℕ, _<_}
+use mathlib.Core.Path.{_≡_}
+use mathlib.Core.Bool.{Bool, false, cond, not}
 use mathlib.Core.List.{List, [], _∷_}
 use lib.ListN.{length}
-use Rattle.lists.specs.Parts.{part}
+use Rattle.address.specs.Quads.{bytesIn}
 use Rattle.refusals.specs.Refusals.{firstOf, stopOr}
 use Rattle.refusals.specs.declared.Refusal.{Refusal}
 use Rattle.refusals.specs.declared.Refusal.the-variants.{NotForUs, OuterSourceForbidden}
@@ -19,21 +21,17 @@ use Rattle.settings.specs.Settings.{forbiddenTo, isOurLocator}
 use Rattle.settings.specs.declared.Settings.{Settings}
 use Rattle.routers.specs.Routers.{listed}
 use Rattle.routers.specs.declared.Router.{Router}
-use Rattle.pieces.specs.Places.{places, room, partOf}
-use Rattle.pieces.specs.Take.{takenOf}
+use Rattle.pieces.specs.Places.{places}
 use Rattle.pieces.specs.declared.Answer as taken
 use Rattle.pieces.specs.declared.Answer.the-variants as taken-as
 use Rattle.pieces.specs.declared.Collection.{Collection}
-use Rattle.pieces.specs.declared.Piece.{Piece}
-use Rattle.pieces.specs.declared.Taken.{Taken}
 use Rattle.receiving.specs.Receive.{innerRows}
-use Rattle.receiving.specs.Collect.{arrivalRows, isPiece, pieceOf, takenMemory}
+use Rattle.receiving.specs.Collect.{arrivalRows, isPiece, takenPiece, takenMemory}
 use Rattle.receiving.specs.declared.collect.Collected.{Collected}
-use Rattle.receiving.specs.declared.collect.Stage.{Stage}
-use Rattle.receiving.specs.declared.collect.Stage.the-variants as stage
-use Rattle.receiving.specs.declared.collect.Staged.{Staged}
-use Rattle.receiving.specs.declared.Opened.{Opened}
-use Rattle.receiving.specs.declared.Opened.the-variants as opened
+use Rattle.receiving.specs.declared.collect.Gathered.{Gathered}
+use Rattle.receiving.specs.declared.judging.Opening.{Opening}
+use Rattle.receiving.specs.declared.judging.Stage.{Stage}
+use Rattle.receiving.specs.declared.judging.Stage.the-variants as stage
 use Rattle.receiving.specs.declared.Received.{Received}
 use Rattle.receiving.specs.declared.Received.the-variants.{Delivered, Joined, Refused}
 
@@ -57,68 +55,55 @@ arrivedOf s interface r = readOr read.Refused r (λ (o : Outer). readWith (addre
 unfoldable pub arrivalOf : Settings → ℕ → ℕ → List ℕ → OuterRead
 arrivalOf s interface lent d = readWith (firstOf (arrivalRows s interface lent d (outerOf d))) (outerOf d)
 
--- 8 to 10 of what is encapsulated, p, from that outer source; and then the inner packet's length
-unfoldable pub openedOf : Settings → List Router → ℕ → List ℕ → Opened
-openedOf s routers source p =
-    stopOr opened.Refused (innerCheck s (listed source routers) source (length p) (innerOf p)) (opened.Packet (innerOf p .length))
+-- the inner header that is read; of an inner header 8 to 10 ask the version, the length and the source alone
+abbrev pub innerIn : Opening → Inner
+innerIn x = record { version = x .version; length = x .packet; next = 0; hop = 0; source = bytesIn (x .address) }
 
--- an inner packet that stands in the datagram from there on
-abbrev pub deliveredAt : ℕ → Opened → Received
-deliveredAt offset (opened.Packet n) = Delivered offset n
-deliveredAt offset (opened.Refused r) = Refused r
+-- where an inner packet of n bytes stands: in the memory if it was joined there, else in the datagram
+abbrev pub placedAt : Bool → ℕ → ℕ → Received
+placedAt joined offset n = cond joined (Joined offset n) (Delivered offset n)
 
--- an inner packet that stands in the memory from there on
-abbrev pub joinedAt : ℕ → Opened → Received
-joinedAt offset (opened.Packet n) = Joined offset n
-joinedAt offset (opened.Refused r) = Refused r
+-- 8 to 10 of what is read, and then where the inner packet stands
+unfoldable pub judgedOf : Settings → List Router → Stage → Received
+judgedOf s routers (stage.Open x) =
+    stopOr Refused (innerCheck s (listed (x .source) routers) (x .source) (x .length) (innerIn x)) (placedAt (x .joined) (x .offset) (x .packet))
+judgedOf s routers (stage.Refused r) = Refused r
 
--- 8 to 10, of a datagram that has arrived, and then the inner packet
+-- what is read says all that is asked: what is judged of it is that answer, whatever settings and routers there are
+abbrev pub ReadAs : (Settings → List Router → Received) → Stage → Type 0
+ReadAs answer x = (s : Settings) (routers : List Router) → judgedOf s routers x ≡ answer s routers
+
+-- 8 to 10 of what is encapsulated, p, from that outer source; and then where the inner packet stands
+unfoldable pub openedOf : Settings → List Router → Bool → ℕ → ℕ → List ℕ → Received
+openedOf s routers joined offset source p =
+    stopOr Refused (innerCheck s (listed source routers) source (length p) (innerOf p)) (placedAt joined offset (innerOf p .length))
+
+-- the same of a datagram d with the outer fields o that has arrived whole
+unfoldable pub wholeOpened : Settings → List Router → List ℕ → Outer → Received
+wholeOpened s routers d o = openedOf s routers false (o .header) (o .source) (payloadOf d o)
+
+-- the same behind the numbers of its arrival
 unfoldable pub deliveredOf : Settings → List Router → List ℕ → OuterRead → Received
-deliveredOf s routers d r = readOr Refused r (λ (o : Outer). deliveredAt (o .header) (openedOf s routers (o .source) (payloadOf d o)))
+deliveredOf s routers d r = readOr Refused r (λ (o : Outer). wholeOpened s routers d o)
 
 -- the place of a joined datagram is one of the eight
 abbrev pub InMemory : taken.Answer → Type 0
 InMemory (taken-as.Joined k n) = k < places
 InMemory (taken-as.Refused r) = Unit {0}
 
--- what is to be opened, by what comes of a piece: the joined datagram from byte 2,048 k of the memory on
-abbrev pub stageOf : taken.Answer → Stage
-stageOf (taken-as.Joined k n) = stage.Joined (room * k) n
-stageOf (taken-as.Refused r) = stage.Refused r
+-- what comes of what is gathered: the answer, and what is collected afterwards
+abbrev pub judgedWith : Settings → List Router → Gathered → Collected
+judgedWith s routers g = record { answer = judgedOf s routers (g .stage); pieces = g .pieces }
 
--- the same of a piece with the outer fields o that has arrived, and what is collected then
-unfoldable pub stagedPiece : Collection → ℕ → List ℕ → Outer → List ℕ → Staged
-stagedPiece c now d o memory =
-    let x : Piece = pieceOf d o in
-    let t : Taken = takenOf now (x .key) (partOf x (payloadOf d o)) c memory in
-    record { stage = stageOf (t .answer); pieces = t .collection }
+-- what is gathered says all that is asked
+abbrev pub GatheredAs : (Settings → List Router → Collected) → Gathered → Type 0
+GatheredAs answer g = (s : Settings) (routers : List Router) → judgedWith s routers g ≡ answer s routers
 
--- the same of any datagram that has arrived: a whole one leaves what is collected
-unfoldable pub stagedOf : Collection → ℕ → List ℕ → Outer → List ℕ → Staged
-stagedOf c now d o memory = cond (isPiece o) (stagedPiece c now d o memory) (record { stage = stage.Whole; pieces = c })
-
--- what then stands in the memory
-unfoldable pub stagedMemory : Collection → ℕ → List ℕ → Outer → List ℕ → List ℕ
-stagedMemory c now d o memory = cond (isPiece o) (takenMemory c now d o memory) memory
-
--- the bytes that are to be opened, of a datagram d or of the memory
-abbrev pub encapsulatedIn : List ℕ → List ℕ → Outer → Stage → List ℕ
-encapsulatedIn d memory o stage.Whole = payloadOf d o
-encapsulatedIn d memory o (stage.Joined offset n) = part offset n memory
-encapsulatedIn d memory o (stage.Refused r) = []
-
--- where the inner packet stands, behind an outer header of so many bytes or in the memory
-abbrev pub placedAt : Stage → ℕ → Opened → Received
-placedAt stage.Whole header x = deliveredAt header x
-placedAt (stage.Joined offset n) header x = joinedAt offset x
-placedAt (stage.Refused r) header x = Refused r
-
--- 8 to 10 of what is to be opened, and then where the inner packet stands
-unfoldable pub judgedOf : Settings → List Router → List ℕ → List ℕ → Outer → Stage → Received
-judgedOf s routers d memory o g = placedAt g (o .header) (openedOf s routers (o .source) (encapsulatedIn d memory o g))
-
--- what comes of any datagram that has arrived
+-- what comes of any datagram that has arrived: a whole one leaves what is collected
 unfoldable pub settledOf : Settings → List Router → Collection → ℕ → List ℕ → Outer → List ℕ → Collected
 settledOf s routers c now d o memory =
-    let t : Staged = stagedOf c now d o memory in
-    record { answer = judgedOf s routers d (stagedMemory c now d o memory) o (t .stage); pieces = t .pieces }
+    cond (isPiece o) (takenPiece s routers c now d o memory) (record { answer = wholeOpened s routers d o; pieces = c })
+
+-- what then stands in the memory
+unfoldable pub settledMemory : Collection → ℕ → List ℕ → Outer → List ℕ → List ℕ
+settledMemory c now d o memory = cond (isPiece o) (takenMemory c now d o memory) memory

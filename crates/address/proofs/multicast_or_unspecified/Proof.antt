@@ -1,15 +1,10 @@
--- `address::multicast_or_unspecified` meets its contract: the call gives its part of the test. Assumes nothing.
+-- `address::multicast_or_unspecified` meets its contract: the four numbers have the address's bytes. Assumes nothing.
 use borrow.Author.Needs.{needs}
-use native.Mathlib.Omega.{arith}
-use Rattle.address.specs.Address.{isMulticastOrUnspecified}
 use Rattle.address.proofs.multicast_or_unspecified.Statement.{statement}
 use Rattle.address.proofs.multicast_or_unspecified.Tie as tie
 
 returns : tie.Need-returns
-unfolding isMulticastOrUnspecified
-returns c = rw (c .unspecified .ensures)
+returns c = rw (c .multicast-or-unspecified .ensures, c .before .numbers .ensures .1)
 
 pub multicast-or-unspecified-spec : {M : Type 1} → statement M
-multicast-or-unspecified-spec =
-    tie.close
-    (tie.spec (omega arith) (search needs) returns)
+multicast-or-unspecified-spec = tie.close (tie.spec (search needs) (search needs) returns)

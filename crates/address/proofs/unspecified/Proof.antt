@@ -1,12 +1,10 @@
--- `address::unspecified` meets its contract: each call gives its part of the test. Assumes nothing.
+-- `address::unspecified` meets its contract: the four numbers have the address's bytes. Assumes nothing.
 use borrow.Author.Needs.{needs}
 use Rattle.address.proofs.unspecified.Statement.{statement}
 use Rattle.address.proofs.unspecified.Tie as tie
 
 returns : tie.Need-returns
-returns c = rw (c .last-quad .ensures, c .before .zero-96 .ensures)
+returns c = rw (c .unspecified .ensures, c .before .numbers .ensures .1)
 
 pub unspecified-spec : {M : Type 1} → statement M
-unspecified-spec =
-    tie.close
-    (tie.spec (search needs) (search needs) returns)
+unspecified-spec = tie.close (tie.spec (search needs) (search needs) returns)

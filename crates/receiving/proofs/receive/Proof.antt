@@ -5,7 +5,9 @@ use Rattle.receiving.proofs.receive.Statement.{statement}
 use Rattle.receiving.proofs.receive.Tie as tie
 
 returns : tie.Need-returns
-returns c = rw (by-stages, c .deliver .ensures, c .before .arrive .ensures, c .before .before .read-outer .ensures)
+returns c =
+    let a = c .before .before in
+    rw (by-stages, c .judge .ensures, c .before .stage-whole .ensures, a .arrive .ensures, a .before .read-outer .ensures)
 
 pub receive-spec : {M : Type 1} → statement M
-receive-spec = tie.close (tie.spec (omega arith) (omega arith) (omega arith) returns)
+receive-spec = tie.close (tie.spec (omega arith) (omega arith) (omega arith) (omega arith) returns)

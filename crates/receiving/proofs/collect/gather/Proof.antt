@@ -1,20 +1,23 @@
--- `receiving::collect::gather` meets its contract: by whether the datagram is a piece. Assumes nothing.
+-- `receiving::collect::gather` meets its contract: by cases on what has arrived. Assumes nothing.
+use borrow.Author.Needs.{needs}
 use native.Mathlib.Omega.{arith}
-use borrow.Author.Tests.{eq-eqb, ne-eqb}
-use Rattle.receiving.specs.Stages.{stagedOf, stagedMemory}
+use Rattle.receiving.specs.Stages.{judgedOf}
+use Rattle.receiving.proofs.Stages.{collected-stages, collected-memory}
 use Rattle.receiving.proofs.collect.gather.Statement.{statement}
 use Rattle.receiving.proofs.collect.gather.Tie as tie
 
 returns : tie.Need-returns
-unfolding stagedOf stagedMemory
 returns c =
-    let g = c .before .before .gather-piece .ensures in
-    let h = ne-eqb _ _ (c .before .before .before .before .if1 .taken) in
-    (rw h (g .0), rw h (g .1))
+    let g = c .before .before .gather-arrived .ensures in
+    let m = c .before .before .before .before .before in
+    let arrival = m .before .before .arrival .ensures in
+    (λ routers. rw (collected-stages, ← arrival, m .arrived .given .1, g .0), rw (collected-memory, ← arrival, m .arrived .given .1) (g .1))
 
 returns-2 : tie.Need-returns-2
-unfolding stagedOf stagedMemory
-returns-2 c = let h = eq-eqb _ _ (c .if1 .left) in (rw h, rw h)
+unfolding judgedOf
+returns-2 c =
+    let arrival = c .before .before .before .arrival .ensures in
+    (λ routers. rw (collected-stages, ← arrival, c .before .arrived2 .given .1), rw (collected-memory, ← arrival, c .before .arrived2 .given .1))
 
 pub gather-spec : {M : Type 1} → statement M
-gather-spec = tie.close (tie.spec (omega arith) (omega arith) returns returns-2)
+gather-spec = tie.close (tie.spec (omega arith) (search needs) (omega arith) (search needs) (omega arith) returns returns-2)

@@ -1,0 +1,135 @@
+// Numbers 8 to 10, and then where the inner packet stands. They are asked of what is read of the inner header, so that one judging does for
+// a header that stands in the datagram and for one in the memory.
+use crate::Received;
+use address::prefixes;
+use address::quads;
+use address::quads::Quads;
+use header::INNER_HEADER;
+use header::inner;
+use refusals::Check;
+use refusals::Refusal;
+use routers::RouterList;
+use settings::Settings;
+ghost use mathlib.Core.Path.{_≡_};
+ghost use Rattle.address.specs.Address.{lastQuad, isBadSourceWith};
+ghost use Rattle.address.specs.Quads.{bytesIn};
+ghost use Rattle.settings.specs.Settings.{forbiddenTo};
+ghost use Rattle.routers.specs.Routers.{live, listed};
+ghost use Rattle.receiving.specs.Receive.{embeds, isSourceRight};
+ghost use Rattle.receiving.specs.Stages.{innerIn, innerCheck, placedAt, openedOf, judgedOf, ReadAs};
+
+// What 8 to 10 are asked of: whether it was joined in the memory, and where it stands there or in the datagram; the outer source and the
+// payload's length; and of the inner header the version, the packet's length and the source address.
+pub struct Opening {
+    pub joined: bool,
+    pub offset: usize,
+    pub source: u32,
+    pub length: usize,
+    pub version: u8,
+    pub packet: usize,
+    pub address: Quads,
+}
+
+// That, or the number.
+pub enum Stage {
+    Open(Opening),
+    Refused(Refusal),
+}
+
+// What is read of a payload from that outer source. Its length is asked first, so that the header is then read without asking it again.
+pub fn read_inner(joined: bool, offset: usize, source: u32, payload: &[u8]) -> Stage
+    ensures { λ r. ⌜ ReadAs (λ s routers. openedOf s routers joined offset source (now (payload .entry))) r ⌝ }
+{
+    if payload.len() < INNER_HEADER {
+        return Stage::Refused(Refusal::InnerMalformed);
+    }
+    let i = inner::inner_header(payload);
+    let a = i.source;
+    let x = Opening {
+        joined,
+        offset,
+        source,
+        length: payload.len(),
+        version: i.version,
+        packet: i.length,
+        address: quads::numbers(a),
+    };
+    Stage::Open(x)
+}
+
+// Whether the inner source is bad.
+fn source_bad(settings: Settings, q: Quads) -> bool
+    ensures { λ r. ⌜ r ≡ isBadSourceWith (forbiddenTo settings (lastQuad (bytesIn q))) (bytesIn q) ⌝ }
+{
+    let forbidden = settings.forbidden_to(q.last);
+    quads::bad_source_with(forbidden, q)
+}
+
+// Whether the address is an ISATAP address that embeds v. Most have the link-local prefix: then the settings' are not read.
+fn embeds_it(settings: Settings, q: Quads, v: u32) -> bool
+    ensures { λ r. ⌜ r ≡ embeds settings (bytesIn q) v ⌝ }
+{
+    if quads::identifier(q) & (q.last == v) {
+        if quads::link_local_prefixed(q) {
+            return true;
+        }
+        let on_link = settings.prefixes;
+        return quads::on_link(prefixes::rows(on_link), settings.prefix_count, q);
+    }
+    false
+}
+
+// Whether the inner source is right for the outer one. The router list is read only where the address does not embed it.
+fn source_right(settings: Settings, routers: RouterList, source: u32, q: Quads) -> bool
+    ensures { λ r. ⌜ r ≡ isSourceRight settings (listed source (live routers)) source (bytesIn q) ⌝ }
+{
+    if embeds_it(settings, q, source) {
+        return true;
+    }
+    routers.lists(source)
+}
+
+// Numbers 8, 9 and 10.
+fn check_inner(settings: Settings, routers: RouterList, x: Opening) -> Check
+    ensures { λ r. ⌜ r ≡ innerCheck settings (listed (x .source) (live routers)) (x .source) (x .length) (innerIn x) ⌝ }
+{
+    if (x.length < INNER_HEADER) | (x.version != 6) | (x.length < x.packet) {
+        return Check::Stop(Refusal::InnerMalformed);
+    }
+    let q = x.address;
+    if source_bad(settings, q) {
+        return Check::Stop(Refusal::InnerSourceBad);
+    }
+    if !source_right(settings, routers, x.source, q) {
+        return Check::Stop(Refusal::OuterSourceWrong);
+    }
+    Check::Pass
+}
+
+// Where the inner packet stands: its length is by its header.
+fn placed(x: Opening) -> Received
+    ensures { λ r. ⌜ r ≡ placedAt (x .joined) (x .offset) (x .packet) ⌝ }
+{
+    let offset = x.offset;
+    let length = x.packet;
+    if x.joined {
+        return Received::Joined { offset, length };
+    }
+    Received::Delivered { offset, length }
+}
+
+// What comes of what is read.
+pub fn judge(settings: Settings, routers: RouterList, stage: Stage) -> Received
+    ensures { λ r. ⌜ r ≡ judgedOf settings (live routers) stage ⌝ }
+{
+    match stage {
+        Stage::Open(x) => {
+            let check = check_inner(settings, routers, x);
+            match check {
+                Check::Pass => placed(x),
+                Check::Stop(refusal) => Received::Refused(refusal),
+            }
+        }
+        Stage::Refused(refusal) => Received::Refused(refusal),
+    }
+}
