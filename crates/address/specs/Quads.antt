@@ -1,4 +1,4 @@
--- An IPv6 address as four numbers of 32 bits, the first the highest.
+-- An IPv6 address as four numbers of 32 bits, the first the highest. No contract of node, boundary or program rests on this.
 use Prim.Native.Nat.{ℕ, _/_, _%_}
 use mathlib.Core.List.{List, [], _∷_}
 use lib.ListN.{getD}

@@ -1,7 +1,7 @@
 -- The options that we write: their bytes are those of the RFCs, they are whole, and a reader takes the lifetimes that the operator set.
 -- Assumes nothing.
 use Prim.Native.Nat.{ℕ, _-_, _*_, _≤_, _<_}
-use mathlib.Core.Path.{_≡_, refl, sym, ap, _∙_}
+use mathlib.Core.Path.{_≡_, refl, ap, _∙_}
 use mathlib.Core.Logic.{inl, inr}
 use mathlib.Core.Bool.{Bool, true, false}
 use mathlib.Core.List.{List, _∷_}
@@ -11,7 +11,7 @@ use lib.Seq.{take-all}
 use Rattle.checksum.proofs.Bytes.{Bytes, bytes-take}
 use Rattle.header.specs.Wrap.{be32}
 use Rattle.options.specs.Options.{IsOption}
-use Rattle.options.specs.Facts.{PrefixOption, RouteOption, HasLifetime}
+use Rattle.options.specs.Facts.{HasLifetime}
 use Rattle.advertisements.specs.Bits.{flagBits, firstBitsOf}
 use Rattle.advertisements.specs.Options.{prefixOption, preferenceBits, routeUnits, routeOption}
 use Rattle.advertisements.specs.OptionFacts.{PrefixOptionOf, preferenceByte, RouteOptionOf}

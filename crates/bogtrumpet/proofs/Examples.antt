@@ -1,7 +1,7 @@
 -- A worked struct of C, of bytes that C may hold, and the advertisement that it stands for: field by field, each value another. Assumes nothing.
 use mathlib.Core.Path.{_≡_, refl}
 use mathlib.Core.Bool.{true, false}
-use mathlib.Core.List.{List, [], _∷_, _++_}
+use mathlib.Core.List.{_∷_}
 use Prim.Native.Nat.{ℕ}
 use lib.ListN.{replicate}
 use Rattle.advertisements.specs.declared.prefix.Prefix as told

@@ -1,23 +1,25 @@
 -- What the calls on a node are, as those over a pointer make them: the one place that looks into the node's own definitions. Assumes nothing.
 --     size-is, size-now, size-toward     a size over the table's rows is the node's
---     received-answer, received-same     a piece changes what is collected and the latest time alone, a whole datagram the latest time alone
+--     stored-after, gathered-same      receiving changes one place, or none, and the latest time alone
 --     reported-same, replaced-same, asked-same, heard-same     a size report changes the path table and the latest time alone, the others the router list and the latest time
 --     sent-same        a sending over a path of the size toward the tunnel end is the node's, and changes the identification and the latest time alone
 use mathlib.Core.Path.{_≡_, refl, ap, _∙_}
-use Prim.Native.Nat.{ℕ, max}
+use Prim.Native.Nat.{ℕ, max, _<_}
 use mathlib.Core.Bool.{Bool, true, false, cond}
 use mathlib.Core.List.{List}
 use lib.ListN.{length}
 use Rattle.address.specs.Address.{lastQuad}
 use Rattle.paths.specs.Kept.{inForce}
 use Rattle.paths.specs.Table.{keptAmong, keptIn}
-use Rattle.header.specs.Outer.{outerOf}
 use Rattle.refusals.specs.declared.Refusal.the-variants as refusal
 use Rattle.routers.specs.Routers.{live, replacedOf}
 use Rattle.settings.specs.Settings.{areRoutersRight}
 use Rattle.sending.specs.Sending.{sentOutput}
-use Rattle.receiving.specs.Collect.{wholeOf, isPiece, fragmentOf, collectedOf}
-use Rattle.receiving.specs.declared.collect.Collected.{Collected}
+use Rattle.pieces.specs.Places.{places}
+use Rattle.pieces.specs.Take.{withPlace}
+use Rattle.receiving.specs.Collect.{Collected, collectedOf}
+use Rattle.receiving.specs.Stages.{judgedWith}
+use Rattle.receiving.specs.declared.collect.Gathered.{Gathered}
 use Rattle.node.specs.Ask.{askOf}
 use Rattle.node.specs.Hear.{hearOf}
 use Rattle.node.specs.Receive.{withPieces, collectedBy, receiveOf}
@@ -28,8 +30,11 @@ use Rattle.node.specs.declared.router_list.Replaced.{Replaced}
 use Rattle.node.specs.Node.{nodeWith, raisedTo, pathSizeAt, pathSize}
 use Rattle.node.specs.Send.{pathSizeToward, sentBy, sendOf, sendOutput}
 use Rattle.node.specs.declared.Node.{Node}
+use Rattle.node.specs.declared.Service.{Service}
 use Rattle.bogtrumpet.specs.Answers.{plainReceived, plainSent}
-use Rattle.bogtrumpet.specs.Steps.{receivedStep, sentStep, storedAfter}
+use Rattle.bogtrumpet.specs.Gathered.{judgedStep, gatheredAfter, GatheredAs}
+use Rattle.bogtrumpet.specs.Steps.{sentStep, storedAfter}
+use Rattle.bogtrumpet.specs.declared.steps.GatheredStep.{GatheredStep}
 use Rattle.bogtrumpet.specs.declared.steps.SentStep.{SentStep}
 use Rattle.bogtrumpet.proofs.Changed.{at-time, with-paths, with-service}
 
@@ -60,27 +65,42 @@ module _ (h : Node) (p hop : List ℕ) (k t : ℕ) (out : List ℕ) where
       × (sentOutput (h .service .settings) (h .service .identification) size p hop k out ≡ sendOutput h p hop k t out)
   sent-same size sized = (ap (λ (s : ℕ). step s .answer) sized ∙ at-size .0, ap (λ (s : ℕ). storedAfter h (step s)) sized ∙ at-size .1, ap (λ (s : ℕ). sentOutput (h .service .settings) (h .service .identification) s p hop k out) sized ∙ at-size .2)
 
-module _ (h : Node) (d : List ℕ) (i t : ℕ) (memory : List ℕ) where
-  abbrev picked : Bool → Collected
-  picked b =
-      cond b (fragmentOf (h .service .settings) (live (h .service .routers)) (h .service .pieces) (max (h .latest) t) d i memory)
-      (record { answer = wholeOf (h .service .settings) (live (h .service .routers)) (length memory) d i; pieces = h .service .pieces })
+-- the node that receiving stores, part by part
+pub stored-after : (h : Node) (step : GatheredStep) → at-time (cond (step .piece) (with-service h (withPieces (h .service) (withPlace (step .at) (step .place) (h .service .pieces)))) h) (step .latest) ≡ gatheredAfter h step
+stored-after h step = go (step .piece)
+  where
+    go : (b : Bool) → at-time (cond b (with-service h (withPieces (h .service) (withPlace (step .at) (step .place) (h .service .pieces)))) h) (step .latest)
+        ≡ record { service = cond b (withPieces (h .service) (withPlace (step .at) (step .place) (h .service .pieces))) (h .service); paths = h .paths; latest = step .latest }
+    go true = refl
+    go false = refl
 
-  abbrev raised : Collected → Node
-  raised c = record { service = withPieces (h .service) (c .pieces); paths = h .paths; latest = max (h .latest) t }
+-- what is gathered at the later time, with one place changed or none, says all that is asked of receiving
+module _ (h : Node) (d : List ℕ) (i t : ℕ) (memory : List ℕ) (g : Gathered) where
+  abbrev gathered : GatheredStep
+  gathered = record { stage = g .stage; place = g .place; at = g .at; latest = max (h .latest) t; piece = g .piece }
 
-  -- what is collected is stored where the datagram is a piece, and else there is nothing to store
-  stored : (b : Bool) → at-time (cond b (with-service h (withPieces (h .service) (picked b .pieces))) h) (max (h .latest) t) ≡ raised (picked b)
-  stored true = refl
-  stored false = refl
+  abbrev next : Collected → Node
+  next c = record { service = withPieces (h .service) (c .pieces); paths = h .paths; latest = max (h .latest) t }
 
-  pub received-same : at-time (cond (receivedStep h d i t memory .piece) (with-service h (withPieces (h .service) (receivedStep h d i t memory .pieces))) h) (receivedStep h d i t memory .latest) ≡ receiveOf h d i t memory .node
-  unfolding receivedStep receiveOf collectedBy collectedOf
-  received-same = stored (isPiece (outerOf d))
+  after : (b : Bool) → cond b (withPieces (h .service) (withPlace (g .at) (g .place) (h .service .pieces))) (h .service) ≡ withPieces (h .service) (cond b (withPlace (g .at) (g .place) (h .service .pieces)) (h .service .pieces))
+  after true = refl
+  after false = refl
 
-  pub received-answer : receivedStep h d i t memory .answer ≡ plainReceived (receiveOf h d i t memory .answer)
-  unfolding receivedStep receiveOf
-  received-answer = refl
+  settings-kept : (b : Bool) → cond b (withPieces (h .service) (withPlace (g .at) (g .place) (h .service .pieces))) (h .service) .settings ≡ h .service .settings
+  settings-kept true = refl
+  settings-kept false = refl
+
+  routers-kept : (b : Bool) → cond b (withPieces (h .service) (withPlace (g .at) (g .place) (h .service .pieces))) (h .service) .routers ≡ h .service .routers
+  routers-kept true = refl
+  routers-kept false = refl
+
+  pub gathered-same : judgedWith (h .service .settings) (live (h .service .routers)) (h .service .pieces) g ≡ collectedOf (h .service .settings) (live (h .service .routers)) (h .service .pieces) (max (h .latest) t) d i memory → g .at < places → GatheredAs h d i t memory gathered
+  unfolding receiveOf collectedBy judgedStep
+  gathered-same told there = record {
+    next = ap (λ (s : Service). record { service = s; paths = h .paths; latest = max (h .latest) t }) (after (g .piece)) ∙ ap next told;
+    answer = rw (settings-kept (g .piece), routers-kept (g .piece)) (ap (λ (c : Collected). plainReceived (c .answer)) told);
+    there = there;
+  }
 
 -- the router list and the latest time of another node, and else h
 abbrev routed : Node → Node → Node

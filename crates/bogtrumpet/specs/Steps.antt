@@ -1,11 +1,7 @@
 -- What a function of `steps` answers: the plain answer, and what is changed of the node.
 use Prim.Native.Nat.{ℕ, max}
 use mathlib.Core.List.{List}
-use Rattle.header.specs.Outer.{outerOf}
-use Rattle.receiving.specs.Collect.{isPiece}
-use Rattle.receiving.specs.declared.collect.Collected.{Collected}
 use Rattle.node.specs.Node.{setupGiven}
-use Rattle.node.specs.Receive.{collectedBy}
 use Rattle.node.specs.Send.{withIdentification}
 use Rattle.node.specs.RouterList.{listGiven}
 use Rattle.node.specs.declared.Node.{Node}
@@ -15,10 +11,9 @@ use Rattle.node.specs.declared.hear.Heard.{Heard}
 use Rattle.node.specs.declared.report.Reported.{Reported}
 use Rattle.node.specs.declared.router_list.Replaced.{Replaced}
 use Rattle.sending.specs.Sending.{sentOf}
-use Rattle.bogtrumpet.specs.Answers.{plainReceived, plainSent, plainReported, plainAsked, plainHeard}
+use Rattle.bogtrumpet.specs.Answers.{plainSent, plainReported, plainAsked, plainHeard}
 use Rattle.bogtrumpet.specs.declared.steps.MadeStep.{MadeStep}
 use Rattle.bogtrumpet.specs.declared.steps.SentStep.{SentStep}
-use Rattle.bogtrumpet.specs.declared.steps.ReceivedStep.{ReceivedStep}
 use Rattle.bogtrumpet.specs.declared.steps.ReportedStep.{ReportedStep}
 use Rattle.bogtrumpet.specs.declared.steps.ReplacedStep.{ReplacedStep}
 use Rattle.bogtrumpet.specs.declared.steps.AskedStep.{AskedStep}
@@ -37,13 +32,6 @@ sentStep node size packet hop k time room =
 -- the node that a sending leaves: the next identification and the latest time are changed, and nothing else
 abbrev pub storedAfter : Node → SentStep → Node
 storedAfter node step = record { service = withIdentification (node .service) (step .identification); paths = node .paths; latest = step .latest }
-
--- of a datagram (R23): the plain answer, what is collected then, the later time, and whether it is a piece
-unfoldable pub receivedStep : Node → List ℕ → ℕ → ℕ → List ℕ → ReceivedStep
-receivedStep node d interface time memory =
-    let now : ℕ = max (node .latest) time in
-    let collected : Collected = collectedBy (node .service) now d interface memory in
-    record { answer = plainReceived (collected .answer); pieces = collected .pieces; latest = now; piece = isPiece (outerOf d) }
 
 -- of a size report: the plain answer, and the path table and the latest time of the next node
 unfoldable pub reportedStep : Reported → ReportedStep

@@ -71,8 +71,8 @@ pub extern "C" fn bogtrumpet_new(node: &mut Node, settings: Settings) -> u8
     step.answer
 }
 
-// Where the inner packet stands, in the datagram or in the memory: Node::receive. Of the node the latest time is written, and what is collected
-// where the datagram is a piece.
+// Where the inner packet stands, in the datagram or in the memory: Node::receive. Of the node the latest time is written, and one place where a
+// piece comes to the collection. Settings and router list are read of the node after that: nothing of them is kept from before the memory was written.
 #[no_mangle]
 pub extern "C" fn bogtrumpet_receive(
     node: &mut Node,
@@ -85,12 +85,12 @@ pub extern "C" fn bogtrumpet_receive(
         × (now (node .exit) ≡ receiveOf (now (node .entry)) (now (datagram .entry)) interface time (now (memory .entry)) .node)
         × (now (memory .exit) ≡ receiveMemory (now (node .entry)) (now (datagram .entry)) interface time (now (memory .entry))) ⌝ }
 {
-    let step = steps::received(*node, datagram, interface, time, memory);
+    let step = steps::gathered(*node, datagram, interface, time, memory);
     if step.piece {
-        node.service.pieces = step.pieces;
+        node.service.pieces.places[step.at] = step.place;
     }
     node.latest = step.latest;
-    step.answer
+    steps::judged(*node, step)
 }
 
 // The size in force toward a neighbour: Node::path_size. The rows of the path table are lent to the search, so that none is copied.

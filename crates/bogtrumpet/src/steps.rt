@@ -12,8 +12,10 @@ use super::plain;
 use super::plain::Advertisement;
 use node::Node;
 use paths::PathTable;
-use pieces::Collection;
+use pieces::Place;
 use receiving::collect;
+use receiving::judging;
+use receiving::judging::Stage;
 use routers::RouterList;
 use settings::Settings;
 ghost use mathlib.Core.Path.{_≡_};
@@ -27,8 +29,9 @@ ghost use Rattle.node.specs.Report.{reportOf};
 ghost use Rattle.node.specs.RouterList.{replaceOf};
 ghost use Rattle.sending.specs.Sending.{sentOutput};
 ghost use Rattle.bogtrumpet.specs.Answers.{plainAdvertised};
+ghost use Rattle.bogtrumpet.specs.Gathered.{GatheredAs, judgedStep};
 ghost use Rattle.bogtrumpet.specs.Plain.{advertisementFrom};
-ghost use Rattle.bogtrumpet.specs.Steps.{madeStep, sentStep, receivedStep, reportedStep, replacedStep, askedStep, heardStep};
+ghost use Rattle.bogtrumpet.specs.Steps.{madeStep, sentStep, reportedStep, replacedStep, askedStep, heardStep};
 
 // A number, and the node that is made.
 pub struct MadeStep {
@@ -43,10 +46,12 @@ pub struct SentStep {
     pub latest: u32,
 }
 
-// Of the node a piece changes what is collected and the latest time alone, a whole datagram the latest time alone.
-pub struct ReceivedStep {
-    pub answer: Received,
-    pub pieces: Collection,
+// What is to be judged of a datagram. Of the node a piece that comes to the collection changes one place and the latest time, any other datagram the
+// latest time alone.
+pub(crate) struct GatheredStep {
+    pub stage: Stage,
+    pub place: Place,
+    pub at: usize,
     pub latest: u32,
     pub piece: bool,
 }
@@ -88,33 +93,43 @@ pub fn made(_: Node, settings: Settings) -> MadeStep
     MadeStep { answer, node }
 }
 
-// A datagram, whole or a piece: receiving::collect::collect.
-pub fn received(
+// A datagram up to what is to be judged of it: receiving::collect::gather.
+pub(crate) fn gathered(
     n: Node,
     datagram: &[u8],
     interface: u8,
     time: u32,
     memory: &mut [u8],
-) -> ReceivedStep
-    ensures { λ r. ⌜ (r ≡ receivedStep n (now (datagram .entry)) interface time (now (memory .entry)))
+) -> GatheredStep
+    ensures { λ r. ⌜ GatheredAs n (now (datagram .entry)) interface time (now (memory .entry)) r
         × (now (memory .exit) ≡ receiveMemory n (now (datagram .entry)) interface time (now (memory .entry))) ⌝ }
 {
     let service = n.service;
     let settings = service.settings;
-    let routers = service.routers;
-    let old = service.pieces;
+    let pieces = service.pieces;
     let latest = node::later(n.latest, time);
-    let collected = collect::collect(settings, routers, old, latest, datagram, interface, memory);
-    let given = collected.answer;
-    let pieces = collected.pieces;
-    let answer = answers::plain_received(given);
-    let piece = collect::is_piece(datagram);
-    ReceivedStep {
-        answer,
-        pieces,
+    let gathered = collect::gather(settings, pieces, latest, datagram, interface, memory);
+    let stage = gathered.stage;
+    let place = gathered.place;
+    GatheredStep {
+        stage,
+        place,
+        at: gathered.at,
         latest,
-        piece,
+        piece: gathered.piece,
     }
+}
+
+// What comes of it on the node as it is then: receiving::judging::judge.
+pub(crate) fn judged(n: Node, step: GatheredStep) -> Received
+    ensures { λ r. ⌜ r ≡ judgedStep n step ⌝ }
+{
+    let service = n.service;
+    let settings = service.settings;
+    let routers = service.routers;
+    let stage = step.stage;
+    let given = judging::judge(settings, routers, stage);
+    answers::plain_received(given)
 }
 
 // A sending over a path of that size: sending::send.

@@ -1,18 +1,15 @@
 -- 15, 2, 3, 4, 6, 7 of datagrams that pass 2 and 3 and have one key: they come to the same. Assumes nothing.
-use Prim.Native.Nat.{ℕ, _≤_, _<_, max}
+use Prim.Native.Nat.{ℕ, _≤_, _<_}
 use mathlib.Core.Path.{_≡_, refl, sym, ap, _∙_}
 use mathlib.Core.Logic.{_⊎_, ⊎-elim, inl, inr}
 use mathlib.Core.Bool.{Bool, true, false, not}
-use mathlib.Core.List.{List, [], _∷_, List·Memᴰ}
-use native.Mathlib.Omega.{arith}
-use borrow.Author.Tests.{eqb-true, eq-eqb, not-false, lt-ltb, le-ltb, ltb-true, ltb-false}
+use mathlib.Core.List.{List, [], _∷_}
+use borrow.Author.Tests.{eqb-true, not-false, lt-ltb, le-ltb, ltb-true, ltb-false}
 use lib.Dec.{eqb, ltb}
-use lib.ListN.{getD, length, take}
-use Rattle.lists.specs.Any.{Some}
+use lib.ListN.{getD, length}
 use Rattle.lists.proofs.Tests.{tested}
 use Rattle.lists.proofs.Decides.{fails}
 use Rattle.checksum.specs.Sum.{isRightFrom}
-use Rattle.refusals.specs.Given.{refused}
 use Rattle.refusals.specs.Refusals.{numberOf, firstOf}
 use Rattle.refusals.proofs.Laws.{all-false}
 use Rattle.refusals.specs.declared.Refusal.{Refusal}
@@ -20,23 +17,23 @@ use Rattle.refusals.specs.declared.Refusal.the-variants.{OtherProtocol, NotForU
 use Rattle.refusals.specs.declared.Check.{Check}
 use Rattle.refusals.specs.declared.Check.the-variants.{Pass, Stop}
 use Rattle.header.specs.Numbers.{ipv6}
-use Rattle.header.specs.Fields.{wordAt, quadAt}
+use Rattle.header.specs.Fields.{quadAt}
 use Rattle.header.specs.Outer.{outerOf, isOuterMalformed, isSumWrong}
 use Rattle.settings.specs.Settings.{forbiddenTo, isOurLocator}
 use Rattle.settings.proofs.Facts.{decides-forbidden-to, decides-our-locator}
 use Rattle.settings.specs.declared.Settings.{Settings}
 use Rattle.pieces.specs.Places.{memoryRoom}
 use Rattle.receiving.specs.Collect.{arrivalRows, isPiece}
-use Rattle.receiving.specs.Facts.{headerLength, OuterWhole, SumRight, Encapsulates, Unfragmented, ForUs, OuterBad}
+use Rattle.receiving.specs.Facts.{SumRight, Encapsulates, ForUs, OuterBad}
 use Rattle.receiving.specs.Receive.{receivedGiven}
 use Rattle.receiving.proofs.Facts.{outer-whole-bytes, bytes-whole-outer, decides-piece}
 use Rattle.receiving.specs.declared.Received.{Received}
 use Rattle.receiving.specs.declared.Received.the-variants.{Refused}
 use Rattle.node.specs.Receive.{receiveOf}
 use Rattle.node.specs.declared.Node.{Node}
-use Rattle.demands.specs.Calls.{NodeCall, receiving, outcomeOf}
+use Rattle.demands.specs.Calls.{receiving, outcomeOf}
 use Rattle.demands.specs.Cuttings.{SameKey, HeaderRight, Cutting, Repeats}
-use Rattle.demands.specs.Joining.{HandsIn, IsOne, Admitted}
+use Rattle.demands.specs.Joining.{IsOne, Admitted}
 use Rattle.demands.proofs.PieceOf.{key-trans}
 use Rattle.demands.proofs.Handed.{pass-stop}
 use Rattle.demands.proofs.Steps.{arrival, stopped}

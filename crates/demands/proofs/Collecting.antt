@@ -1,47 +1,25 @@
 -- What is collected on a node is what comes of the pieces that its calls handed in. Assumes nothing.
-use Prim.Native.Nat.{ℕ, _*_, max}
-use mathlib.Core.Path.{_≡_, refl, sym, ap, subst, _∙_}
-use mathlib.Core.Bool.{Bool, true, false, cond, not, _&&_}
+use Prim.Native.Nat.{ℕ, max}
+use mathlib.Core.Path.{_≡_, refl, sym, ap, _∙_}
+use mathlib.Core.Bool.{Bool, true, false, cond}
 use mathlib.Core.List.{List, [], _∷_, _++_, List·Memᴰ·not-nil}
-use lib.Dec.{eqb, ltb}
-use lib.ListN.{length}
-use Rattle.lists.specs.Parts.{part}
-use Rattle.refusals.specs.Refusals.{numberOf, firstOf, stopOr}
-use Rattle.refusals.specs.declared.Refusal.{Refusal}
-use Rattle.refusals.specs.declared.Refusal.the-variants.{OutputShort, OuterMalformed, OuterChecksum, OtherProtocol, NotForUs, OuterSourceForbidden, InnerMalformed, InnerSourceBad, OuterSourceWrong, PieceWaits}
 use Rattle.refusals.specs.declared.Check.{Check}
 use Rattle.refusals.specs.declared.Check.the-variants.{Pass, Stop}
-use Rattle.address.specs.Address.{lastQuad, isBadSourceWith}
-use Rattle.header.specs.Numbers.{ipv6}
-use Rattle.header.specs.Fields.{quadAt}
-use Rattle.header.specs.Outer.{outerOf, isOuterMalformed, isSumWrong}
-use Rattle.header.specs.Inner.{innerOf, isInnerMalformed}
-use Rattle.settings.specs.Settings.{isAccepted, forbiddenTo, isOurLocator}
+use Rattle.header.specs.Outer.{outerOf}
+use Rattle.settings.specs.Settings.{isAccepted}
 use Rattle.settings.specs.declared.Settings.{Settings}
-use Rattle.routers.specs.Routers.{live, listed}
-use Rattle.pieces.specs.Places.{Part, room, memoryRoom, isWhole, freed, extended, begun}
-use Rattle.pieces.specs.Take.{noDatagrams, placeAt, withPlace, planOf, settled, takenBy, takenOf}
+use Rattle.pieces.specs.Take.{noDatagrams, takenOf}
 use Rattle.pieces.specs.History.{Handed, Grown, nothing, grownBy, grown}
-use Rattle.pieces.specs.declared.Answer.{Answer}
 use Rattle.pieces.specs.declared.Answer.the-variants as taken
 use Rattle.pieces.specs.declared.Collection.{Collection}
-use Rattle.pieces.specs.declared.Key.{Key}
-use Rattle.pieces.specs.declared.Place.{Place}
-use Rattle.pieces.specs.declared.Plan.{Plan}
-use Rattle.pieces.specs.declared.Plan.the-variants.{Unfit, Full, Ignore, Drop, Extend, Begin}
-use Rattle.pieces.specs.declared.Taken.{Taken}
-use Rattle.pieces.proofs.Joining.{Step, State, answer, after, afterAll}
-use Rattle.receiving.specs.Collect.{arrivalRows, isPiece, joinedBy}
-use Rattle.receiving.specs.Receive.{isSourceRight, receivedGiven}
-use Rattle.receiving.specs.declared.Received.{Received}
-use Rattle.receiving.specs.declared.Received.the-variants.{Delivered, Joined, Refused}
+use Rattle.pieces.proofs.Joining.{State, afterAll}
+use Rattle.receiving.specs.Collect.{isPiece}
 use Rattle.node.specs.Node.{nodeOf, setupOf}
-use Rattle.node.specs.Receive.{receiveOf}
 use Rattle.node.specs.declared.Node.{Node}
 use Rattle.node.specs.declared.Setup.{Setup}
 use Rattle.demands.specs.Calls.{NodeCall, receiving, receivingPart, sending, reporting, relisting, asking, hearing, advertising, outcomeOf, nodeAfter}
 use Rattle.demands.specs.Calls as calls
-use Rattle.demands.specs.Collecting.{keyOf, partIn, isTurnedAway, handedBy, handedIn, CollectedByHistory}
+use Rattle.demands.specs.Collecting.{handedBy, handedIn, CollectedByHistory}
 use Rattle.demands.proofs.Steps.{arrival, stepAt, stepBy, stepsOf, stateOf, received}
 use Rattle.demands.proofs.Runs.{steps}
 use Rattle.demands.proofs.Handed.{handedAt, here, handed-in}

@@ -1,14 +1,13 @@
 -- What a refusal of receiving's call for the number leaves of the collection and of its memory, by its number. Assumes nothing.
 use Prim.Native.Nat.{ℕ, _*_, max}
 use mathlib.Core.Path.{_≡_, refl, sym, ap, subst, _∙_}
-use mathlib.Core.Logic.{_⊎_, ⊎-elim, inl, inr}
-use mathlib.Core.Bool.{Bool, true, false, cond, not, true≢false}
+use mathlib.Core.Bool.{Bool, true, false, cond, not}
 use mathlib.Core.List.{List, [], _∷_}
 use native.Mathlib.Omega.{arith}
 use lib.ListN.{length}
 use Rattle.refusals.specs.Refusals.{numberOf, firstOf, stopOr}
 use Rattle.refusals.specs.declared.Refusal.{Refusal}
-use Rattle.refusals.specs.declared.Refusal.the-variants.{InnerMalformed, InnerSourceBad, OuterSourceWrong, PieceWaits, NoPlace, PiecesDisagree, PieceUnfit}
+use Rattle.refusals.specs.declared.Refusal.the-variants.{InnerMalformed, InnerSourceBad, OuterSourceWrong, PieceWaits, PiecesDisagree}
 use Rattle.refusals.specs.declared.Check.{Check}
 use Rattle.refusals.specs.declared.Check.the-variants.{Pass, Stop}
 use Rattle.header.specs.Fields.{quadAt}
@@ -18,16 +17,13 @@ use Rattle.address.specs.Address.{lastQuad, isBadSourceWith}
 use Rattle.settings.specs.Settings.{forbiddenTo}
 use Rattle.routers.specs.Routers.{live, listed}
 use Rattle.lists.specs.Parts.{part}
-use Rattle.pieces.specs.Places.{Part, room, isWhole, freed, extended, begun}
-use Rattle.pieces.specs.Take.{placeAt, withPlace, planOf, settled, takenBy, takenOf, memoryBy, memoryOf}
+use Rattle.pieces.specs.Places.{room, isWhole, freed, extended, begun}
+use Rattle.pieces.specs.Take.{Taken, placeAt, withPlace, planOf, settled, takenBy, takenOf, memoryBy, memoryOf}
 use Rattle.pieces.specs.declared.Answer.{Answer}
 use Rattle.pieces.specs.declared.Answer.the-variants as taken
-use Rattle.pieces.specs.declared.Collection.{Collection}
-use Rattle.pieces.specs.declared.Key.{Key}
 use Rattle.pieces.specs.declared.Place.{Place}
 use Rattle.pieces.specs.declared.Plan.{Plan}
 use Rattle.pieces.specs.declared.Plan.the-variants.{Unfit, Full, Ignore, Drop, Extend, Begin}
-use Rattle.pieces.specs.declared.Taken.{Taken}
 use Rattle.pieces.proofs.Joining.{Step, State, answer, after, afterAll}
 use Rattle.receiving.specs.Collect.{isPiece, joinedBy}
 use Rattle.receiving.specs.Receive.{isSourceRight}
@@ -37,7 +33,7 @@ use Rattle.node.specs.Receive.{receiveOf}
 use Rattle.node.specs.declared.Node.{Node}
 use Rattle.demands.specs.Calls.{receiving, outcomeOf}
 use Rattle.demands.specs.One.{MayChange, nothing, collection, memoryToo, changedBy}
-use Rattle.demands.proofs.Steps.{arrival, stepAt, stepBy, stepsOf, stateOf, inward, answered-step, received}
+use Rattle.demands.proofs.Steps.{arrival, stepAt, stepBy, stateOf, inward, answered-step, received}
 
 -- what is left of a state, where that much may change
 pub record Leaves (c : MayChange) (s t : State) : Type 0 where

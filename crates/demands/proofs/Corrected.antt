@@ -3,13 +3,13 @@ use Prim.Native.Nat.{ℕ, zero, suc, _+_, _*_, _/_, _%_, _≤_, _<_}
 use mathlib.Core.Path.{_≡_, refl, sym, ap, subst, _∙_}
 use mathlib.Core.List.{List, [], _∷_, _++_}
 use native.Mathlib.Omega.{arith}
-use lib.ListN.{getD, length, take, drop, List·getD-append, length-append}
-use lib.Seq.{drop-cons, take-at, drop-at, take-all, take-append-seam, drop-append-seam}
+use lib.ListN.{getD, length, drop, List·getD-append, length-append}
+use lib.Seq.{drop-cons, take-all, take-append-seam, drop-append-seam}
 use Rattle.checksum.specs.Sum.{onesSum, onesComplement}
 use Rattle.checksum.proofs.Bytes as B
 use Rattle.checksum.proofs.Laws.{sum-complement}
 use Rattle.header.specs.Fields.{wordAt, quadAt, bytesFrom}
-use Rattle.receiving.specs.Facts.{headerLength, totalLength, encapsulated, OuterWhole, SumRight}
+use Rattle.receiving.specs.Facts.{headerLength, totalLength, encapsulated}
 use Rattle.demands.specs.Cuttings.{SameKey, HeaderRight}
 use Rattle.demands.specs.Fragments.{headerWith, corrected, Bytes, Header}
 

@@ -12,7 +12,7 @@ use lib.Seq.{getD-take, length-take-le}
 use Rattle.checksum.proofs.Bytes as B
 use Rattle.header.specs.Fields.{wordAt, quadAt}
 use Rattle.receiving.specs.Facts.{headerLength, totalLength, encapsulated, Unfragmented}
-use Rattle.demands.specs.Cuttings.{SameKey, HeaderRight, beginning, MoreFragments, RunOn, payloads, Cutting}
+use Rattle.demands.specs.Cuttings.{SameKey, HeaderRight, beginning, MoreFragments, RunOn, payloads}
 use Rattle.demands.specs.Fragments.{corrected, fragmentWord, blocks, firstFragment, secondFragment, fragmentsOf, Bytes, Header, Selects, Fragments}
 use Rattle.demands.proofs.Corrected.{Fragment, joins}
 use Rattle.demands.proofs.PieceOf.{own-key, key-trans}

@@ -1,8 +1,8 @@
 -- Which calls hand in a piece to be collected: those that are a step of the collection. Assumes nothing.
 use Prim.Native.Nat.{ℕ, _*_, max}
-use mathlib.Core.Path.{_≡_, refl, sym, ap, subst, _∙_}
+use mathlib.Core.Path.{_≡_, refl, sym, ap, _∙_}
 use mathlib.Core.Bool.{Bool, true, false, cond, not, _&&_}
-use mathlib.Core.List.{List, [], _∷_, _++_}
+use mathlib.Core.List.{List, [], _∷_}
 use native.Mathlib.Omega.{arith}
 use lib.Dec.{eqb, ltb}
 use lib.ListN.{length}
@@ -17,12 +17,11 @@ use Rattle.header.specs.Numbers.{ipv6}
 use Rattle.header.specs.Fields.{quadAt}
 use Rattle.header.specs.Outer.{outerOf, isOuterMalformed, isSumWrong}
 use Rattle.header.specs.Inner.{innerOf, isInnerMalformed}
-use Rattle.settings.specs.Settings.{isAccepted, forbiddenTo, isOurLocator}
-use Rattle.settings.specs.declared.Settings.{Settings}
+use Rattle.settings.specs.Settings.{forbiddenTo, isOurLocator}
 use Rattle.routers.specs.Routers.{live, listed}
 use Rattle.pieces.specs.Places.{Part, room, memoryRoom, isWhole, freed, extended, begun}
-use Rattle.pieces.specs.Take.{noDatagrams, placeAt, withPlace, planOf, settled, takenBy, takenOf}
-use Rattle.pieces.specs.History.{Handed, Grown, nothing, grownBy, grown}
+use Rattle.pieces.specs.Take.{Taken, placeAt, withPlace, planOf, settled, takenBy, takenOf}
+use Rattle.pieces.specs.History.{Handed}
 use Rattle.pieces.specs.declared.Answer.{Answer}
 use Rattle.pieces.specs.declared.Answer.the-variants as taken
 use Rattle.pieces.specs.declared.Collection.{Collection}
@@ -30,20 +29,16 @@ use Rattle.pieces.specs.declared.Key.{Key}
 use Rattle.pieces.specs.declared.Place.{Place}
 use Rattle.pieces.specs.declared.Plan.{Plan}
 use Rattle.pieces.specs.declared.Plan.the-variants.{Unfit, Full, Ignore, Drop, Extend, Begin}
-use Rattle.pieces.specs.declared.Taken.{Taken}
-use Rattle.pieces.proofs.Joining.{Step, State, answer, after, afterAll}
-use Rattle.receiving.specs.Collect.{arrivalRows, isPiece, joinedBy}
+use Rattle.pieces.proofs.Joining.{Step, State, answer, after}
+use Rattle.receiving.specs.Collect.{isPiece, joinedBy}
 use Rattle.receiving.specs.Receive.{isSourceRight, receivedGiven}
 use Rattle.receiving.specs.declared.Received.{Received}
-use Rattle.receiving.specs.declared.Received.the-variants.{Delivered, Joined, Refused}
-use Rattle.node.specs.Node.{nodeOf, setupOf}
-use Rattle.node.specs.Receive.{receiveOf}
+use Rattle.receiving.specs.declared.Received.the-variants.{Joined, Refused}
 use Rattle.node.specs.declared.Node.{Node}
-use Rattle.node.specs.declared.Setup.{Setup}
-use Rattle.demands.specs.Calls.{NodeCall, receiving, receivingPart, sending, reporting, relisting, asking, hearing, advertising, outcomeOf, nodeAfter}
+use Rattle.demands.specs.Calls.{receiving, outcomeOf}
 use Rattle.demands.specs.Calls as calls
 use Rattle.demands.specs.Collecting.{keyOf, partIn, isTurnedAway, handedBy}
-use Rattle.demands.proofs.Steps.{arrival, stepAt, stepBy, stepsOf, stateOf, inward, stopped, answered-step}
+use Rattle.demands.proofs.Steps.{arrival, stepAt, stateOf, inward, stopped, answered-step}
 
 -- whether a check turns a piece away
 abbrev away : Check → Bool

@@ -1,15 +1,15 @@
 -- The pieces of one cutting join, on every node that grew from accepted settings. Assumes nothing.
-use Prim.Native.Nat.{ℕ, zero, suc, _+_, _-_, _*_, _≤_, _<_, max}
+use Prim.Native.Nat.{ℕ, suc, _+_, _-_, _*_, _≤_, _<_, max}
 use mathlib.Core.Path.{_≡_, refl, sym, ap, subst, _∙_}
-use mathlib.Core.Logic.{_⊎_, ⊎-elim, inl, inr}
-use mathlib.Core.Bool.{Bool, true, false, cond, not, _&&_, true≢false}
-use mathlib.Core.List.{List, [], _∷_, _++_, map, append-assoc, List·Memᴰ, List·Memᴰ·head, List·Memᴰ·tail, List·Memᴰ·not-nil}
+use mathlib.Core.Logic.{inr}
+use mathlib.Core.Bool.{Bool, true, false, cond, not, true≢false}
+use mathlib.Core.List.{List, [], _∷_, _++_, map, append-assoc, List·Memᴰ, List·Memᴰ·head, List·Memᴰ·tail}
 use native.Mathlib.Omega.{arith}
 use borrow.Author.Tests.{eq-eqb, ltb-true}
 use lib.Dec.{eqb, ltb}
-use lib.ListN.{length, take, drop, set, length-set, length-drop}
+use lib.ListN.{length, take, drop, length-drop}
 use lib.Seq.{take-take, length-take-le}
-use Rattle.lists.specs.Any.{Some, firstWith}
+use Rattle.lists.specs.Any.{firstWith}
 use Rattle.lists.specs.Parts.{part}
 use Rattle.lists.proofs.Parts.{drop-take}
 use Rattle.lists.proofs.Tests.{and-left, and-right}
@@ -17,23 +17,19 @@ use Rattle.lists.proofs.Decides.{refutes}
 use Rattle.refusals.specs.Refusals.{numberOf, stopOr}
 use Rattle.refusals.proofs.Laws.{all-false}
 use Rattle.refusals.specs.declared.Refusal.{Refusal}
-use Rattle.refusals.specs.declared.Refusal.the-variants.{PieceWaits}
 use Rattle.refusals.specs.declared.Check.{Check}
 use Rattle.refusals.specs.declared.Check.the-variants.{Pass, Stop}
-use Rattle.header.specs.Fields.{wordAt, quadAt}
+use Rattle.header.specs.Fields.{quadAt}
 use Rattle.header.specs.Outer.{outerOf}
 use Rattle.header.specs.Inner.{innerOf}
 use Rattle.routers.specs.Routers.{live}
 use Rattle.settings.specs.Settings.{isAccepted}
 use Rattle.settings.specs.declared.Settings.{Settings}
-use Rattle.pieces.specs.Places.{Part, places, room, memoryRoom, isOf, isLive, isWhole, begun, extended, freed}
-use Rattle.pieces.specs.Take.{planOf, placeAt, withPlace, settled, takenBy, takenOf}
+use Rattle.pieces.specs.Places.{Part, places, room, isOf, isLive}
 use Rattle.pieces.specs.declared.Collection.{Collection}
 use Rattle.pieces.specs.declared.Key.{Key}
 use Rattle.pieces.specs.declared.Place.{Place}
-use Rattle.pieces.specs.declared.Plan.{Plan}
 use Rattle.pieces.specs.declared.Plan.the-variants as plan
-use Rattle.pieces.specs.declared.Taken.{Taken}
 use Rattle.pieces.specs.declared.Answer.{Answer}
 use Rattle.pieces.specs.declared.Answer.the-variants as taken
 use Rattle.pieces.proofs.Joining as pieces
@@ -42,25 +38,24 @@ use Rattle.pieces.proofs.Holds.{pieces-join}
 use Rattle.pieces.proofs.History.{kept-grown}
 use Rattle.pieces.proofs.Keys.{of-live, of-key}
 use Rattle.receiving.specs.Collect.{isPiece, joinedBy}
-use Rattle.receiving.specs.Facts.{headerLength, totalLength, encapsulated, innerLength, OuterWhole}
+use Rattle.receiving.specs.Facts.{headerLength, totalLength, encapsulated, innerLength}
 use Rattle.receiving.specs.Receive.{receivedGiven}
 use Rattle.receiving.proofs.Facts.{decides-piece, inner-whole-bytes}
 use Rattle.receiving.specs.declared.Received.{Received}
 use Rattle.receiving.specs.declared.Received.the-variants.{Delivered, Joined, Refused}
-use Rattle.node.specs.Node.{nodeOf, setupOf}
+use Rattle.node.specs.Node.{setupOf}
 use Rattle.node.specs.Receive.{receiveOf}
 use Rattle.node.specs.declared.Node.{Node}
-use Rattle.node.specs.declared.Setup.{Setup}
 use Rattle.demands.specs.Calls.{NodeCall, receiving, receivingPart, sending, reporting, relisting, asking, hearing, advertising, outcomeOf, nodeAfter}
-use Rattle.demands.specs.Cuttings.{Cutting, Repeats}
-use Rattle.demands.specs.Joining.{HandsIn, IsLent, memoryAfter, Untouched, AtEach, NotForeign, IsOne, Admitted, HasKey, NoneLive, Arrive, WaitsOr, bytesBy, numberBy, deliveredBy, GetsTheWhole, PiecesJoin}
+use Rattle.demands.specs.Cuttings.{Cutting}
+use Rattle.demands.specs.Joining.{HandsIn, memoryAfter, Untouched, AtEach, NotForeign, Admitted, NoneLive, Arrive, WaitsOr, bytesBy, numberBy, GetsTheWhole, PiecesJoin}
 use Rattle.demands.proofs.Left.{left, settings-kept}
 use Rattle.demands.specs.Collecting.{keyOf, partIn, handedIn, CollectedByHistory}
 use Rattle.demands.proofs.PieceOf.{is-same, runs-on, same-payloads, in-parts, parts-in}
 use Rattle.demands.proofs.Steps.{arrival, stepAt, stepBy, stepsOf, stateOf, inwardRows, inward, stopped, answered-step, answered-whole, received}
-use Rattle.demands.proofs.Runs.{lent-step, steps, allSteps, memoryAfterAll, after-append, all-steps}
+use Rattle.demands.proofs.Runs.{lent-step, allSteps, memoryAfterAll, after-append, all-steps}
 use Rattle.demands.proofs.Collecting.{collected-by-history}
-use Rattle.demands.proofs.Arrivals.{onward, goes-onward, onward-number, one-right, one-key, one-piece, one-memory, one-arrival, one-stops}
+use Rattle.demands.proofs.Arrivals.{onward, goes-onward, onward-number, one-key, one-piece, one-memory, one-arrival, one-stops}
 use Rattle.demands.proofs.Lift.{arrives, all-admitted, came, waits, back}
 
 -- a node that grew from settings has eight places

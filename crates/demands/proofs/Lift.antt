@@ -3,7 +3,7 @@
 use Prim.Native.Nat.{ℕ, _≤_, max}
 use mathlib.Core.Path.{_≡_, refl, sym, ap, subst, _∙_}
 use mathlib.Core.Logic.{_⊎_, ⊎-elim, inl, inr}
-use mathlib.Core.Bool.{Bool, true, false, cond, true≢false}
+use mathlib.Core.Bool.{Bool, true, false, cond}
 use mathlib.Core.List.{List, [], _∷_, _++_, map, List·Memᴰ, List·Memᴰ·head, List·Memᴰ·tail, List·Memᴰ·not-nil, List·Memᴰ·cases-cons}
 use native.Mathlib.Omega.{arith}
 use Rattle.lists.specs.Any.{Some}
@@ -29,15 +29,15 @@ use Rattle.receiving.specs.declared.Received.{Received}
 use Rattle.receiving.specs.declared.Received.the-variants.{Refused}
 use Rattle.node.specs.Receive.{receiveOf}
 use Rattle.node.specs.declared.Node.{Node}
-use Rattle.demands.specs.Calls.{NodeCall, receiving, receivingPart, sending, reporting, relisting, asking, hearing, advertising, outcomeOf, viewOf, nodeAfter}
-use Rattle.demands.specs.Cuttings.{SameKey, Cutting, Repeats}
+use Rattle.demands.specs.Calls.{NodeCall, receiving, receivingPart, sending, reporting, relisting, asking, hearing, advertising, outcomeOf}
+use Rattle.demands.specs.Cuttings.{Cutting, Repeats}
 use Rattle.demands.specs.Joining.{HandsIn, IsLent, memoryAfter, Untouched, AtEach, NotForeign, IsOne, Admitted, WaitsOr}
 use Rattle.demands.proofs.Left.{left}
 use Rattle.demands.specs.Collecting.{keyOf, partIn}
 use Rattle.demands.proofs.PieceOf.{is-same, same-is, key-trans, key-back, same-parts, parts-same, in-parts}
 use Rattle.demands.proofs.Steps.{arrival, stepAt, stepBy, stepsOf, stateOf, answered-step}
 use Rattle.demands.proofs.Runs.{lent-step, steps, allSteps}
-use Rattle.demands.proofs.Arrivals.{onward, passed, one-right, one-key, one-piece, one-arrival}
+use Rattle.demands.proofs.Arrivals.{onward, passed, one-key, one-piece, one-arrival}
 
 -- a step that is refused gives the call's number
 pub step-refused : (n : Node) (e : List ℕ) (j time : ℕ) (memory : List ℕ) (r : Refusal) → arrival n e j memory ≡ Pass → isPiece (outerOf e) ≡ true

@@ -7,21 +7,18 @@ use mathlib.Core.Bool.{Bool, true, false, true≢false}
 use mathlib.Core.List.{List, [], _∷_, _++_, map, List·Memᴰ, List·Memᴰ·head, List·Memᴰ·tail, List·Memᴰ·not-nil, List·Memᴰ·cases-cons}
 use native.Mathlib.Omega.{arith}
 use borrow.Author.Tests.{eq-eqb, leb-true, leb-false, le-leb}
-use lib.Dec.{eqb, leb}
+use lib.Dec.{leb}
 use lib.ListN.{getD, length}
 use Rattle.lists.specs.Any.{Some}
 use Rattle.lists.proofs.Tests.{tested}
 use Rattle.header.specs.Fields.{wordAt, quadAt}
-use Rattle.header.specs.Outer.{outerOf, payloadOf}
-use Rattle.pieces.specs.Places.{Part, partOf, isSame}
+use Rattle.pieces.specs.Places.{Part, isSame}
 use Rattle.pieces.specs.declared.Key.{Key}
-use Rattle.pieces.specs.declared.Piece.{Piece}
 use Rattle.pieces.proofs.Joining as pieces
 use Rattle.pieces.proofs.Keys.{same-key}
-use Rattle.receiving.specs.Collect.{pieceOf}
 use Rattle.receiving.specs.Facts.{encapsulated}
 use Rattle.demands.specs.Collecting.{keyOf, partIn}
-use Rattle.demands.specs.Cuttings.{SameKey, HeaderRight, beginning, MoreFragments, RunOn, payloads, Repeats}
+use Rattle.demands.specs.Cuttings.{SameKey, HeaderRight, beginning, RunOn, payloads, Repeats}
 
 -- ---- keys
 

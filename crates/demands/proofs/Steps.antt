@@ -1,7 +1,7 @@
 -- Each call of the node is at most one step of its collection: a piece that passes 15, 2, 3, 4, 6, 7 and is handed in for the number. Assumes
 -- nothing.
-use Prim.Native.Nat.{ℕ, _*_, max}
-use mathlib.Core.Path.{_≡_, refl, sym, ap, _∙_}
+use Prim.Native.Nat.{ℕ, max}
+use mathlib.Core.Path.{_≡_, refl, ap, _∙_}
 use mathlib.Core.Bool.{Bool, true, false, cond}
 use mathlib.Core.List.{List, [], _∷_, _++_}
 use lib.ListN.{length}
@@ -13,30 +13,19 @@ use Rattle.refusals.specs.declared.Check.the-variants.{Pass, Stop}
 use Rattle.header.specs.Fields.{quadAt}
 use Rattle.header.specs.Outer.{outerOf, payloadOf}
 use Rattle.header.specs.Inner.{innerOf}
-use Rattle.settings.specs.Settings.{areRoutersRight}
 use Rattle.settings.specs.declared.Settings.{Settings}
 use Rattle.routers.specs.Routers.{live, listed}
 use Rattle.routers.specs.declared.Router.{Router}
-use Rattle.pieces.specs.Take.{takenOf, memoryOf}
 use Rattle.pieces.specs.declared.Collection.{Collection}
 use Rattle.pieces.proofs.Joining.{Step, State, answer, after, afterAll}
-use Rattle.receiving.specs.Collect.{arrivalRows, wholeOf, isPiece, pieceOf, joinedBy, takenPiece, takenMemory, fragmentOf, fragmentMemory, collectedOf, collectedMemory}
+use Rattle.receiving.specs.Collect.{Collected, arrivalRows, wholeOf, isPiece, pieceOf, joinedBy, takenPiece, takenMemory, fragmentOf, fragmentMemory, collectedOf, collectedMemory}
 use Rattle.receiving.specs.Facts.{headerLength, encapsulated, innerLength}
 use Rattle.receiving.specs.Receive.{innerRows}
-use Rattle.receiving.specs.declared.collect.Collected.{Collected}
 use Rattle.receiving.specs.declared.Received.{Received}
-use Rattle.receiving.specs.declared.Received.the-variants.{Delivered, Joined, Refused}
-use Rattle.node.specs.Node.{raisedTo}
+use Rattle.receiving.specs.declared.Received.the-variants.{Delivered, Refused}
 use Rattle.node.specs.Receive.{collectedBy, receiveOf, receiveMemory}
-use Rattle.node.specs.Send.{sendOf}
-use Rattle.node.specs.Report.{reportOf}
-use Rattle.node.specs.RouterList.{replaceOf}
-use Rattle.node.specs.Ask.{askOf}
-use Rattle.node.specs.Hear.{hearOf}
 use Rattle.node.specs.declared.Node.{Node}
-use Rattle.node.specs.declared.router_list.Replaced.{Replaced}
-use Rattle.demands.specs.Calls.{NodeCall, receiving, receivingPart, sending, reporting, relisting, asking, hearing, advertising, outcomeOf, nodeAfter}
-use Rattle.demands.specs.Joining.{IsLent, memoryAfter, Untouched}
+use Rattle.demands.specs.Calls.{NodeCall, receiving, receivingPart, sending, reporting, relisting, asking, hearing, advertising}
 use Rattle.demands.specs.Collecting.{keyOf, partIn}
 
 -- 15, 2, 3, 4, 6, 7 of a datagram on a node

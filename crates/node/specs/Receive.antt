@@ -3,9 +3,8 @@ use Prim.Native.Nat.{ℕ, max}
 use mathlib.Core.List.{List}
 use Rattle.routers.specs.Routers.{live}
 use Rattle.pieces.specs.declared.Collection.{Collection}
-use Rattle.receiving.specs.Collect.{collectedOf, collectedMemory}
+use Rattle.receiving.specs.Collect.{Collected, collectedOf, collectedMemory}
 use Rattle.receiving.specs.Receive.{receivedOf, partOf}
-use Rattle.receiving.specs.declared.collect.Collected.{Collected}
 use Rattle.node.specs.Node.{nodeWith}
 use Rattle.node.specs.declared.Node.{Node}
 use Rattle.node.specs.declared.Service.{Service}

@@ -3,6 +3,7 @@ use super::Node;
 use super::later;
 use receiving::Received;
 use receiving::collect;
+use receiving::judging;
 ghost use mathlib.Core.Path.{_≡_};
 ghost use Rattle.node.specs.Receive.{receiveOf, receiveMemory, partIn};
 
@@ -22,11 +23,16 @@ impl Node {
         let mut service = self.service;
         let settings = service.settings;
         let routers = service.routers;
-        let old = service.pieces;
-        let collected = collect::collect(settings, routers, old, now, d, interface, memory);
-        let pieces = collected.pieces;
-        service.pieces = pieces;
-        let answer = collected.answer;
+        let mut pieces = service.pieces;
+        let gathered = collect::gather(settings, pieces, now, d, interface, memory);
+        let stage = gathered.stage;
+        let answer = judging::judge(settings, routers, stage);
+        if gathered.piece {
+            let at = gathered.at;
+            let place = gathered.place;
+            pieces.places[at] = place;
+            service.pieces = pieces;
+        }
         let node = self.put_back(service, time);
         Receipt { answer, node }
     }

@@ -13,13 +13,12 @@ use Rattle.refusals.specs.declared.Refusal.the-variants.{PieceWaits, NoPlace, P
 use Rattle.pieces.specs.declared.Key.{Key}
 use Rattle.pieces.specs.declared.Place.{Place}
 use Rattle.pieces.specs.declared.Collection.{Collection}
-use Rattle.pieces.specs.declared.Taken.{Taken}
 use Rattle.pieces.specs.declared.Plan.{Plan}
 use Rattle.pieces.specs.declared.Plan.the-variants.{Unfit, Full, Ignore, Drop, Extend, Begin}
 use Rattle.pieces.specs.declared.Answer.{Answer}
 use Rattle.pieces.specs.declared.Answer.the-variants.{Joined, Refused}
 use Rattle.pieces.specs.Places.{Part, places, room, endOf, isWhole, byteAt, noPlace, begun, extended, freed}
-use Rattle.pieces.specs.Take.{placeAt, withPlace, settled, planOf, takenBy, memoryBy, takenOf, memoryOf}
+use Rattle.pieces.specs.Take.{Taken, placeAt, withPlace, settled, planOf, takenBy, memoryBy, takenOf, memoryOf}
 use Rattle.pieces.proofs.Joining.{Step, State, Sized, answer, after, OnlyPlace, Changes, StepChanges}
 use Rattle.pieces.proofs.Kept.{writes}
 use Rattle.pieces.specs.Change.{Placed}

@@ -16,10 +16,9 @@ use Rattle.refusals.specs.declared.Refusal.the-variants.{PieceWaits}
 use Rattle.pieces.specs.declared.Key.{Key}
 use Rattle.pieces.specs.declared.Place.{Place}
 use Rattle.pieces.specs.declared.Collection.{Collection}
-use Rattle.pieces.specs.declared.Taken.{Taken}
 use Rattle.pieces.specs.declared.Answer.the-variants.{Joined, Refused}
 use Rattle.pieces.specs.Places.{Part, places, room, lifetime, endOf, isOf, isWhole, byteAt, noPlace, extended}
-use Rattle.pieces.specs.Take.{placeAt, withPlace, settled}
+use Rattle.pieces.specs.Take.{Taken, placeAt, withPlace, settled}
 use Rattle.pieces.proofs.Joining.{In, State, Sized}
 use Rattle.pieces.proofs.Cut.{Fitted, haveCome}
 use Rattle.pieces.proofs.Content.{Content, fits, content-more, complete, standing, ending}

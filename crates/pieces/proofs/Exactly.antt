@@ -14,13 +14,12 @@ use Rattle.refusals.specs.declared.Refusal.the-variants.{PieceWaits}
 use Rattle.pieces.specs.declared.Key.{Key}
 use Rattle.pieces.specs.declared.Place.{Place}
 use Rattle.pieces.specs.declared.Collection.{Collection}
-use Rattle.pieces.specs.declared.Taken.{Taken}
 use Rattle.pieces.specs.declared.Plan.{Plan}
 use Rattle.pieces.specs.declared.Plan.the-variants as plan
 use Rattle.pieces.specs.declared.Answer.{Answer}
 use Rattle.pieces.specs.declared.Answer.the-variants.{Joined, Refused}
 use Rattle.pieces.specs.Places.{Part, places, isOf, isApart, isWhole, noPlace, begun, extendedTo, extended, freed}
-use Rattle.pieces.specs.Take.{withPlace, settled, planOf, takenBy, memoryBy, takenOf, memoryOf}
+use Rattle.pieces.specs.Take.{Taken, withPlace, settled, planOf, takenBy, memoryBy, takenOf, memoryOf}
 use Rattle.pieces.specs.Facts.{Unfit, LiveOf, Contradicts, NoneFree, Ignored, JoinedAt, pieceFacts, datagramAt}
 use Rattle.pieces.specs.Exactly.{OnlyAt, Continues, Begins, PieceExactly}
 use Rattle.pieces.proofs.Kept.{writes}

@@ -11,11 +11,10 @@ use lib.Seq.{getD-set-same, getD-set-other}
 use Rattle.lists.proofs.Tests.{tested, by-test}
 use Rattle.pieces.specs.declared.Place.{Place}
 use Rattle.pieces.specs.declared.Collection.{Collection}
-use Rattle.pieces.specs.declared.Taken.{Taken}
 use Rattle.pieces.specs.declared.Plan.{Plan}
 use Rattle.pieces.specs.declared.Plan.the-variants as plan
 use Rattle.pieces.specs.Places.{Part, places, noPlace, isWhole, extendedTo, extended, begun, freed}
-use Rattle.pieces.specs.Take.{withPlace, settled, takenBy, takenOf}
+use Rattle.pieces.specs.Take.{Taken, withPlace, settled, takenBy, takenOf}
 use Rattle.pieces.specs.Facts.{Unfit, datagramAt}
 use Rattle.pieces.specs.Exactly.{Continues}
 use Rattle.pieces.specs.History.{NoneUnfit, Handed, planFor, takenInto, Grown, nothing, grownBy, grown, pieces, Collects, HistoryTells}

@@ -14,11 +14,10 @@ use Rattle.lists.proofs.Tests.{tested}
 use Rattle.lists.proofs.First.{first-passes}
 use Rattle.refusals.specs.declared.Refusal.the-variants.{NoPlace}
 use Rattle.pieces.specs.declared.Key.{Key}
-use Rattle.pieces.specs.declared.Taken.{Taken}
 use Rattle.pieces.specs.declared.Plan.the-variants.{Full, Ignore, Drop, Extend, Begin}
 use Rattle.pieces.specs.declared.Answer.the-variants.{Joined, Refused}
 use Rattle.pieces.specs.Places.{Part, places, room, lifetime, isFree, isOf, isApart, isEqual, bytesOf, noPlace, begun}
-use Rattle.pieces.specs.Take.{placeAt, planIn, planHeld, planNew, planOf, takenBy, memoryBy, takenOf, memoryOf}
+use Rattle.pieces.specs.Take.{Taken, placeAt, planIn, planHeld, planNew, planOf, takenBy, memoryBy, takenOf, memoryOf}
 use Rattle.pieces.proofs.Joining.{In, Step, State, Sized, answer, after, afterAll, isUnder, under, Wait, Arrive}
 use Rattle.pieces.proofs.Cut.{Fitted, hasCome, haveCome}
 use Rattle.pieces.proofs.Content.{fits, both, content-none, ends-agree}

@@ -12,7 +12,9 @@ use Rattle.lists.specs.Any.{firstWith}
 use Rattle.lists.specs.Parts.{part}
 use Rattle.lists.proofs.Parts.{take-least, drop-least}
 use Rattle.lists.proofs.Tests.{tested}
-use Rattle.units.specs.Held.{anyHeld, allHeld}
+use Rattle.units.specs.declared.Held.{Held}
+use Rattle.units.specs.Held.{anyHeld, allHeld, rangeOf, meets, covers}
+use Rattle.units.proofs.Ranged.{meets-range, covers-range}
 use Rattle.pieces.specs.declared.Key.{Key}
 use Rattle.pieces.specs.declared.Place.{Place}
 use Rattle.pieces.specs.declared.Collection.{Collection}
@@ -39,29 +41,35 @@ module _ (k : ℕ) (p : Part) (d : Place) (memory : List ℕ) where
   unfolding planIn
   ends-differ h = rw h
 
-  -- they agree; n is how many units the piece fills
-  module _ (fits : isApart p d ≡ false) (n : ℕ) (count : n ≡ countOf p) where
-    -- none of them is held
-    pub held-none : anyHeld (d .held) (p .offset) n ≡ false → Extend k ≡ planIn k p d memory
+  -- they agree; the piece fills that range
+  module _ (fits : isApart p d ≡ false) (range : Held) (fill : range ≡ rangeOf (p .offset) (countOf p)) where
+    any-held : anyHeld (d .held) (p .offset) (countOf p) ≡ meets (d .held) range
+    any-held = sym (ap (meets (d .held)) fill ∙ meets-range (p .offset) (countOf p) (d .held))
+
+    all-held : allHeld (d .held) (p .offset) (countOf p) ≡ covers (d .held) range
+    all-held = sym (ap (covers (d .held)) fill ∙ covers-range (p .offset) (countOf p) (d .held))
+
+    -- nothing of it is held
+    pub held-none : meets (d .held) range ≡ false → Extend k ≡ planIn k p d memory
     unfolding planIn planHeld
-    held-none h = rw (fits, ← count, h)
+    held-none h = rw (fits, any-held, h)
 
-    module _ (h : anyHeld (d .held) (p .offset) n ≡ true) where
-      -- some are, and some are not
-      pub held-some : allHeld (d .held) (p .offset) n ≡ false → Drop k ≡ planIn k p d memory
+    module _ (h : meets (d .held) range ≡ true) where
+      -- some of it is, and some is not
+      pub held-some : covers (d .held) range ≡ false → Drop k ≡ planIn k p d memory
       unfolding planIn planHeld
-      held-some e = rw (fits, ← count, h, e)
+      held-some e = rw (fits, any-held, h, all-held, e)
 
-      -- all are, and what stands in the memory is the same or is not
-      module _ (e : allHeld (d .held) (p .offset) n ≡ true) (same : Bool) (at : ℕ) (place : at ≡ byteAt k (p .offset))
+      -- all is, and what stands in the memory is the same or is not
+      module _ (e : covers (d .held) range ≡ true) (same : Bool) (at : ℕ) (place : at ≡ byteAt k (p .offset))
           (bytes : same ≡ isEqual (part at (length (p .payload)) memory) (p .payload)) where
         pub held-same : same ≡ true → Ignore ≡ planIn k p d memory
         unfolding planIn planHeld
-        held-same f = rw (fits, ← count, h, e, ← place, ← bytes, f)
+        held-same f = rw (fits, any-held, h, all-held, e, ← place, ← bytes, f)
 
         pub held-other : same ≡ false → Drop k ≡ planIn k p d memory
         unfolding planIn planHeld
-        held-other f = rw (fits, ← count, h, e, ← place, ← bytes, f)
+        held-other f = rw (fits, any-held, h, all-held, e, ← place, ← bytes, f)
 
 module _ (now : ℕ) (key : Key) (p : Part) (c : Collection) (memory : List ℕ) where
   pub plan-unfit : isUnfit p ≡ true → Unfit ≡ planOf now key p c memory

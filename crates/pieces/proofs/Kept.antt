@@ -19,9 +19,8 @@ use Rattle.lent.proofs.Ranges.{part-before, part-behind}
 use Rattle.pieces.specs.declared.Key.{Key}
 use Rattle.pieces.specs.declared.Place.{Place}
 use Rattle.pieces.specs.declared.Collection.{Collection}
-use Rattle.pieces.specs.declared.Taken.{Taken}
 use Rattle.pieces.specs.Places.{Part, places, room, memoryRoom, endOf, isLive, isOf, isWhole, byteAt, noPlace, freed}
-use Rattle.pieces.specs.Take.{placeAt, withPlace, settled}
+use Rattle.pieces.specs.Take.{Taken, placeAt, withPlace, settled}
 use Rattle.pieces.proofs.Joining.{State}
 
 -- ---- one place among others

@@ -1,12 +1,10 @@
 -- What the loops of the code ask: one more turn. Assumes nothing.
-use Prim.Native.Nat.{ℕ, zero, suc, _+_, _-_, _≤_, _<_}
-use mathlib.Core.Path.{_≡_, refl, _∙_}
-use mathlib.Core.Bool.{Bool, true, false, and-false}
+use Prim.Native.Nat.{ℕ, zero, suc, _+_, _≤_, _<_}
+use mathlib.Core.Path.{_≡_, refl}
+use mathlib.Core.Bool.{Bool, true, false, _&&_, and-false}
 use mathlib.Core.List.{List, [], _∷_}
-use native.Mathlib.Nat.{zero-add}
 use native.Mathlib.Numerals.{add-one}
 use native.Mathlib.Omega.{arith}
-use borrow.Author.Tests.{eq-eqb, ne-eqb}
 use lib.Dec.{eqb}
 use lib.ListN.{length, drop, getD, drop-of-length-le}
 use lib.Seq.{drop-cons}
@@ -42,23 +40,11 @@ module _ {A : Type 0} (t : A → Bool) (xs : List A) (i : ℕ) (d : A) where
   pub first-end : length xs ≤ i → firstWith t (drop i xs) ≡ 0
   first-end l = rw (drop-of-length-le xs l)
 
--- the same, from the end on
-module _ {A : Type 0} (t : A → Bool) (xs : List A) (i : ℕ) (d : A) where
-  pub first-before : 0 < i → i ≤ length xs → t (getD xs (i - 1) d) ≡ false → firstWith t (drop (i - 1) xs) ≡ suc (firstWith t (drop i xs))
-  first-before p l h =
-      let e : i - 1 + 1 ≡ i = omega arith in
-      rw e at (first-miss t xs (i - 1) d (omega arith) h)
-
-  pub first-start : (n : ℕ) → i ≡ 0 → n ≡ i + firstWith t (drop i xs) → n ≡ firstWith t xs
-  first-start n e h = h ∙ rw e (zero-add (firstWith t xs))
-
 -- two lists from i on are the same: by those at i, and what is behind them
 module _ (a b : List ℕ) (i : ℕ) where
-  pub equal-hit : i < length a → i < length b → getD a i 0 ≡ getD b i 0 → isEqual (drop i a) (drop i b) ≡ isEqual (drop (i + 1) a) (drop (i + 1) b)
-  equal-hit l m h = rw (add-one i, drop-cons a i 0 l, drop-cons b i 0 m, eq-eqb (getD a i 0) (getD b i 0) h)
-
-  pub equal-miss : i < length a → i < length b → (getD a i 0 ≡ getD b i 0 → ⊥) → isEqual (drop i a) (drop i b) ≡ false
-  equal-miss l m h = rw (drop-cons a i 0 l, drop-cons b i 0 m, ne-eqb (getD a i 0) (getD b i 0) h)
+  pub equal-step : i < length a → i < length b
+      → isEqual (drop i a) (drop i b) ≡ (eqb (getD a i 0) (getD b i 0) && isEqual (drop (i + 1) a) (drop (i + 1) b))
+  equal-step l m = rw (add-one i, drop-cons a i 0 l, drop-cons b i 0 m)
 
   pub equal-end : length a ≤ i → length b ≤ i → isEqual (drop i a) (drop i b) ≡ true
   equal-end l m = rw (drop-of-length-le a l, drop-of-length-le b m)

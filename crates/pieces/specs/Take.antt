@@ -12,10 +12,15 @@ use Rattle.pieces.specs.Places.{Part, places, countOf, isUnfit, isApart,
 use Rattle.pieces.specs.declared.Key.{Key}
 use Rattle.pieces.specs.declared.Place.{Place}
 use Rattle.pieces.specs.declared.Collection.{Collection}
-use Rattle.pieces.specs.declared.Taken.{Taken}
 use Rattle.pieces.specs.declared.Plan.{Plan}
 use Rattle.pieces.specs.declared.Plan.the-variants.{Unfit, Full, Ignore, Drop, Extend, Begin}
+use Rattle.pieces.specs.declared.Answer.{Answer}
 use Rattle.pieces.specs.declared.Answer.the-variants.{Joined, Refused}
+
+-- the answer to a piece, and the collection afterwards
+pub record Taken : Type 0 where
+  pub answer : Answer
+  pub collection : Collection
 
 -- at setup nothing is collected
 abbrev pub noDatagrams : Collection

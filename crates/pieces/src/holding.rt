@@ -1,26 +1,22 @@
 // What was planned, carried out: one place, and its bytes, with one more piece, or free.
 use crate::Answer;
-use crate::Collection;
+use crate::Change;
 use crate::Piece;
 use crate::Place;
 use crate::Plan;
-use crate::Taken;
 use crate::places::byte_at;
 use refusals::Refusal;
+use units::Held;
 ghost use mathlib.Core.Path.{_≡_};
-ghost use Rattle.pieces.specs.Places.{partOf};
+ghost use lib.ListN.{length};
+ghost use Rattle.units.specs.Held.{rangeOf};
+ghost use Rattle.pieces.specs.Places.{unitsOf, partOf};
 ghost use Rattle.pieces.specs.declared.Answer.the-variants.{Refused};
-ghost use Rattle.pieces.specs.Take.{takenBy, memoryBy};
+ghost use Rattle.pieces.specs.Take.{memoryBy};
 ghost use Rattle.pieces.specs.Change.{Placed, changedPlace, isTaken, settledIn, changedBy};
 
-// The answer, and what then stands in the place that a plan changes.
-pub(crate) struct Change {
-    pub answer: Answer,
-    pub place: Place,
-}
-
 // The place that a plan changes; where it changes none, the first.
-fn changed_place(plan: Plan) -> usize
+pub(crate) fn changed_place(plan: Plan) -> usize
     ensures { λ r. ⌜ r ≡ changedPlace plan ⌝ }
 {
     match plan {
@@ -57,12 +53,13 @@ pub(crate) fn write(plan: Plan, piece: Piece, payload: &[u8], memory: &mut [u8])
     }
 }
 
-// A number, and the place with what stands there.
-fn refused(refusal: Refusal, d: Place) -> Change
-    ensures { λ r. ⌜ r ≡ record { answer = Refused refusal; place = d } ⌝ }
+// A number, and place k with what stands there.
+fn refused(refusal: Refusal, k: usize, d: Place) -> Change
+    ensures { λ r. ⌜ r ≡ record { answer = Refused refusal; at = k; place = d } ⌝ }
 {
     Change {
         answer: Answer::Refused(refusal),
+        at: k,
         place: d,
     }
 }
@@ -78,51 +75,42 @@ fn settled(k: usize, d: Place) -> Change
                 place: k,
                 length: d.end as usize,
             },
+            at: k,
             place: free,
         }
     } else {
-        refused(Refusal::PieceWaits, d)
+        refused(Refusal::PieceWaits, k, d)
     }
 }
 
-// What a plan makes of the place that it changes, where d stands.
-fn changed(plan: Plan, d: Place, piece: Piece, payload: &[u8], time: u32) -> Change
+// What a plan makes of the place that it changes, where d stands; the piece fills that range.
+pub(crate) fn changed(
+    plan: Plan,
+    d: Place,
+    piece: Piece,
+    range: Held,
+    payload: &[u8],
+    time: u32,
+) -> Change
     requires { ⌜ Placed plan (partOf piece (now payload)) ⌝ }
+    requires { ⌜ range ≡ rangeOf (piece .offset) (unitsOf (length (now payload))) ⌝ }
     ensures { λ r. ⌜ r ≡ changedBy plan time (piece .key) (partOf piece (now (payload .entry))) d ⌝ }
 {
     match plan {
-        Plan::Unfit => refused(Refusal::PieceUnfit, d),
-        Plan::Full => refused(Refusal::NoPlace, d),
-        Plan::Ignore => refused(Refusal::PieceWaits, d),
-        Plan::Drop(_) => refused(Refusal::PiecesDisagree, d.freed()),
-        Plan::Extend(k) => settled(k, d.extended(piece.offset, piece.more, payload.len())),
+        Plan::Unfit => refused(Refusal::PieceUnfit, 0, d),
+        Plan::Full => refused(Refusal::NoPlace, 0, d),
+        Plan::Ignore => refused(Refusal::PieceWaits, 0, d),
+        Plan::Drop(k) => refused(Refusal::PiecesDisagree, k, d.freed()),
+        Plan::Extend(k) => settled(
+            k,
+            d.extended(piece.offset, piece.more, range, payload.len()),
+        ),
         Plan::Begin(k) => {
             let new = Place::new(piece.key, time);
-            settled(k, new.extended(piece.offset, piece.more, payload.len()))
-        }
-    }
-}
-
-impl Collection {
-    // The plan carried out, the memory aside.
-    pub(crate) fn carried_out(
-        mut self,
-        plan: Plan,
-        piece: Piece,
-        payload: &[u8],
-        time: u32,
-    ) -> Taken
-        requires { ⌜ Placed plan (partOf piece (now payload)) ⌝ }
-        ensures { λ r. ⌜ r ≡ takenBy plan time (piece .key) (partOf piece (now (payload .entry))) self ⌝ }
-    {
-        let k = changed_place(plan);
-        let change = changed(plan, self.places[k], piece, payload, time);
-        let answer = change.answer;
-        let place = change.place;
-        self.places[k] = place;
-        Taken {
-            answer,
-            collection: self,
+            settled(
+                k,
+                new.extended(piece.offset, piece.more, range, payload.len()),
+            )
         }
     }
 }

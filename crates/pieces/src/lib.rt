@@ -3,13 +3,20 @@ mod holding;
 mod judging;
 mod places;
 
+use holding::changed;
+use holding::changed_place;
 use holding::write;
-use judging::plan;
+use judging::free_place;
+use judging::is_unfit;
+use judging::plan_in;
+use judging::plan_new;
+use places::units_of;
 use refusals::Refusal;
 use units::Held;
 ghost use mathlib.Core.Path.{_≡_};
 ghost use Rattle.pieces.specs.Places.{partOf};
-ghost use Rattle.pieces.specs.Take.{noDatagrams, takenOf, memoryOf};
+ghost use Rattle.pieces.specs.Take.{noDatagrams, memoryOf};
+ghost use Rattle.pieces.specs.Change.{changeOf};
 
 // How many datagrams are collected at once.
 pub const PLACES: usize = 8;
@@ -70,9 +77,11 @@ pub enum Answer {
     Refused(Refusal),
 }
 
-pub struct Taken {
+// The answer to a piece, and what then stands in the place `at`: where nothing changes, what stands in the first.
+pub struct Change {
     pub answer: Answer,
-    pub collection: Collection,
+    pub at: usize,
+    pub place: Place,
 }
 
 impl Collection {
@@ -87,13 +96,30 @@ impl Collection {
     }
 
     // What comes of a piece at a time. Its bytes are written into the memory where it is taken. A repeat is compared with what stands there: who
-    // writes into it between two calls turns its 27 into 29.
-    pub fn take(self, piece: Piece, payload: &[u8], time: u32, memory: &mut [u8]) -> Taken
-        ensures { λ r. ⌜ r ≡ takenOf time (piece .key) (partOf piece (now (payload .entry))) self (now (memory .entry)) ⌝ }
+    // writes into it between two calls turns its 27 into 29. One place changes at most: the caller stores that one.
+    pub fn take(self, piece: Piece, payload: &[u8], time: u32, memory: &mut [u8]) -> Change
+        ensures { λ r. ⌜ r ≡ changeOf time (piece .key) (partOf piece (now (payload .entry))) self (now (memory .entry)) ⌝ }
         ensures { λ r. ⌜ now (memory .exit) ≡ memoryOf time (piece .key) (partOf piece (now (payload .entry))) self (now (memory .entry)) ⌝ }
     {
-        let plan = plan(self, piece, payload, time, memory);
+        let range = Held::range(piece.offset as usize, units_of(payload.len()));
+        // The place of the key's live datagram, or the number of places: found here, for a function is handed a copy of all places.
+        let key = piece.key;
+        let mut k = 0;
+        while k < PLACES {
+            if self.places[k].of(key, time) {
+                break;
+            }
+            k += 1;
+        }
+        let plan = if is_unfit(piece.offset, piece.more, payload.len()) {
+            Plan::Unfit
+        } else if k < PLACES {
+            plan_in(self.places[k], k, piece, range, payload, memory)
+        } else {
+            plan_new(free_place(self, time))
+        };
         write(plan, piece, payload, memory);
-        self.carried_out(plan, piece, payload, time)
+        let k = changed_place(plan);
+        changed(plan, self.places[k], piece, range, payload, time)
     }
 }

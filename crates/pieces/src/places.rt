@@ -5,6 +5,7 @@ use crate::ROOM;
 use units::Held;
 ghost use mathlib.Core.Path.{_≡_};
 ghost use Prim.Native.Nat.{_+_, _*_, _<_, _≤_, max};
+ghost use Rattle.units.specs.Held.{rangeOf};
 ghost use Rattle.pieces.specs.Places.{places, room, unitsOf, byteAt, isSame, isLive, isFree, isOf, endsApart, noPlace, begun, extendedTo, freed, isWhole};
 
 // How long a datagram is kept from its first piece on, in seconds.
@@ -23,7 +24,7 @@ impl Key {
 
 impl Place {
     // A place without a datagram.
-    pub(crate) fn none() -> Self
+    pub fn none() -> Self
         ensures { λ r. ⌜ r ≡ noPlace ⌝ }
     {
         let key = Key {
@@ -92,16 +93,17 @@ impl Place {
         }
     }
 
-    // The datagram with one more piece, of n bytes.
-    pub(crate) fn extended(self, offset: u16, more: bool, n: usize) -> Self
+    // The datagram with one more piece, of n bytes, which fill that range.
+    pub(crate) fn extended(self, offset: u16, more: bool, range: Held, n: usize) -> Self
         requires { ⌜ 8 * offset + n ≤ room ⌝ }
+        requires { ⌜ range ≡ rangeOf offset (unitsOf n) ⌝ }
         ensures { λ r. ⌜ r ≡ extendedTo offset more n self ⌝ }
     {
         let end = 8 * offset + n as u16;
         let key = self.key;
         let first = self.first;
         let held = self.held;
-        let held = held.with(offset as usize, units_of(n));
+        let held = held.with(range);
         if more {
             Place {
                 held,
@@ -134,8 +136,11 @@ impl Place {
     pub(crate) fn whole(self) -> bool
         ensures { λ r. ⌜ r ≡ isWhole self ⌝ }
     {
+        if self.end == 0 {
+            return false;
+        }
         let held = self.held;
-        (self.end != 0) & held.all(0, units_of(self.end as usize))
+        held.all(Held::first(units_of(self.end as usize)))
     }
 }
 

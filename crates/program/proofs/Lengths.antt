@@ -18,10 +18,9 @@ use Rattle.pieces.specs.declared.Collection.{Collection}
 use Rattle.routers.specs.Routers.{live}
 use Rattle.routers.specs.declared.Router.{Router}
 use Rattle.settings.specs.declared.Settings.{Settings}
-use Rattle.receiving.specs.Collect.{wholeOf, isPiece, fragmentOf, collectedOf}
+use Rattle.receiving.specs.Collect.{Collected, wholeOf, isPiece, fragmentOf, collectedOf}
 use Rattle.receiving.specs.declared.Received.{Received}
 use Rattle.receiving.specs.declared.Received.the-variants.{Refused}
-use Rattle.receiving.specs.declared.collect.Collected.{Collected}
 use Rattle.node.specs.Receive.{collectedBy, receiveOf}
 use Rattle.node.specs.declared.Node.{Node}
 use Rattle.node.specs.declared.SetupAnswer.{SetupAnswer}

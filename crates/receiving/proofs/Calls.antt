@@ -1,22 +1,19 @@
 -- The call for the number in plain terms: what it comes to of a whole datagram and of a piece, by what 15, 2, 3, 4, 6, 7 say. Assumes nothing.
-use Prim.Native.Nat.{ℕ, _*_, _/_, _%_}
+use Prim.Native.Nat.{ℕ, _/_, _%_}
 use mathlib.Core.Path.{_≡_, refl}
 use mathlib.Core.List.{List}
 use native.Mathlib.Omega.{arith}
 use borrow.Author.Tests.{eq-eqb, leb-true, le-leb}
 use lib.Dec.{leb}
 use lib.ListN.{getD, length}
-use Rattle.lists.specs.Parts.{part}
 use Rattle.lists.proofs.Decides.{Decides}
 use Rattle.refusals.specs.Refusals.{firstOf, stopOr}
-use Rattle.refusals.proofs.Laws.{stop-append}
 use Rattle.refusals.specs.declared.Refusal.{Refusal}
 use Rattle.refusals.specs.declared.Check.{Check}
 use Rattle.refusals.specs.declared.Check.the-variants.{Pass, Stop}
 use Rattle.header.specs.Fields.{wordAt, quadAt}
-use Rattle.header.specs.Outer.{outerOf, isSumWrong, payloadOf}
+use Rattle.header.specs.Outer.{outerOf, payloadOf}
 use Rattle.header.specs.Inner.{innerOf}
-use Rattle.checksum.specs.Sum.{isRightFrom}
 use Rattle.settings.specs.declared.Settings.{Settings}
 use Rattle.routers.specs.Routers.{listed}
 use Rattle.routers.specs.declared.Router.{Router}
@@ -28,9 +25,9 @@ use Rattle.pieces.specs.declared.Key.{Key}
 use Rattle.pieces.specs.declared.Piece.{Piece}
 use Rattle.receiving.specs.Receive.{innerRows}
 use Rattle.receiving.specs.Collect.{arrivalRows, wholeOf, pieceOf, joinedBy, takenPiece, takenMemory, fragmentOf, fragmentMemory, collectedOf, collectedMemory}
-use Rattle.receiving.specs.Facts.{headerLength, encapsulated, OuterWhole, SumRight, Unfragmented}
-use Rattle.receiving.specs.declared.Received.the-variants.{Delivered, Joined, Refused}
-use Rattle.receiving.proofs.Facts.{bytes-whole-outer, decides-piece}
+use Rattle.receiving.specs.Facts.{encapsulated, Unfragmented}
+use Rattle.receiving.specs.declared.Received.the-variants.{Refused}
+use Rattle.receiving.proofs.Facts.{decides-piece}
 
 -- 15, 2, 3, 4, 6, 7, of a datagram d
 abbrev pub arrivalCheck : Settings → ℕ → ℕ → List ℕ → Check

@@ -12,14 +12,12 @@ use Rattle.header.specs.Outer.{outerOf, payloadOf}
 use Rattle.header.specs.Inner.{innerOf}
 use Rattle.settings.specs.declared.Settings.{Settings}
 use Rattle.routers.specs.declared.Router.{Router}
-use Rattle.pieces.specs.Take.{takenOf, memoryOf}
+use Rattle.pieces.specs.Take.{Taken, takenOf, memoryOf}
 use Rattle.pieces.specs.declared.Answer.the-variants as taken
 use Rattle.pieces.specs.declared.Collection.{Collection}
-use Rattle.pieces.specs.declared.Taken.{Taken}
-use Rattle.receiving.specs.Collect.{wholeOf, joinedBy}
+use Rattle.receiving.specs.Collect.{Collected, wholeOf, joinedBy}
 use Rattle.receiving.specs.Facts.{headerLength, encapsulated, innerLength, Unfragmented, innerFacts}
 use Rattle.receiving.specs.CollectFacts.{arrivalFacts, PieceIn, Judged, PieceCollected, CollectedExactly}
-use Rattle.receiving.specs.declared.collect.Collected.{Collected}
 use Rattle.receiving.specs.declared.Received.{Received}
 use Rattle.receiving.specs.declared.Received.the-variants.{Delivered, Joined, Refused}
 use Rattle.receiving.proofs.Facts.{inner-decides, arrival-decides}

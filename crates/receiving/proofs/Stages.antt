@@ -24,9 +24,8 @@ use Rattle.routers.specs.declared.Router.{Router}
 use Rattle.pieces.specs.Places.{memoryRoom}
 use Rattle.pieces.specs.declared.Collection.{Collection}
 use Rattle.receiving.specs.Receive.{innerRows, receivedOf}
-use Rattle.receiving.specs.Collect.{arrivalRows, wholeOf, isPiece, fragmentOf, fragmentMemory, collectedOf, collectedMemory}
+use Rattle.receiving.specs.Collect.{Collected, arrivalRows, wholeOf, isPiece, fragmentOf, fragmentMemory, collectedOf, collectedMemory}
 use Rattle.receiving.specs.Stages.{addressRows, addressCheck, innerCheck, arrivedOf, arrivalOf, openedOf, wholeOpened, deliveredOf, settledOf, settledMemory}
-use Rattle.receiving.specs.declared.collect.Collected.{Collected}
 use Rattle.receiving.specs.declared.Received.{Received}
 use Rattle.receiving.specs.declared.Received.the-variants.{Delivered, Refused}
 

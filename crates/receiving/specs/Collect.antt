@@ -19,16 +19,19 @@ use Rattle.settings.specs.declared.Settings.{Settings}
 use Rattle.routers.specs.Routers.{listed}
 use Rattle.routers.specs.declared.Router.{Router}
 use Rattle.pieces.specs.Places.{Part, room, memoryRoom, partOf}
-use Rattle.pieces.specs.Take.{takenOf, memoryOf}
+use Rattle.pieces.specs.Take.{Taken, takenOf, memoryOf}
 use Rattle.pieces.specs.declared.Answer as taken
 use Rattle.pieces.specs.declared.Answer.the-variants as taken-as
 use Rattle.pieces.specs.declared.Collection.{Collection}
 use Rattle.pieces.specs.declared.Piece.{Piece}
-use Rattle.pieces.specs.declared.Taken.{Taken}
 use Rattle.receiving.specs.Receive.{innerRows}
 use Rattle.receiving.specs.declared.Received.{Received}
 use Rattle.receiving.specs.declared.Received.the-variants.{Delivered, Joined, Refused}
-use Rattle.receiving.specs.declared.collect.Collected.{Collected}
+
+-- what comes of a datagram: the answer, and what is collected afterwards
+pub record Collected : Type 0 where
+  pub answer : Received
+  pub pieces : Collection
 
 -- R23.1: 15, 2, 3, 4, 6, 7, of a datagram d with the outer fields o, where so many bytes of memory are lent
 abbrev pub arrivalRows : Settings → ℕ → ℕ → List ℕ → Outer → List (Bool × Refusal)

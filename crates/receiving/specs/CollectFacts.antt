@@ -12,14 +12,12 @@ use Rattle.header.specs.Fields.{wordAt, quadAt}
 use Rattle.settings.specs.declared.Settings.{Settings}
 use Rattle.routers.specs.declared.Router.{Router}
 use Rattle.pieces.specs.Places.{partOf}
-use Rattle.pieces.specs.Take.{takenOf, memoryOf}
+use Rattle.pieces.specs.Take.{Taken, takenOf, memoryOf}
 use Rattle.pieces.specs.declared.Answer.the-variants as taken
 use Rattle.pieces.specs.declared.Collection.{Collection}
 use Rattle.pieces.specs.declared.Piece.{Piece}
-use Rattle.pieces.specs.declared.Taken.{Taken}
-use Rattle.receiving.specs.Collect.{collectedOf, collectedMemory}
+use Rattle.receiving.specs.Collect.{Collected, collectedOf, collectedMemory}
 use Rattle.receiving.specs.Facts.{headerLength, encapsulated, innerLength, OuterWhole, SumRight, Encapsulates, Unfragmented, ForUs, OuterBad, innerFacts}
-use Rattle.receiving.specs.declared.collect.Collected.{Collected}
 use Rattle.receiving.specs.declared.Received.{Received}
 use Rattle.receiving.specs.declared.Received.the-variants.{Delivered, Joined, Refused}
 

@@ -1,6 +1,5 @@
 -- The orders of receiving in stages, as the code goes through them: 2 to 4, and 2 to 5, are read with the outer header (`headerReadOf`,
--- `outerReadOf`). That they are the tables of `receiveRows` and `arrivalRows` is proved. Only functions of the crate's own cite this, and
--- who gathers and judges by itself (`judgedOf`, `judgedWith`).
+-- `outerReadOf`). That they are the tables of `receiveRows` and `arrivalRows` is proved. No contract of node, boundary or program rests on this.
 use Prim.Native.Nat.{ℕ, _<_}
 use mathlib.Core.Path.{_≡_}
 use mathlib.Core.Bool.{Bool, false, cond, not}
@@ -22,12 +21,12 @@ use Rattle.settings.specs.declared.Settings.{Settings}
 use Rattle.routers.specs.Routers.{listed}
 use Rattle.routers.specs.declared.Router.{Router}
 use Rattle.pieces.specs.Places.{places}
+use Rattle.pieces.specs.Take.{withPlace}
 use Rattle.pieces.specs.declared.Answer as taken
 use Rattle.pieces.specs.declared.Answer.the-variants as taken-as
 use Rattle.pieces.specs.declared.Collection.{Collection}
 use Rattle.receiving.specs.Receive.{innerRows}
-use Rattle.receiving.specs.Collect.{arrivalRows, isPiece, takenPiece, takenMemory}
-use Rattle.receiving.specs.declared.collect.Collected.{Collected}
+use Rattle.receiving.specs.Collect.{Collected, arrivalRows, isPiece, takenPiece, takenMemory}
 use Rattle.receiving.specs.declared.collect.Gathered.{Gathered}
 use Rattle.receiving.specs.declared.judging.Opening.{Opening}
 use Rattle.receiving.specs.declared.judging.Stage.{Stage}
@@ -91,13 +90,17 @@ abbrev pub InMemory : taken.Answer → Type 0
 InMemory (taken-as.Joined k n) = k < places
 InMemory (taken-as.Refused r) = Unit {0}
 
--- what comes of what is gathered: the answer, and what is collected afterwards
-abbrev pub judgedWith : Settings → List Router → Gathered → Collected
-judgedWith s routers g = record { answer = judgedOf s routers (g .stage); pieces = g .pieces }
+-- what is collected then: a piece changes one place, if any
+abbrev pub collectedAfter : Gathered → Collection → Collection
+collectedAfter g c = cond (g .piece) (withPlace (g .at) (g .place) c) c
 
--- what is gathered says all that is asked
-abbrev pub GatheredAs : (Settings → List Router → Collected) → Gathered → Type 0
-GatheredAs answer g = (s : Settings) (routers : List Router) → judgedWith s routers g ≡ answer s routers
+-- what comes of what is gathered, where c was collected: the answer, and what is collected afterwards
+abbrev pub judgedWith : Settings → List Router → Collection → Gathered → Collected
+judgedWith s routers c g = record { answer = judgedOf s routers (g .stage); pieces = collectedAfter g c }
+
+-- what is gathered says all that is asked, and the place that it names is there
+abbrev pub GatheredAs : Collection → (Settings → List Router → Collected) → Gathered → Type 0
+GatheredAs c answer g = ((s : Settings) (routers : List Router) → judgedWith s routers c g ≡ answer s routers) × (g .at < places)
 
 -- what comes of any datagram that has arrived: a whole one leaves what is collected
 unfoldable pub settledOf : Settings → List Router → Collection → ℕ → List ℕ → Outer → List ℕ → Collected

@@ -1,5 +1,4 @@
-// The call for the number: a whole datagram is judged as it is, a piece is collected, and what it completes is judged.
-use crate::Received;
+// The call for the number, up to what is to be judged: of a whole datagram its inner packet, of a piece what it completes.
 use crate::arrive;
 use crate::bytes_at;
 use crate::judging;
@@ -14,35 +13,25 @@ use pieces::Collection;
 use pieces::Key;
 use pieces::MEMORY;
 use pieces::Piece;
+use pieces::Place;
 use pieces::ROOM;
 use refusals::Refusal;
-use routers::RouterList;
 use settings::Settings;
 ghost use mathlib.Core.Path.{_≡_};
+ghost use Prim.Native.Nat.{_<_};
+ghost use mathlib.Core.Bool.{false};
 ghost use mathlib.Core.List.{List};
-ghost use Rattle.header.specs.Outer.{outerOf};
-ghost use Rattle.routers.specs.Routers.{live};
+ghost use Rattle.pieces.specs.Places.{places, noPlace};
 ghost use Rattle.routers.specs.declared.Router.{Router};
-ghost use Rattle.receiving.specs.Collect.{isPiece, pieceOf, joinedBy, takenPiece, takenMemory, collectedOf, collectedMemory};
+ghost use Rattle.receiving.specs.Collect.{pieceOf, joinedBy, takenPiece, takenMemory, collectedOf, collectedMemory};
 ghost use Rattle.receiving.specs.Stages.{arrivalOf, InMemory, ReadAs, judgedWith, GatheredAs, settledOf, settledMemory};
 
-// The answer, and what is collected then.
-pub struct Collected {
-    pub answer: Received,
-    pub pieces: Collection,
-}
-
-// What is read of the inner packet, or the number; and what is collected then.
+// What is read of the inner packet, or the number; and whether a piece came to the collection, and what then stands in the place `at`.
 pub struct Gathered {
     pub stage: Stage,
-    pub pieces: Collection,
-}
-
-// Whether the datagram is a piece: more-fragments is set, or its offset is not 0.
-pub fn is_piece(d: &[u8]) -> bool
-    ensures { λ r. ⌜ r ≡ isPiece (outerOf (now (d .entry))) ⌝ }
-{
-    fields::word(d, 6) % 16384 != 0
+    pub piece: bool,
+    pub at: usize,
+    pub place: Place,
 }
 
 // The outer header of a datagram that is for us, or the first of the numbers 15, 2, 3, 4, 6 and 7, where so many bytes of memory are lent.
@@ -90,34 +79,45 @@ fn stage_of(taken: Answer, source: u32, memory: &[u8]) -> Stage
 
 // A piece that has arrived is taken into the collection.
 fn gather_piece(pieces: Collection, time: u32, d: &[u8], o: Outer, memory: &mut [u8]) -> Gathered
-    ensures { λ r. ⌜ GatheredAs (λ s routers. takenPiece s routers pieces time (now (d .entry)) o (now (memory .entry))) r ⌝ }
+    ensures { λ r. ⌜ GatheredAs pieces (λ s routers. takenPiece s routers pieces time (now (d .entry)) o (now (memory .entry))) r ⌝ }
     ensures { λ _. ⌜ now (memory .exit) ≡ takenMemory pieces time (now (d .entry)) o (now (memory .entry)) ⌝ }
 {
     let piece = piece_of(d, o);
     let payload = outer::payload(d, o);
     let taken = pieces.take(piece, payload, time, memory);
-    let collection = taken.collection;
     let answer = taken.answer;
+    let place = taken.place;
     let stage = stage_of(answer, o.source, memory);
     Gathered {
         stage,
-        pieces: collection,
+        piece: true,
+        at: taken.at,
+        place,
+    }
+}
+
+// No piece came to the collection.
+fn unchanged(stage: Stage) -> Gathered
+    ensures { λ r. ⌜ r ≡ record { stage = stage; piece = false; at = 0; place = noPlace } ⌝ }
+{
+    let place = Place::none();
+    Gathered {
+        stage,
+        piece: false,
+        at: 0,
+        place,
     }
 }
 
 // What is read of a datagram that has arrived. A whole one leaves what is collected.
 fn gather_arrived(pieces: Collection, time: u32, d: &[u8], o: Outer, memory: &mut [u8]) -> Gathered
-    ensures { λ r. ⌜ GatheredAs (λ s routers. settledOf s routers pieces time (now (d .entry)) o (now (memory .entry))) r ⌝ }
+    ensures { λ r. ⌜ GatheredAs pieces (λ s routers. settledOf s routers pieces time (now (d .entry)) o (now (memory .entry))) r ⌝ }
     ensures { λ _. ⌜ now (memory .exit) ≡ settledMemory pieces time (now (d .entry)) o (now (memory .entry)) ⌝ }
 {
     if o.fragment != 0 {
         return gather_piece(pieces, time, d, o, memory);
     }
-    let read = read_whole(d, o);
-    Gathered {
-        stage: read,
-        pieces,
-    }
+    unchanged(read_whole(d, o))
 }
 
 // 15, 2, 3, 4, 6 and 7; then a piece is collected; and what is read then of a whole datagram or of a joined one.
@@ -129,38 +129,12 @@ pub fn gather(
     interface: u8,
     memory: &mut [u8],
 ) -> Gathered
-    ensures { λ r. ⌜ ((routers : List Router) → judgedWith settings routers r ≡ collectedOf settings routers pieces time (now (d .entry)) interface (now (memory .entry))) ⌝ }
+    ensures { λ r. ⌜ ((routers : List Router) → judgedWith settings routers pieces r ≡ collectedOf settings routers pieces time (now (d .entry)) interface (now (memory .entry))) × (r .at < places) ⌝ }
     ensures { λ _. ⌜ now (memory .exit) ≡ collectedMemory settings pieces time (now (d .entry)) interface (now (memory .entry)) ⌝ }
 {
     let arrived = arrival(settings, d, interface, memory.len());
     match arrived {
         OuterRead::Header(o) => gather_arrived(pieces, time, d, o, memory),
-        OuterRead::Refused(refusal) => {
-            let stage = Stage::Refused(refusal);
-            Gathered { stage, pieces }
-        }
-    }
-}
-
-// What comes of any datagram: whole or a piece, it is asked once for 15, 2, 3, 4, 6 and 7, and once for 8 to 10.
-pub fn collect(
-    settings: Settings,
-    routers: RouterList,
-    pieces: Collection,
-    time: u32,
-    d: &[u8],
-    interface: u8,
-    memory: &mut [u8],
-) -> Collected
-    ensures { λ r. ⌜ r ≡ collectedOf settings (live routers) pieces time (now (d .entry)) interface (now (memory .entry)) ⌝ }
-    ensures { λ _. ⌜ now (memory .exit) ≡ collectedMemory settings pieces time (now (d .entry)) interface (now (memory .entry)) ⌝ }
-{
-    let gathered = gather(settings, pieces, time, d, interface, memory);
-    let collection = gathered.pieces;
-    let stage = gathered.stage;
-    let answer = judging::judge(settings, routers, stage);
-    Collected {
-        answer,
-        pieces: collection,
+        OuterRead::Refused(refusal) => unchanged(Stage::Refused(refusal)),
     }
 }

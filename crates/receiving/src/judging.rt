@@ -6,6 +6,7 @@ use address::quads;
 use address::quads::Quads;
 use header::INNER_HEADER;
 use header::inner;
+use header::inner::Inner;
 use refusals::Check;
 use refusals::Refusal;
 use routers::RouterList;
@@ -13,6 +14,7 @@ use settings::Settings;
 ghost use mathlib.Core.Path.{_≡_};
 ghost use Rattle.address.specs.Address.{lastQuad, isBadSourceWith};
 ghost use Rattle.address.specs.Quads.{bytesIn};
+ghost use Rattle.header.specs.Inner.{isInnerMalformed};
 ghost use Rattle.settings.specs.Settings.{forbiddenTo};
 ghost use Rattle.routers.specs.Routers.{live, listed};
 ghost use Rattle.receiving.specs.Receive.{embeds, isSourceRight};
@@ -89,11 +91,25 @@ fn source_right(settings: Settings, routers: RouterList, source: u32, q: Quads) 
     routers.lists(source)
 }
 
+// Number 8, which asks version and length alone.
+fn malformed(x: Opening) -> bool
+    ensures { λ r. ⌜ r ≡ isInnerMalformed (x .length) (innerIn x) ⌝ }
+{
+    let i = Inner {
+        version: x.version,
+        length: x.packet,
+        next: 0,
+        hop: 0,
+        source: [0; 16],
+    };
+    inner::inner_malformed(x.length, i)
+}
+
 // Numbers 8, 9 and 10.
 fn check_inner(settings: Settings, routers: RouterList, x: Opening) -> Check
     ensures { λ r. ⌜ r ≡ innerCheck settings (listed (x .source) (live routers)) (x .source) (x .length) (innerIn x) ⌝ }
 {
-    if (x.length < INNER_HEADER) | (x.version != 6) | (x.length < x.packet) {
+    if malformed(x) {
         return Check::Stop(Refusal::InnerMalformed);
     }
     let q = x.address;

@@ -15,7 +15,11 @@ use lib.Seq.{take-at, drop-at}
 use Rattle.lists.specs.Any.{anyOf, allOf}
 use Rattle.lists.specs.Parts.{part}
 use Rattle.units.specs.Held.{bitsOf, wordOf}
-use Rattle.units.specs.Words.{marked, maskOf}
+use Rattle.units.proofs.Ranges.{marked}
+
+-- the word whose n bits from one on are set, and no others
+abbrev pub maskOf : ℕ → ℕ → ℕ
+maskOf from n = (2 ^ n - 1) * 2 ^ from
 
 pub length-bits : (n w : ℕ) → length (bitsOf n w) ≡ n
 length-bits zero w = refl

@@ -3,3 +3,4 @@ mod Ranges
 mod Words
 pub mod Laws
 pub mod Facts
+pub mod Ranged

@@ -12,7 +12,13 @@ use Rattle.lists.specs.Any.{anyOf}
 use Rattle.lists.specs.Parts.{part}
 use Rattle.lists.proofs.Parts.{take-least, drop-least}
 use Rattle.lent.specs.Written.{over}
-use Rattle.units.specs.Words.{marked}
+
+-- marks of which n from one on are set besides, as far as there are any
+abbrev pub marked : ℕ → ℕ → List Bool → List Bool
+marked from n [] = []
+marked (suc from) n (m ∷ ms) = m ∷ marked from n ms
+marked zero zero (m ∷ ms) = m ∷ ms
+marked zero (suc n) (m ∷ ms) = true ∷ marked zero n ms
 
 pub part-append : {A : Type 0} (f n : ℕ) (a b : List A) → part f n (a ++ b) ≡ part f n a ++ part (f - length a) (n - (length a - f)) b
 part-append f n [] b = simp (drop-nil, take-nil, sub-zero, zero-sub)

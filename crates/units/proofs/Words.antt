@@ -1,43 +1,72 @@
 -- What a range of units is of a word, and of the four words. Assumes nothing.
-use Prim.Native.Nat.{ℕ, _+_, _-_, _^_, _<_}
+use Prim.Native.Nat.{ℕ, _+_, _-_, _%_, _^_, min}
 use mathlib.Core.Path.{_≡_, refl, sym, ap, _∙_}
-use mathlib.Core.Bool.{Bool, not}
+use mathlib.Core.Logic.{⊎-elim}
+use mathlib.Core.Bool.{Bool, not, _||_}
 use mathlib.Core.List.{List, [], _∷_, _++_}
-use native.Mathlib.Nat.{mod-eq-of-lt}
 use native.Mathlib.Omega.{arith}
-use lib.Bits.{bitAnd, bitOr, or-lt}
+use borrow.Author.Tests.{ne-eqb, eqb-true, eqb-false}
+use lib.Bits.{bitAnd, bitOr, or-add-and, and-le-r}
 use lib.Dec.{eqb}
 use lib.ListN.{length, getD, take, drop}
 use lib.Seq.{take-at, take-all, drop-append-add}
 use Rattle.lists.specs.Any.{anyOf, allOf}
 use Rattle.lists.specs.Parts.{part}
+use Rattle.lists.proofs.Tests.{tested}
 use Rattle.units.specs.declared.Held.{Held}
 use Rattle.units.specs.Held.{bitsOf, wordOf, marksIn, heldOf, heldWith}
-use Rattle.units.specs.Words.{marked, maskOf, partFrom, markedFrom, before, within}
-use Rattle.units.proofs.Bits.{length-bits, word-bits, any-mask, all-mask, or-mask}
-use Rattle.units.proofs.Ranges.{part-clip, part-append, marked-clip, marked-append, marked-over, four}
+use Rattle.units.proofs.Bits.{maskOf, length-bits, word-bits, any-mask, all-mask, or-mask}
+use Rattle.units.proofs.Ranges.{marked, part-clip, part-append, marked-clip, marked-append, marked-over, four}
+
+-- of words joined some bit is set where one has a bit that is
+or-some : (a b : ℕ) → not (eqb (bitOr a b) 0) ≡ (not (eqb a 0) || not (eqb b 0))
+or-some a b =
+    ⊎-elim (λ t. rw (eqb-true a 0 t))
+    (λ t. rw (t, ne-eqb (bitOr a b) 0 (omega (arith, eqb-false a 0 t, or-add-and a b, and-le-r a b)))) (tested (eqb a 0))
+
+pub or-some-four : (a b c d : ℕ) → not (eqb (bitOr (bitOr (bitOr a b) c) d) 0) ≡ (not (eqb a 0) || not (eqb b 0) || not (eqb c 0) || not (eqb d 0))
+or-some-four a b c d = rw (or-some (bitOr (bitOr a b) c) d, or-some (bitOr a b) c, or-some a b)
+
+-- what n units from one on are of a word whose first unit is `start`
+module _ (start from n : ℕ) where
+  -- of marks the first of which is of the unit start, those of the n units
+  abbrev pub partFrom : List Bool → List Bool
+  partFrom ms = part (from - start) (n - (start - from)) ms
+
+  -- those marks with the n units' set besides
+  abbrev pub markedFrom : List Bool → List Bool
+  markedFrom ms = marked (from - start) (n - (start - from)) ms
+
+  -- how many of a word's units are before the n
+  abbrev pub before : ℕ
+  before = min (from - start) 64
+
+  -- how many of them are of the n
+  abbrev pub within : ℕ
+  within = min (n - (start - from)) (64 - before)
+
+  -- the bits of the n
+  abbrev pub mask : ℕ
+  mask = maskOf before within
 
 module _ (word start from n : ℕ) where
-  abbrev mask : ℕ
-  mask = maskOf (before start from n) (within start from n)
-
   clipped : part (before start from n) (within start from n) (bitsOf 64 word) ≡ partFrom start from n (bitsOf 64 word)
   clipped = part-clip (from - start) (n - (start - from)) 64 (bitsOf 64 word) (length-bits 64 word)
 
-  pub any-in : not (eqb (bitAnd word mask) 0) ≡ anyOf (λ (m : Bool). m) (partFrom start from n (bitsOf 64 word))
+  pub any-in : not (eqb (bitAnd word (mask start from n)) 0) ≡ anyOf (λ (m : Bool). m) (partFrom start from n (bitsOf 64 word))
   any-in = any-mask 64 (before start from n) (within start from n) word (omega arith) ∙ ap (anyOf (λ (m : Bool). m)) clipped
 
-  pub all-in : eqb (bitAnd word mask) mask ≡ allOf (λ (m : Bool). m) (partFrom start from n (bitsOf 64 word))
+  pub all-in : eqb (bitAnd word (mask start from n)) (mask start from n) ≡ allOf (λ (m : Bool). m) (partFrom start from n (bitsOf 64 word))
   all-in = all-mask 64 (before start from n) (within start from n) word (omega arith) ∙ ap (allOf (λ (m : Bool). m)) clipped
 
-  with-bits : bitsOf 64 (bitOr word mask) ≡ markedFrom start from n (bitsOf 64 word)
+  with-bits : bitsOf 64 (bitOr word (mask start from n)) ≡ markedFrom start from n (bitsOf 64 word)
   with-bits = or-mask 64 (before start from n) (within start from n) word ∙ marked-clip (from - start) (n - (start - from)) (bitsOf 64 word)
 
   length-with : length (markedFrom start from n (bitsOf 64 word)) ≡ 64
-  length-with = ap length (sym with-bits) ∙ length-bits 64 (bitOr word mask)
+  length-with = ap length (sym with-bits) ∙ length-bits 64 (bitOr word (mask start from n))
 
-  pub with-in : word < 2 ^ 64 → mask < 2 ^ 64 → bitOr word mask ≡ wordOf (markedFrom start from n (bitsOf 64 word))
-  with-in hw hm = sym (word-bits 64 (bitOr word mask) ∙ mod-eq-of-lt (or-lt 64 word mask hw hm)) ∙ ap wordOf with-bits
+  pub with-in : bitOr word (mask start from n) % 2 ^ 64 ≡ wordOf (markedFrom start from n (bitsOf 64 word))
+  with-in = sym (word-bits 64 (bitOr word (mask start from n))) ∙ ap wordOf with-bits
 
 -- the words of four times 64 marks
 module _ (a b c d : List Bool) (ha : length a ≡ 64) (hb : length b ≡ 64) (hc : length c ≡ 64) (hd : length d ≡ 64) where

@@ -1,7 +1,8 @@
 -- Which units of eight bytes of a datagram's payload are held (R23.12): a mark for each, as bits of four words.
-use Prim.Native.Nat.{ℕ, zero, suc, _+_, _-_, _*_, _/_, _%_, min}
-use mathlib.Core.Bool.{Bool, true, cond}
+use Prim.Native.Nat.{ℕ, zero, suc, _+_, _-_, _*_, _/_, _%_, _^_, min}
+use mathlib.Core.Bool.{Bool, true, cond, not, _&&_, _||_}
 use mathlib.Core.List.{List, [], _∷_, _++_}
+use lib.Bits.{bitAnd, bitOr}
 use lib.Dec.{eqb}
 use lib.ListN.{getD, replicate}
 use Rattle.lists.specs.Any.{anyOf, allOf}
@@ -48,3 +49,32 @@ allHeld h from n = allOf (λ (m : Bool). m) (part from n (marksIn h))
 -- n units from one on are held besides, as far as there are any
 unfoldable pub heldWith : Held → ℕ → ℕ → Held
 heldWith h from n = heldOf (over from (replicate (min n (units - from)) true) (marksIn h))
+
+-- n units from one on, as far as there are any, and no others
+unfoldable pub rangeOf : ℕ → ℕ → Held
+rangeOf from n = heldWith noneHeld from n
+
+module _ (h of : Held) where
+  -- the bits that are set in word i of both
+  abbrev pub shared : ℕ → ℕ
+  shared i = bitAnd (getD (h .words) i 0) (getD (of .words) i 0)
+
+  -- all bits of word i that are set in the other are set
+  abbrev pub hasWord : ℕ → Bool
+  hasWord i = eqb (shared i) (getD (of .words) i 0)
+
+  -- the bits that are set in word i of the one or the other: 64, as a word has
+  abbrev pub joined : ℕ → ℕ
+  joined i = bitOr (getD (h .words) i 0) (getD (of .words) i 0) % 2 ^ 64
+
+  -- some of those units is held
+  unfoldable pub meets : Bool
+  meets = not (eqb (shared 0) 0) || not (eqb (shared 1) 0) || not (eqb (shared 2) 0) || not (eqb (shared 3) 0)
+
+  -- all of them are
+  unfoldable pub covers : Bool
+  covers = hasWord 0 && hasWord 1 && hasWord 2 && hasWord 3
+
+  -- those that are held and those
+  unfoldable pub united : Held
+  united = record { words = joined 0 ∷ joined 1 ∷ joined 2 ∷ joined 3 ∷ [] }

@@ -1,10 +1,8 @@
 // Which units of eight bytes of a datagram's payload are held: a bit for each.
 ghost use mathlib.Core.Path.{_≡_};
-ghost use mathlib.Core.Bool.{Bool};
-ghost use Prim.Native.Nat.{_-_, _^_, _≤_};
-ghost use Rattle.lists.specs.Any.{anyOf, allOf};
-ghost use Rattle.units.specs.Held.{bitsOf, wordOf, noneHeld, anyHeld, allHeld, heldWith};
-ghost use Rattle.units.specs.Words.{maskOf, partFrom, markedFrom, before, within};
+ghost use Prim.Native.Nat.{_-_, _%_, _^_, min};
+ghost use lib.Bits.{bitOr};
+ghost use Rattle.units.specs.Held.{noneHeld, rangeOf, meets, covers, united};
 
 // How many units a datagram's payload has at most.
 pub const UNITS: usize = 256;
@@ -26,79 +24,82 @@ impl Held {
         Held { words: [0; 4] }
     }
 
-    // Whether some of `count` units from `from` on is held.
-    pub fn any(self, from: usize, count: usize) -> bool
-        ensures { λ r. ⌜ r ≡ anyHeld self from count ⌝ }
+    // The first n units, as far as there are any.
+    pub fn first(n: usize) -> Held
+        ensures { λ r. ⌜ r ≡ rangeOf 0 n ⌝ }
     {
-        let w = self.words;
-        any_in(w[0], 0, from, count)
-            | any_in(w[1], 64, from, count)
-            | any_in(w[2], 128, from, count)
-            | any_in(w[3], 192, from, count)
-    }
-
-    // Whether all of them are, as far as there are any.
-    pub fn all(self, from: usize, count: usize) -> bool
-        ensures { λ r. ⌜ r ≡ allHeld self from count ⌝ }
-    {
-        let w = self.words;
-        all_in(w[0], 0, from, count)
-            & all_in(w[1], 64, from, count)
-            & all_in(w[2], 128, from, count)
-            & all_in(w[3], 192, from, count)
-    }
-
-    // Those that are held, and besides them `count` units from `from` on, as far as there are any.
-    pub fn with(self, from: usize, count: usize) -> Held
-        ensures { λ r. ⌜ r ≡ heldWith self from count ⌝ }
-    {
-        let w = self.words;
         Held {
             words: [
-                with_in(w[0], 0, from, count),
-                with_in(w[1], 64, from, count),
-                with_in(w[2], 128, from, count),
-                with_in(w[3], 192, from, count),
+                ones(n),
+                ones(less(n, 64)),
+                ones(less(n, 128)),
+                ones(less(n, 192)),
+            ],
+        }
+    }
+
+    // The `count` units from `from` on, as far as there are any: those up to their end without those before them.
+    pub fn range(from: usize, count: usize) -> Held
+        ensures { λ r. ⌜ r ≡ rangeOf from count ⌝ }
+    {
+        let end = lists::least(from, UNITS) + lists::least(count, UNITS);
+        let up_to = Held::first(end);
+        let before = Held::first(from);
+        let a = up_to.words;
+        let b = before.words;
+        Held {
+            words: [a[0] - b[0], a[1] - b[1], a[2] - b[2], a[3] - b[3]],
+        }
+    }
+
+    // Whether some of those units is held.
+    pub fn any(self, of: Held) -> bool
+        ensures { λ r. ⌜ r ≡ meets self of ⌝ }
+    {
+        let w = self.words;
+        let m = of.words;
+        ((w[0] & m[0]) | (w[1] & m[1]) | (w[2] & m[2]) | (w[3] & m[3])) != 0
+    }
+
+    // Whether all of them are.
+    pub fn all(self, of: Held) -> bool
+        ensures { λ r. ⌜ r ≡ covers self of ⌝ }
+    {
+        let w = self.words;
+        let m = of.words;
+        (w[0] & m[0] == m[0])
+            & (w[1] & m[1] == m[1])
+            & (w[2] & m[2] == m[2])
+            & (w[3] & m[3] == m[3])
+    }
+
+    // Those that are held, and besides them those.
+    pub fn with(self, of: Held) -> Held
+        ensures { λ r. ⌜ r ≡ united self of ⌝ }
+    {
+        let w = self.words;
+        let m = of.words;
+        Held {
+            words: [
+                both(w[0], m[0]),
+                both(w[1], m[1]),
+                both(w[2], m[2]),
+                both(w[3], m[3]),
             ],
         }
     }
 }
 
-// Whether some of the units is held that are of a word: the word's first unit is `start`.
-fn any_in(word: u64, start: usize, from: usize, count: usize) -> bool
-    ensures { λ r. ⌜ r ≡ anyOf (λ (m : Bool). m) (partFrom start from count (bitsOf 64 word)) ⌝ }
+// The bits of the one word and the other.
+fn both(a: u64, b: u64) -> u64
+    ensures { λ r. ⌜ r ≡ bitOr a b % 2 ^ 64 ⌝ }
 {
-    word & mask(start, from, count) != 0
+    a | b
 }
 
-// Whether all of them are.
-fn all_in(word: u64, start: usize, from: usize, count: usize) -> bool
-    ensures { λ r. ⌜ r ≡ allOf (λ (m : Bool). m) (partFrom start from count (bitsOf 64 word)) ⌝ }
-{
-    let m = mask(start, from, count);
-    word & m == m
-}
-
-// The word with them.
-fn with_in(word: u64, start: usize, from: usize, count: usize) -> u64
-    ensures { λ r. ⌜ r ≡ wordOf (markedFrom start from count (bitsOf 64 word)) ⌝ }
-{
-    word | mask(start, from, count)
-}
-
-// The bits of a word whose first unit is `start` that are of the `count` units from `from` on.
-fn mask(start: usize, from: usize, count: usize) -> u64
-    ensures { λ r. ⌜ r ≡ maskOf (before start from count) (within start from count) ⌝ }
-{
-    let before = lists::least(less(from, start), WORD);
-    let within = lists::least(less(count, less(start, from)), WORD - before);
-    ones(before + within) - ones(before)
-}
-
-// The lowest n bits of a word.
+// The lowest n bits of a word, as far as there are any.
 fn ones(n: usize) -> u64
-    requires { ⌜ n ≤ 64 ⌝ }
-    ensures { λ r. ⌜ r ≡ 2 ^ n - 1 ⌝ }
+    ensures { λ r. ⌜ r ≡ 2 ^ min n 64 - 1 ⌝ }
 {
     if n < WORD { (1 << n) - 1 } else { u64::MAX }
 }

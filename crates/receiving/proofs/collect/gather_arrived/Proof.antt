@@ -10,11 +10,14 @@ unfolding settledOf settledMemory
 returns c =
     let g = c .before .before .gather-piece .ensures in
     let h = ne-eqb _ _ (c .before .before .before .before .if1 .taken) in
-    (λ s routers. rw h (g .0 s routers), rw h (g .1))
+    ((λ s routers. rw h (g .0 .0 s routers), g .0 .1), rw h (g .1))
 
 returns-2 : tie.Need-returns-2
 unfolding settledOf settledMemory
-returns-2 c = let h = eq-eqb _ _ (c .before .if1 .left) in (λ s routers. rw (h, c .read-whole .ensures), rw h)
+returns-2 c =
+    let r = c .before in
+    let h = eq-eqb _ _ (r .before .if1 .left) in
+    ((λ s routers. rw (h, c .unchanged .ensures, r .read-whole .ensures), rw (c .unchanged .ensures) (omega arith)), rw h)
 
 pub gather-arrived-spec : {M : Type 1} → statement M
-gather-arrived-spec = tie.close (tie.spec (omega arith) (omega arith) returns (omega arith) returns-2)
+gather-arrived-spec = tie.close (tie.spec (omega arith) (omega arith) returns (omega arith) (omega arith) returns-2)
