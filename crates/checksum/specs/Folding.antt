@@ -1,7 +1,8 @@
 -- How the code brings carries back: words are added exactly, a chunk at a time, and then folded. Only functions of the crate's own
 -- cite this.
-use Prim.Native.Nat.{ℕ, _+_, _*_, _-_, _%_, min}
+use Prim.Native.Nat.{ℕ, zero, suc, _+_, _*_, _-_, _/_, _%_, min}
 use mathlib.Core.List.{List, [], _∷_}
+use lib.ListN.{length, getD, take, drop}
 
 -- the exact sum of a list's words, no carry brought back
 unfoldable pub wordSum : List ℕ → ℕ
@@ -17,3 +18,17 @@ folded n = min n ((n - 1) % 65535 + 1)
 -- the bytes whose words are added up exactly before the carries are brought back; even, so that it ends between two words
 abbrev pub chunk : ℕ
 chunk = 65536
+
+-- what the folds are given after so many full chunks, and at the end: the last one's result and the exact sum of the words since
+abbrev pub inputsAfter : ℕ → ℕ → List ℕ → List ℕ
+inputsAfter zero last s = (last + wordSum s) ∷ []
+inputsAfter (suc full) last s =
+    (last + wordSum (take chunk s)) ∷ inputsAfter full (folded (last + wordSum (take chunk s))) (drop chunk s)
+
+-- what the folds are given, from first to last: the first one has the start value for a last one's result
+unfoldable pub foldInputs : ℕ → List ℕ → List ℕ
+foldInputs start s = inputsAfter (length s / chunk) start s
+
+-- what the last fold is given
+unfoldable pub lastInput : ℕ → List ℕ → ℕ
+lastInput start s = getD (foldInputs start s) (length s / chunk) 0

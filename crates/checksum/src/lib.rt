@@ -1,10 +1,13 @@
-// The Internet checksum of RFC 1071.
+// The Internet checksum of RFC 1071, in the shape of the program in its section 4.1: the loop, the fold, the end. The exact sum of many
+// words at a time stands in words.rt.
+mod words;
+
 ghost use mathlib.Core.Path.{_≡_};
-ghost use Prim.Native.Nat.{_+_, _*_, _≤_, _<_, min};
+ghost use Prim.Native.Nat.{_+_, _≤_, min};
 ghost use mathlib.Core.List.{[]};
-ghost use lib.ListN.{length, drop};
+ghost use lib.ListN.{length};
 ghost use Rattle.checksum.specs.Sum.{onesSumFrom, onesComplement, isRight, isRightFrom};
-ghost use Rattle.checksum.specs.Folding.{wordSum, folded, chunk};
+ghost use Rattle.checksum.specs.Folding.{wordSum, folded, chunk, lastInput};
 
 // The bytes that are added up before the carries are brought back.
 const CHUNK: usize = 65536;
@@ -15,48 +18,42 @@ const ALL_ONES: u16 = 65535;
 
 // The one's complement sum of the words of s, continued from a start value: the sum of what stands before s, or any words that belong to
 // it.
+//   "Adjacent octets to be checksummed are paired to form 16-bit integers, and the 1's complement sum of these 16-bit integers is
+//   formed." (RFC 1071, 1)
 pub fn sum_from(start: u32, s: &[u8]) -> u16
     ensures { λ r. ⌜ r ≡ onesSumFrom start (now (s .entry)) ⌝ }
+{
+    fold(last_input(start, s))
+}
+
+// What the last fold is given. A header has so few bytes that it is added up without the loop.
+fn last_input(start: u32, s: &[u8]) -> u64
+    ensures { λ r. ⌜ r ≡ lastInput start (now (s .entry)) ⌝ }
+{
+    if s.len() < words::FEW {
+        start as u64 + words::few(s) as u64
+    } else {
+        chunk_by_chunk(start, s)
+    }
+}
+
+// The loop: words are added up, and the carries wait until a chunk is full. What is left of s after the last full chunk, if only nothing,
+// is the end.
+//   "it may be more efficient to defer adding end-around carries until the main summation loop is finished" (RFC 1071, 2)
+fn chunk_by_chunk(start: u32, s: &[u8]) -> u64
+    ensures { λ r. ⌜ r ≡ lastInput start (now (s .entry)) ⌝ }
 {
     let mut last = start;
     let mut at = 0;
     loop {
         let end = chunk_end(at, s.len());
-        let sum = added(last, &s[at..end]);
-        if end == s.len() {
-            return sum;
+        let x = input(last, &s[at..end]);
+        if end - at < CHUNK {
+            return x;
         }
-        last = sum as u32;
+        last = fold(x) as u32;
         at = end;
     }
-}
-
-// The one's complement sum of words that were added up exactly: it is continued from them, and nothing follows.
-pub fn sum_of_words(words: u32) -> u16
-    ensures { λ r. ⌜ r ≡ onesSumFrom words [] ⌝ }
-{
-    fold(words as u64)
-}
-
-// The one's complement of x: what is written for a sum x.
-pub fn complement(x: u16) -> u16
-    ensures { λ r. ⌜ r ≡ onesComplement x ⌝ }
-{
-    ALL_ONES - x
-}
-
-// Whether the checksum that s holds is right.
-pub fn right(s: &[u8]) -> bool
-    ensures { λ r. ⌜ r ≡ isRight (now (s .entry)) ⌝ }
-{
-    right_from(0, s)
-}
-
-// Whether the checksum that s holds is right, the sum continued from a start value.
-pub fn right_from(start: u32, s: &[u8]) -> bool
-    ensures { λ r. ⌜ r ≡ isRightFrom start (now (s .entry)) ⌝ }
-{
-    sum_from(start, s) == ALL_ONES
 }
 
 // The end of the chunk that starts at a place.
@@ -71,15 +68,16 @@ fn chunk_end(at: usize, length: usize) -> usize
     }
 }
 
-// The last fold's result and the exact sum of the words since, folded.
-fn added(last: u32, s: &[u8]) -> u16
+// What a fold is given: the last one's result, and the exact sum of the words since.
+fn input(last: u32, s: &[u8]) -> u64
     requires { ⌜ length (now s) ≤ chunk ⌝ }
-    ensures { λ r. ⌜ r ≡ folded (last + wordSum (now (s .entry))) ⌝ }
+    ensures { λ r. ⌜ r ≡ last + wordSum (now (s .entry)) ⌝ }
 {
-    fold(last as u64 + words(s) as u64)
+    last as u64 + words::many(s) as u64
 }
 
-// x with its carries brought back in until none is left.
+// The fold: carries are brought back in until none is left.
+//   "Fold 32-bit sum to 16 bits: while (sum>>16) sum = (sum & 0xffff) + (sum >> 16);" (RFC 1071, 4.1)
 fn fold(x: u64) -> u16
     ensures { λ r. ⌜ r ≡ folded x ⌝ }
 {
@@ -90,77 +88,32 @@ fn fold(x: u64) -> u16
     left as u16
 }
 
-// The exact sum of the words of s, at most 32,768, so that 32 bits hold it: sixteen words a turn, so that the compiler adds
-// several at once, then eight, which a header has, then one by one.
-fn words(s: &[u8]) -> u32
-    requires { ⌜ length (now s) ≤ chunk ⌝ }
-    ensures { λ r. ⌜ r ≡ wordSum (now (s .entry)) ⌝ }
+// The one's complement sum of words that were added up exactly: it is continued from them, and nothing follows.
+pub fn sum_of_words(words: u32) -> u16
+    ensures { λ r. ⌜ r ≡ onesSumFrom words [] ⌝ }
 {
-    let mut sum: u32 = 0;
-    let mut i = 0;
-    while i + 31 < s.len() {
-        sum += sixteen_words(s, i);
-        i += 32;
-    }
-    if i + 15 < s.len() {
-        sum += eight_words(s, i);
-        i += 16;
-    }
-    sum + last_words(&s[i..])
+    fold(words as u64)
 }
 
-// The exact sum of the words of fewer than 16 bytes: one word a turn, then an odd last byte, padded with a zero byte.
-fn last_words(s: &[u8]) -> u32
-    requires { ⌜ length (now s) < 16 ⌝ }
-    ensures { λ r. ⌜ (r ≡ wordSum (now (s .entry))) × (r ≤ 65535 * 8) ⌝ }
+// The end of writing: the one's complement of x, which is written for a sum x.
+//   "the 1's complement of this sum is placed in the checksum field" (RFC 1071, 1)
+pub fn complement(x: u16) -> u16
+    ensures { λ r. ⌜ r ≡ onesComplement x ⌝ }
 {
-    let mut sum: u32 = 0;
-    let mut i = 0;
-    while i + 1 < s.len() {
-        sum += word_at(s, i);
-        i += 2;
-    }
-    if i < s.len() {
-        sum + word(s[i], 0)
-    } else {
-        sum
-    }
+    ALL_ONES - x
 }
 
-// The exact sum of the eight words from i on: what it takes off the sum of what is left.
-fn eight_words(s: &[u8], i: usize) -> u32
-    requires { ⌜ i + 15 < length (now s) ⌝ }
-    ensures { λ r. ⌜ (wordSum (drop i (now (s .entry))) ≡ r + wordSum (drop (i + 16) (now (s .entry)))) × (r ≤ 65535 * 8) ⌝ }
+// The end of reading: whether the checksum that s holds is right.
+//   "If the result is all 1 bits [...], the check succeeds." (RFC 1071, 1)
+pub fn right(s: &[u8]) -> bool
+    ensures { λ r. ⌜ r ≡ isRight (now (s .entry)) ⌝ }
 {
-    word_at(s, i)
-        + word_at(s, i + 2)
-        + word_at(s, i + 4)
-        + word_at(s, i + 6)
-        + word_at(s, i + 8)
-        + word_at(s, i + 10)
-        + word_at(s, i + 12)
-        + word_at(s, i + 14)
+    right_from(0, s)
 }
 
-// The exact sum of the sixteen words from i on: what it takes off the sum of what is left.
-fn sixteen_words(s: &[u8], i: usize) -> u32
-    requires { ⌜ i + 31 < length (now s) ⌝ }
-    ensures { λ r. ⌜ (wordSum (drop i (now (s .entry))) ≡ r + wordSum (drop (i + 32) (now (s .entry)))) × (r ≤ 65535 * 16) ⌝ }
+// Whether the checksum that s holds is right, the sum continued from a start value.
+pub fn right_from(start: u32, s: &[u8]) -> bool
+    ensures { λ r. ⌜ r ≡ isRightFrom start (now (s .entry)) ⌝ }
 {
-    eight_words(s, i) + eight_words(s, i + 16)
-}
-
-// The word at i.
-fn word_at(s: &[u8], i: usize) -> u32
-    requires { ⌜ i + 1 < length (now s) ⌝ }
-    ensures { λ r. ⌜ (wordSum (drop i (now (s .entry))) ≡ r + wordSum (drop (i + 2) (now (s .entry)))) × (r ≤ 65535) ⌝ }
-{
-    word(s[i], s[i + 1])
-}
-
-// A big-endian word.
-fn word(hi: u8, lo: u8) -> u32
-    ensures { λ r. ⌜ (r ≡ hi * 256 + lo) × (r ≤ 65535) ⌝ }
-{
-    hi as u32 * 256 + lo as u32
+    sum_from(start, s) == ALL_ONES
 }

@@ -1,0 +1,171 @@
+// The exact sum of the words of up to 65,536 bytes, quickly. Words are added up in blocks, the compiler adds the words of a block side by
+// side, and each block takes its words off the sum of what is left.
+ghost use mathlib.Core.Path.{_≡_};
+ghost use Prim.Native.Nat.{_+_, _*_, _/_, _%_, _≤_, _<_};
+ghost use lib.ListN.{length, drop};
+ghost use Rattle.checksum.specs.Folding.{wordSum, chunk};
+ghost use Rattle.checksum.specs.Words.{Summed, BlockSum, PowerOfTwo, highSum};
+
+// Fewer bytes, as a header has, are added up without a loop over runs.
+pub(crate) const FEW: usize = 128;
+// The words of a full run: of so many the high bytes, and the low bytes, surely have a sum of 16 bits.
+const RUN: usize = 256;
+// From so many words on, a run is quicker than one word after another.
+const RUN_FROM: usize = 32;
+
+// How far the words are added up: the exact sum of those before a place, which is between two words.
+struct Part {
+    sum: u32,
+    at: usize,
+}
+
+// The exact sum of the words of few bytes.
+pub(crate) fn few(s: &[u8]) -> u32
+    requires { ⌜ length (now s) < 128 ⌝ }
+    ensures { λ r. ⌜ r ≡ wordSum (now (s .entry)) ⌝ }
+{
+    last_byte(s, halving(s, Part { sum: 0, at: 0 }, FEW / 4))
+}
+
+// The exact sum of the words of a chunk, or of what is left behind the last: 32 bits hold it.
+pub(crate) fn many(s: &[u8]) -> u32
+    requires { ⌜ length (now s) ≤ chunk ⌝ }
+    ensures { λ r. ⌜ r ≡ wordSum (now (s .entry)) ⌝ }
+{
+    last_byte(s, halving(s, full_runs(s), RUN / 2))
+}
+
+// The words of full runs.
+fn full_runs(s: &[u8]) -> Part
+    requires { ⌜ length (now s) ≤ chunk ⌝ }
+    ensures { λ r. ⌜ Summed (now (s .entry)) (r .sum) (r .at) × (length (now (s .entry)) < r .at + 512) ⌝ }
+{
+    let mut sum: u32 = 0;
+    let mut at = 0;
+    while at + 2 * RUN <= s.len() {
+        sum += run(s, at, RUN);
+        at += 2 * RUN;
+    }
+    Part { sum: sum, at: at }
+}
+
+// The words of one block of each size that still fits, from most words down to one, each size half of the one before.
+fn halving(s: &[u8], p: Part, most: usize) -> Part
+    requires { ⌜ Summed (now s) (p .sum) (p .at) × (length (now s) < p .at + 4 * most) × PowerOfTwo most × (most ≤ 256) ⌝ }
+    ensures { λ r. ⌜ Summed (now (s .entry)) (r .sum) (r .at) × (length (now (s .entry)) < r .at + 2) ⌝ }
+{
+    let mut part = p;
+    let mut n = most;
+    while 0 < n {
+        part = with_block(s, part, n);
+        n = n / 2;
+    }
+    part
+}
+
+// A block of n words more, if it fits.
+fn with_block(s: &[u8], p: Part, n: usize) -> Part
+    requires { ⌜ Summed (now s) (p .sum) (p .at) × (length (now s) < p .at + 4 * n) × (n ≤ 256) ⌝ }
+    ensures { λ r. ⌜ Summed (now (s .entry)) (r .sum) (r .at) × (length (now (s .entry)) < r .at + 2 * n) ⌝ }
+{
+    let at = p.at;
+    if at + 2 * n <= s.len() {
+        Part {
+            sum: p.sum + block(s, at, n),
+            at: at + 2 * n,
+        }
+    } else {
+        p
+    }
+}
+
+// An odd last byte is paired with a zero byte.
+//   "Add left-over byte, if any" (RFC 1071, 4.1)
+fn last_byte(s: &[u8], p: Part) -> u32
+    requires { ⌜ Summed (now s) (p .sum) (p .at) × (length (now s) < p .at + 2) ⌝ }
+    ensures { λ r. ⌜ r ≡ wordSum (now (s .entry)) ⌝ }
+{
+    let at = p.at;
+    if at < s.len() {
+        p.sum + word(s[at], 0)
+    } else {
+        p.sum
+    }
+}
+
+// The exact sum of the n words from a place on.
+fn block(s: &[u8], at: usize, n: usize) -> u32
+    requires { ⌜ (at + 2 * n ≤ length (now s)) × (n ≤ 256) ⌝ }
+    ensures { λ r. ⌜ BlockSum (now (s .entry)) at n r ⌝ }
+{
+    if n < RUN_FROM {
+        one_by_one(s, at, n)
+    } else {
+        run(s, at, n)
+    }
+}
+
+// The exact sum of the n words from a place on, word by word.
+fn one_by_one(s: &[u8], at: usize, n: usize) -> u32
+    requires { ⌜ (at + 2 * n ≤ length (now s)) × (n ≤ 256) ⌝ }
+    ensures { λ r. ⌜ BlockSum (now (s .entry)) at n r ⌝ }
+{
+    let mut sum: u32 = 0;
+    for k in 0..n {
+        sum += exchange(pair(s, at + 2 * k)) as u32;
+    }
+    sum
+}
+
+// The exact sum of the n words from a place on, without exchanging the bytes of each: a word as the machine reads it is
+// high + 256 * low. The sum of these is kept modulo 65536, that of the low bytes exactly, and the sum of the high bytes, which has 16
+// bits, follows from the two.
+fn run(s: &[u8], at: usize, n: usize) -> u32
+    requires { ⌜ (at + 2 * n ≤ length (now s)) × (n ≤ 256) ⌝ }
+    ensures { λ r. ⌜ BlockSum (now (s .entry)) at n r ⌝ }
+{
+    let mut exchanged: u16 = 0;
+    let mut low: u16 = 0;
+    for k in 0..n {
+        let x = pair(s, at + 2 * k);
+        exchanged = ((exchanged as u32 + x as u32) % 65536) as u16;
+        low += x / 256;
+    }
+    high_sum(exchanged, low) * 256 + low as u32
+}
+
+// The sum of the high bytes: that of the exchanged words less 256 times that of the low bytes, modulo 65536, where 65280 is -256.
+fn high_sum(exchanged: u16, low: u16) -> u32
+    ensures { λ r. ⌜ r ≡ highSum exchanged low ⌝ }
+{
+    ((exchanged as u64 + 65280 * low as u64) % 65536) as u32
+}
+
+// The two bytes from i on as the machine reads a word, the first the low-order one: the compiler makes one load of it.
+fn pair(s: &[u8], i: usize) -> u16
+    requires { ⌜ i + 1 < length (now s) ⌝ }
+    ensures { λ r. ⌜ wordSum (drop i (now (s .entry))) ≡ r % 256 * 256 + r / 256 + wordSum (drop (i + 2) (now (s .entry))) ⌝ }
+{
+    exchanged_word(s[i], s[i + 1])
+}
+
+// A word with its bytes exchanged.
+fn exchange(x: u16) -> u16
+    ensures { λ r. ⌜ r ≡ x % 256 * 256 + x / 256 ⌝ }
+{
+    x % 256 * 256 + x / 256
+}
+
+// A word with its bytes exchanged, from its bytes.
+fn exchanged_word(high: u8, low: u8) -> u16
+    ensures { λ r. ⌜ (r % 256 ≡ high) × (r / 256 ≡ low) ⌝ }
+{
+    high as u16 + low as u16 * 256
+}
+
+// A word from its bytes.
+fn word(high: u8, low: u8) -> u32
+    ensures { λ r. ⌜ (r ≡ high * 256 + low) × (r ≤ 65535) ⌝ }
+{
+    high as u32 * 256 + low as u32
+}
