@@ -74,12 +74,6 @@ wordSum-append [] b h = omega arith
 wordSum-append (x ∷ []) b h = absurd (omega arith)
 wordSum-append (x ∷ (y ∷ a)) b h = omega (arith, wordSum-append a b (omega arith))
 
-pub wordSum-bound : (s : List ℕ) → Bytes s → 2 * wordSum s ≤ 65535 * (length s + 1)
-unfolding wordSum
-wordSum-bound [] b = omega arith
-wordSum-bound (x ∷ []) b = omega arith
-wordSum-bound (x ∷ (y ∷ s)) b = omega (arith, wordSum-bound s (b .1 .1))
-
 -- a part that begins and ends between two words may be left out and its words put into the start value
 pub sum-moved : (start : ℕ) (a t b : List ℕ) → length a % 2 ≡ 0 → length t % 2 ≡ 0 → start + wordSum t < 2 ^ 32
     → Bytes a → Bytes t → Bytes b → onesSumFrom start (a ++ (t ++ b)) ≡ onesSumFrom (start + wordSum t) (a ++ b)

@@ -3,7 +3,7 @@ use native.Mathlib.Omega.{arith}
 use Prim.Native.Nat.{ℕ, _+_, _-_, _≤_, _<_, _^_}
 use mathlib.Core.Path.{_≡_, ap, _∙_, sym}
 use mathlib.Core.List.{List}
-use lib.ListN.{length, take, drop, length-drop}
+use lib.ListN.{length, drop, length-drop}
 use Rattle.checksum.specs.Folding.{wordSum, folded, lastInput}
 use Rattle.checksum.proofs.Left.{left-part}
 use Rattle.checksum.proofs.FoldInputs.{last-chunk, last-end}

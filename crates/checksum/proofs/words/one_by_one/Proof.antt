@@ -1,10 +1,8 @@
 -- `checksum::words::one_by_one` meets its contract: the invariant says what is left to add, and a turn takes two bytes off it. Assumes nothing.
 use native.Mathlib.Omega.{arith}
-use Prim.Native.Nat.{ℕ, _+_, _*_, _-_, _≤_}
-use mathlib.Core.Path.{_≡_, ap}
-use lib.ListN.{drop}
-use Rattle.checksum.specs.Folding.{wordSum}
+use Prim.Native.Nat.{_-_, _≤_}
 use Rattle.checksum.specs.Words.{BlockSum}
+use Rattle.checksum.proofs.Left.{block-none, block-more, block-all}
 use Rattle.checksum.proofs.words.one_by_one.Statement.{statement}
 use Rattle.checksum.proofs.words.one_by_one.Tie as tie
 
@@ -15,23 +13,21 @@ abbrev μ-loop : tie.MeasureT-loop
 μ-loop s at n sum₀ k₀ sum k = n - k
 
 loop-holds : tie.Need-loop-holds Inv-loop μ-loop
-loop-holds c =
-    let a = c .before .args in
-    omega (arith, ap (λ (j : ℕ). wordSum (drop j (a .s .now))) (let e : a .at ≡ a .at + 0 = omega arith in e))
+loop-holds c = let a = c .before .args in (omega arith, block-none (a .s .now) (a .at))
 
 loop-again : tie.Need-loop-again Inv-loop μ-loop
 loop-again c =
     let l = c .before .before .before in
-    let a = l .before .before .args in
-    let e : a .at + 2 * l .loop .k + 2 ≡ a .at + 2 * (l .loop .k + 1) = omega arith in
-    omega (arith, ap (λ (j : ℕ). wordSum (drop j (a .s .now))) e)
+    let a = l .before .before .args in (
+      omega arith,
+      block-more (a .s .now) (a .at) (l .loop .k) (l .loop .sum) (c .exchange .result) (l .loop .inv .1) (omega arith) (omega arith),
+    )
 
 returns : tie.Need-returns Inv-loop μ-loop
 returns c =
     let l = c .before in
     let a = l .before .before .args in
-    let e : a .at + 2 * l .loop .k ≡ a .at + 2 * a .n = omega arith in
-    omega (arith, ap (λ (j : ℕ). wordSum (drop j (a .s .now))) e)
+    block-all (a .s .now) (a .at) (l .loop .k) (a .n) (l .loop .sum) (omega arith) (l .loop .inv .1)
 
 pub one-by-one-spec : {M : Type 1} → statement M
 one-by-one-spec =
