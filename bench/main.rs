@@ -9,6 +9,7 @@
 mod measure;
 mod work;
 
+mod best_sum;
 mod inside;
 mod plain_way;
 mod pointer_way;

@@ -1,5 +1,6 @@
 //! The rows of the rules without state: checksums, and wrapping in an outer header.
 
+use crate::best_sum;
 use crate::inside;
 use crate::measure::{Row, Turns};
 use crate::plain::rules::{self, Outer, Refusal};
@@ -35,19 +36,15 @@ fn turns(inputs: &'static [u8], work: impl Fn(usize, &[u8], &mut [u8]) + 'static
     }))
 }
 
-#[inline(never)]
-fn plain_checksum(start: u32, bytes: &[u8]) -> u16 {
-    rules::checksum(start, bytes)
-}
-
 fn checksum(random: &mut Random, length: usize) -> Row {
     let inputs = inputs(random, length);
     for input in each(inputs) {
-        assert_eq!(plain_checksum(0, input), raw::checksum(0, input), "checksum of {length} bytes");
+        let sums = [best_sum::checksum(0, input), rules::checksum(0, input)];
+        assert_eq!(sums, [raw::checksum(0, input); 2], "checksum of {length} bytes");
     }
-    let sum: u64 = each(inputs).iter().map(|input| u64::from(plain_checksum(0, input))).sum();
+    let sum: u64 = each(inputs).iter().map(|input| u64::from(best_sum::checksum(0, input))).sum();
     assert_eq!(sum, inside::checksums(inputs, 4), "checksums of {length} bytes");
-    let plain = turns(inputs, |_, input, _| _ = black_box(plain_checksum(black_box(0), input)));
+    let plain = turns(inputs, |_, input, _| _ = black_box(best_sum::checksum(black_box(0), input)));
     let library = turns(inputs, |_, input, _| _ = black_box(raw::checksum(black_box(0), input)));
     let inside: Turns = Box::new(|turns| _ = black_box(inside::checksums(black_box(inputs), turns)));
     Row { name: format!("checksum {length}"), ways: [plain, library, Some(inside)] }
@@ -94,7 +91,7 @@ fn wrap(random: &mut Random, length: usize) -> Row {
 }
 
 pub fn rows(random: &mut Random) -> Vec<Row> {
-    let mut rows: Vec<Row> = [20, 1500, 65535].map(|length| checksum(random, length)).into();
+    let mut rows: Vec<Row> = [20, 60, 120, 576, 1500, 65535].map(|length| checksum(random, length)).into();
     rows.extend([20, 64, 1280, 1480, 65515].map(|length| wrap(random, length)));
     rows
 }

@@ -53,6 +53,15 @@ def checksums():
         right(f"{length} bytes with a bit of byte {at} changed are right", bent)
 
 
+def long_checksums():
+    summed("sum whose fold takes two turns", bytes.fromhex("ffffffff0001"))
+    for length in (63, 64, 65, 127, 128, 129, 511, 512, 513, 1023, 1025, 1500):
+        summed(f"sum of {length} bytes", noise(length), dice.randrange(1 << 32))
+    for length in (127, 128, 512, 1025):
+        summed(f"sum of {length} bytes of all ones", b"\xff" * length)
+        summed(f"sum of {length} zeros", bytes(length))
+
+
 # Outer headers.
 def outer(total_length, identification=1, flags=0, ttl=64, protocol=41, source="10.0.0.2", destination="10.0.0.1",
           first=0x45, tos=0, options=b"", wrong=0):

@@ -9,13 +9,15 @@ use crate::stateless;
 pub fn edges(check: &mut Check) {
     let mut bytes = vec![0; LONGEST];
     let starts = [0, 1, 0xffff, 0x1_0000, 0xffff_0000, 0xffff_fffe, 0xffff_ffff];
-    let long = [1279, 1280, 1480, 1499, 1500, 8191, 8192, 8193, 65514, 65534, 65535, 65536, 65537, 131_072, LONGEST];
+    let blocks = [511, 512, 513, 767, 768, 769, 1023, 1024, 1025];
+    let long = [1279, 1280, 1480, 1499, 1500, 8191, 8192, 8193, 65514];
+    let chunks = [65534, 65535, 65536, 65537, 65538, 131_070, 131_071, 131_072, 131_073, LONGEST];
     for fill in [Some(0), Some(0xff), None] {
         match fill {
             Some(byte) => bytes.fill(byte),
             None => check.random.fill(&mut bytes),
         }
-        for length in (0..300).chain(long) {
+        for length in (0..300).chain(blocks).chain(long).chain(chunks) {
             for start in starts {
                 stateless::checksum(check, start, &bytes[..length]);
             }
@@ -23,7 +25,7 @@ pub fn edges(check: &mut Check) {
         }
     }
     let lengths = [0, 1, 2, 19, 39, 40, 41, 47, 48, 1231, 1232, 1233, 1234];
-    for length in (0..70).chain(1279..=1301).chain(lengths).chain(long).chain([65515, 65516]) {
+    for length in (0..70).chain(1279..=1301).chain(lengths).chain(long).chain([65515, 65516]).chain(chunks) {
         let written = length + 20;
         for room in [0, 19, 20, written - 1, written, written + 1, written + 64] {
             let (outer, dont_fragment) = (outer(check), dont_fragment(check));

@@ -1,5 +1,5 @@
--- How the code brings carries back: words are added exactly, a chunk at a time, and then folded. Only functions of the crate's own
--- cite this.
+-- How carries are brought back: words are added exactly, a chunk at a time, and then folded. Contracts inside the crate are in these
+-- terms; the public ones are in those of `Sum`.
 use Prim.Native.Nat.{ℕ, zero, suc, _+_, _*_, _-_, _/_, _%_, min}
 use mathlib.Core.List.{List, [], _∷_}
 use lib.ListN.{length, getD, take, drop}

@@ -26,7 +26,7 @@ pub fn sum_from(start: u32, s: &[u8]) -> u16
     fold(last_input(start, s))
 }
 
-// What the last fold is given. A header has so few bytes that it is added up without the loop.
+// What the last fold is given. Few bytes, as a header has, are added up without the loop.
 fn last_input(start: u32, s: &[u8]) -> u64
     ensures { λ r. ⌜ r ≡ lastInput start (now (s .entry)) ⌝ }
 {
@@ -37,8 +37,8 @@ fn last_input(start: u32, s: &[u8]) -> u64
     }
 }
 
-// The loop: words are added up, and the carries wait until a chunk is full. What is left of s after the last full chunk, if only nothing,
-// is the end.
+// The loop: words are added up, and the carries wait until a chunk is full. What stands behind the last full chunk, even nothing, is for the
+// last fold.
 //   "it may be more efficient to defer adding end-around carries until the main summation loop is finished" (RFC 1071, 2)
 fn chunk_by_chunk(start: u32, s: &[u8]) -> u64
     ensures { λ r. ⌜ r ≡ lastInput start (now (s .entry)) ⌝ }
@@ -47,11 +47,11 @@ fn chunk_by_chunk(start: u32, s: &[u8]) -> u64
     let mut at = 0;
     loop {
         let end = chunk_end(at, s.len());
-        let x = input(last, &s[at..end]);
+        let sum = input(last, &s[at..end]);
         if end - at < CHUNK {
-            return x;
+            return sum;
         }
-        last = fold(x) as u32;
+        last = fold(sum) as u32;
         at = end;
     }
 }

@@ -6,7 +6,7 @@ ghost use lib.ListN.{length, drop};
 ghost use Rattle.checksum.specs.Folding.{wordSum, chunk};
 ghost use Rattle.checksum.specs.Words.{Summed, BlockSum, PowerOfTwo, highSum};
 
-// Fewer bytes, as a header has, are added up without a loop over runs.
+// Fewer bytes are added up without a loop over runs.
 pub(crate) const FEW: usize = 128;
 // The words of a full run: of so many the high bytes, and the low bytes, surely have a sum of 16 bits.
 const RUN: usize = 256;
@@ -19,7 +19,7 @@ struct Part {
     at: usize,
 }
 
-// The exact sum of the words of few bytes.
+// The exact sum of the words of few bytes: FEW bytes are two blocks of FEW / 4 words.
 pub(crate) fn few(s: &[u8]) -> u32
     requires { ⌜ length (now s) < 128 ⌝ }
     ensures { λ r. ⌜ r ≡ wordSum (now (s .entry)) ⌝ }
@@ -27,7 +27,8 @@ pub(crate) fn few(s: &[u8]) -> u32
     last_byte(s, halving(s, Part { sum: 0, at: 0 }, FEW / 4))
 }
 
-// The exact sum of the words of a chunk, or of what is left behind the last: 32 bits hold it.
+// The exact sum of the words of a chunk, or of what is left behind the last one; 32 bits hold it. What is left behind full runs is shorter
+// than two blocks of RUN / 2 words.
 pub(crate) fn many(s: &[u8]) -> u32
     requires { ⌜ length (now s) ≤ chunk ⌝ }
     ensures { λ r. ⌜ r ≡ wordSum (now (s .entry)) ⌝ }
@@ -49,7 +50,8 @@ fn full_runs(s: &[u8]) -> Part
     Part { sum: sum, at: at }
 }
 
-// The words of one block of each size that still fits, from most words down to one, each size half of the one before.
+// The words behind a part, where fewer than twice as many as most are left: a block of most words if it fits, one of half as many, and so
+// down to one word. The compiler makes straight code of it.
 fn halving(s: &[u8], p: Part, most: usize) -> Part
     requires { ⌜ Summed (now s) (p .sum) (p .at) × (length (now s) < p .at + 4 * most) × PowerOfTwo most × (most ≤ 256) ⌝ }
     ensures { λ r. ⌜ Summed (now (s .entry)) (r .sum) (r .at) × (length (now (s .entry)) < r .at + 2) ⌝ }

@@ -1,0 +1,72 @@
+//! The RFC 1071 sum in the best plain Rust that was found, std alone and no unsafe: what the checksum rows are held against.
+//!
+//! Two facts carry it. 2^64 - 1 and 2^32 - 1 are multiples of 2^16 - 1, so words of 64 and of 32 bits may be added up and folded at the end.
+//! And the sum of words with their bytes exchanged is the sum with its bytes exchanged (RFC 1071, 2 (B)), so words are read in the machine's
+//! order and the result is swapped once.
+
+/// From so many bytes on, lanes take less time than a chain of carries.
+const LONG: usize = 256;
+
+/// The sum of `bytes`, continued from the two words of `start`; a last odd byte is the high half of a word.
+#[inline(never)]
+pub fn checksum(start: u32, bytes: &[u8]) -> u16 {
+    let mut sum = u64::from(start.swap_bytes());
+    if let Some(last) = bytes.last_chunk() {
+        if bytes.len() >= LONG {
+            return long(start, bytes);
+        }
+        // What stands behind the last whole word: the last eight bytes less those before it. Below 2^56, so without a carry.
+        sum += u64::from_le_bytes(*last) >> 8 >> (56 - 8 * (bytes.len() % 8));
+        sum = few(sum, bytes.as_chunks().0);
+    } else {
+        sum += bytes.iter().rev().fold(0, |word, &byte| word << 8 | u64::from(byte));
+    }
+    // A half added to the other, and its carry to the result: in the upper half stands the folded sum.
+    sum = sum.wrapping_add(sum.rotate_left(32));
+    sum = sum.wrapping_add(sum.rotate_left(16));
+    sum.swap_bytes() as u16
+}
+
+/// The words of fewer than `LONG` bytes: a jump to straight code for just so many.
+#[inline(always)]
+fn few(sum: u64, words: &[[u8; 8]]) -> u64 {
+    macro_rules! unrolled { ($($count:literal)*) => {
+        match words.len() { $($count => carried(sum, &words[..$count]),)* _ => unreachable!() }
+    } }
+    unrolled!(0 1 2 3 4 5 6 7 8 9 10 11 12 13 14 15 16 17 18 19 20 21 22 23 24 25 26 27 28 29 30 31)
+}
+
+/// Words of 64 bits, each carry into the next addition and the last one in at the low end.
+#[inline(always)]
+fn carried(mut sum: u64, words: &[[u8; 8]]) -> u64 {
+    let mut carry = false;
+    for word in words {
+        (sum, carry) = sum.carrying_add(u64::from_le_bytes(*word), carry);
+    }
+    sum + u64::from(carry)
+}
+
+/// Long input: the lanes first, folded to 32 bits, from which the rest is continued.
+#[inline(never)]
+fn long(start: u32, bytes: &[u8]) -> u16 {
+    let (blocks, rest) = bytes.as_chunks();
+    let sum = blocks.chunks(1 << 14).fold(u64::from(start.swap_bytes()), |sum, part| sum + lanes(part));
+    let folded = sum.wrapping_add(sum.rotate_left(32)) >> 32;
+    checksum((folded as u32).swap_bytes(), rest)
+}
+
+/// Sixteen lanes of 32 bits over blocks of 64 bytes, so few of them that `high` has room: the words of 32 bits are added up modulo 2^32, and
+/// their high halves by themselves; the sum of the low halves follows.
+fn lanes(blocks: &[[u8; 64]]) -> u64 {
+    let mut all = [0u32; 16];
+    let mut high = [0u32; 16];
+    for block in blocks {
+        for ((all, high), word) in all.iter_mut().zip(&mut high).zip(block.as_chunks().0) {
+            let word = u32::from_le_bytes(*word);
+            *all = all.wrapping_add(word);
+            *high += word >> 16;
+        }
+    }
+    let low_and_high = |(all, high): (&u32, &u32)| u64::from(all.wrapping_sub(high << 16)) + u64::from(*high);
+    all.iter().zip(&high).map(low_and_high).sum()
+}
