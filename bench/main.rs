@@ -1,4 +1,5 @@
-//! The proved library beside the plain Rust of tests/boundary/plain.rs: the same work in each way, compared first and then measured.
+//! The proved library beside plain Rust, that of tests/boundary/plain.rs and for checksums best_sum.rs: the same work in each way, compared
+//! first and then measured.
 //!
 //!     bench            the table of times
 //!     bench --count    each way's turns, for callgrind to count

@@ -37,8 +37,8 @@ fn last_input(start: u32, s: &[u8]) -> u64
     }
 }
 
-// The loop: words are added up, and the carries wait until a chunk is full. What stands behind the last full chunk, even nothing, is for the
-// last fold.
+// The loop: words are added up, and the carries wait until a chunk is full. What stands behind the last full chunk, even nothing, is for
+// the last fold.
 //   "it may be more efficient to defer adding end-around carries until the main summation loop is finished" (RFC 1071, 2)
 fn chunk_by_chunk(start: u32, s: &[u8]) -> u64
     ensures { λ r. ⌜ r ≡ lastInput start (now (s .entry)) ⌝ }
