@@ -15,13 +15,13 @@ pub fn checksum(start: u32, bytes: &[u8]) -> u16 {
         if bytes.len() >= LONG {
             return long(start, bytes);
         }
-        // What stands behind the last whole word: the last eight bytes less those before it. Below 2^56, so without a carry.
+        // The bytes behind the last whole word: the last eight, less those of them that it has. Below 2^56, so without a carry.
         sum += u64::from_le_bytes(*last) >> 8 >> (56 - 8 * (bytes.len() % 8));
         sum = few(sum, bytes.as_chunks().0);
     } else {
         sum += bytes.iter().rev().fold(0, |word, &byte| word << 8 | u64::from(byte));
     }
-    // A half added to the other, and its carry to the result: in the upper half stands the folded sum.
+    // The halves added, with the carry, are the upper half, and then the upper sixteen bits.
     sum = sum.wrapping_add(sum.rotate_left(32));
     sum = sum.wrapping_add(sum.rotate_left(16));
     sum.swap_bytes() as u16
@@ -36,7 +36,8 @@ fn few(sum: u64, words: &[[u8; 8]]) -> u64 {
     unrolled!(0 1 2 3 4 5 6 7 8 9 10 11 12 13 14 15 16 17 18 19 20 21 22 23 24 25 26 27 28 29 30 31)
 }
 
-/// Words of 64 bits, each carry into the next addition and the last one in at the low end.
+/// Words of 64 bits, each carry into the next addition and the last one in at the low end. There is room for it: from a sum below 2^64 - 1 on,
+/// one that was carried out of is never all ones.
 #[inline(always)]
 fn carried(mut sum: u64, words: &[[u8; 8]]) -> u64 {
     let mut carry = false;
@@ -55,8 +56,8 @@ fn long(start: u32, bytes: &[u8]) -> u16 {
     checksum((folded as u32).swap_bytes(), rest)
 }
 
-/// Sixteen lanes of 32 bits over blocks of 64 bytes, so few of them that `high` has room: the words of 32 bits are added up modulo 2^32, and
-/// their high halves by themselves; the sum of the low halves follows.
+/// Sixteen lanes of 32 bits over blocks of 64 bytes, so few of them that 32 bits hold a sum of halves: the words of 32 bits are added up modulo
+/// 2^32, and their high halves by themselves; the sum of the low halves follows.
 fn lanes(blocks: &[[u8; 64]]) -> u64 {
     let mut all = [0u32; 16];
     let mut high = [0u32; 16];

@@ -15,7 +15,7 @@ from vectors_cases import cases, lines  # noqa: E402
 def main():
     for part in (rules.checksums, rules.outer_headers, rules.received, rules.sent, rules.addresses, rules.wrapped, rules.messages,
                  rules.path_sizes, routers.next_due, routers.replaced, routers.listed, routers.many_routers, routers.lifetimes,
-                 advertisements.advertisements, advertisements.solicitations, rules.long_checksums):
+                 advertisements.advertisements, advertisements.solicitations, rules.blocks_and_turns):
         part()
     data, text = b"".join(cases), "\n".join(lines) + "\n"
     assert len(data) <= 131072, "the program reads 131,072 bytes"

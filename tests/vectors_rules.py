@@ -53,8 +53,9 @@ def checksums():
         right(f"{length} bytes with a bit of byte {at} changed are right", bent)
 
 
-def long_checksums():
+def blocks_and_turns():
     summed("sum whose fold takes two turns", bytes.fromhex("ffffffff0001"))
+    summed("sum whose fold takes three turns", bytes.fromhex("ffff0001"), 0xffffffff)
     for length in (63, 64, 65, 127, 128, 129, 511, 512, 513, 1023, 1025, 1500):
         summed(f"sum of {length} bytes", noise(length), dice.randrange(1 << 32))
     for length in (127, 128, 512, 1025):

@@ -10,17 +10,17 @@ use lib.Seq.{drop-drop, take-all}
 use lib.Dec.{ltb}
 use borrow.Author.Tests.{ltb-true, ltb-false}
 use Rattle.checksum.specs.Sum.{carried, allOnes}
-use Rattle.checksum.specs.Folding.{wordSum, folded, chunk, inputsAfter, foldInputs, lastInput}
+use Rattle.checksum.specs.Folding.{wordSum, folded, chunk, inputsAfter, foldInputs, finalInput}
 use Rattle.checksum.specs.Folds.{exactSum, given, turns, FoldsTo, Folds}
 use Rattle.checksum.proofs.Bytes.{Bytes}
 use Rattle.checksum.proofs.Laws.{folded-once, folded-word}
-use Rattle.checksum.proofs.FoldInputs.{sum-last}
+use Rattle.checksum.proofs.FoldInputs.{sum-final}
 
-pub exact : (s : List ℕ) → wordSum s ≡ exactSum s
+pub wordSum-exact : (s : List ℕ) → wordSum s ≡ exactSum s
 unfolding wordSum
-exact [] = refl
-exact (hi ∷ []) = omega arith
-exact (hi ∷ (lo ∷ s)) = omega (arith, exact s)
+wordSum-exact [] = refl
+wordSum-exact (hi ∷ []) = omega arith
+wordSum-exact (hi ∷ (lo ∷ s)) = omega (arith, wordSum-exact s)
 
 -- one turn more, where there is a carry
 again : (x : ℕ) → allOnes < x → FoldsTo (carried x) (folded (carried x)) → FoldsTo x (folded x)
@@ -72,15 +72,16 @@ unfolding foldInputs
 inputs-since start s i h =
     rw (add-one)
     (inputs-next (length s / chunk) start s i refl h
-    ∙ ap (λ (n : ℕ). folded (given start s i) + n) (exact (take chunk (drop (chunk * suc i) s))))
+    ∙ ap (λ (n : ℕ). folded (given start s i) + n) (wordSum-exact (take chunk (drop (chunk * suc i) s))))
 
 -- of octets and a start value of 32 bits
 pub folds : (start : ℕ) (s : List ℕ) → start < 2 ^ 32 → Bytes s → Folds start s
-unfolding foldInputs lastInput
+unfolding foldInputs finalInput
 folds start s fits bytes = record {
   count = inputs-count (length s / chunk) start s;
-  first = inputs-first (length s / chunk) start s refl ∙ ap (λ (n : ℕ). start + n) (exact (take chunk s));
+  first = inputs-first (length s / chunk) start s refl ∙ ap (λ (n : ℕ). start + n) (wordSum-exact (take chunk s));
   next = inputs-since start s;
+  last = refl;
   fold = folds-to;
-  sum = sum-last start s fits bytes;
+  sum = sum-final start s fits bytes;
 }

@@ -30,5 +30,5 @@ unfoldable pub foldInputs : ℕ → List ℕ → List ℕ
 foldInputs start s = inputsAfter (length s / chunk) start s
 
 -- what the last fold is given
-unfoldable pub lastInput : ℕ → List ℕ → ℕ
-lastInput start s = getD (foldInputs start s) (length s / chunk) 0
+unfoldable pub finalInput : ℕ → List ℕ → ℕ
+finalInput start s = getD (foldInputs start s) (length s / chunk) 0

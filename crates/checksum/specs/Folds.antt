@@ -5,7 +5,7 @@ use mathlib.Core.Path.{_≡_}
 use mathlib.Core.List.{List, [], _∷_}
 use lib.ListN.{length, getD, take, drop}
 use Rattle.checksum.specs.Sum.{wordsOf, carried, onesSumFrom}
-use Rattle.checksum.specs.Folding.{folded, foldInputs}
+use Rattle.checksum.specs.Folding.{folded, foldInputs, finalInput}
 
 -- the sum of numbers, with nothing carried
 abbrev pub total : List ℕ → ℕ
@@ -40,6 +40,8 @@ pub record Folds (start : ℕ) (s : List ℕ) : Type 0 where
   pub first : given start s 0 ≡ start + exactSum (take 65536 s)
   -- each later one the last one's result and the exact sum of the words since: of the next 65,536 octets, the last one of what is left
   pub next : (i : ℕ) → i < length s / 65536 → given start s (i + 1) ≡ folded (given start s i) + exactSum (take 65536 (drop (65536 * (i + 1)) s))
+  -- the last of these is what the code's contracts name
+  pub last : finalInput start s ≡ given start s (length s / 65536)
   -- a fold goes on until no carry is left
   pub fold : (x : ℕ) → FoldsTo x (folded x)
   -- the last one's result is the sum of RFC 1071

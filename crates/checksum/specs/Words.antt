@@ -5,7 +5,15 @@ use mathlib.Core.List.{List}
 use lib.ListN.{length, drop}
 use Rattle.checksum.specs.Folding.{wordSum, chunk}
 
--- of at most a chunk, the words before a place have this exact sum
+-- fewer bytes are added up without runs
+abbrev pub fewBytes : ℕ
+fewBytes = 128
+
+-- the most words of a run: 256 bytes have a sum below 65536
+abbrev pub runWords : ℕ
+runWords = 256
+
+-- of at most a chunk, the words before a place have this exact sum, at most 65535 each, so that 32 bits hold it
 abbrev pub Summed : List ℕ → ℕ → ℕ → Type 0
 Summed s sum at = (length s ≤ chunk) × (at ≤ length s) × (sum + wordSum (drop at s) ≡ wordSum s) × (2 * sum ≤ 65535 * at)
 

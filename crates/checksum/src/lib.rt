@@ -1,13 +1,17 @@
-// The Internet checksum of RFC 1071, in the shape of the program in its section 4.1: the loop, the fold, the end. The exact sum of many
-// words at a time stands in words.rt.
+// The Internet checksum of RFC 1071. The parts of the program in its section 4.1 and where they stand:
+//   the inner loop      words.rt, at its plainest one_by_one; here chunk_by_chunk, the loop over chunks
+//   left-over byte      words.rt, odd_byte
+//   the fold            fold
+//   the end             complement, and for a checksum that is read right
+// That program folds once; here also each full chunk is folded, so that a sum has room in 32 bits, however long the input is.
 mod words;
 
 ghost use mathlib.Core.Path.{_≡_};
-ghost use Prim.Native.Nat.{_+_, _≤_, min};
+ghost use Prim.Native.Nat.{_+_, _%_, _≤_, min};
 ghost use mathlib.Core.List.{[]};
-ghost use lib.ListN.{length};
+ghost use lib.ListN.{length, take, drop};
 ghost use Rattle.checksum.specs.Sum.{onesSumFrom, onesComplement, isRight, isRightFrom};
-ghost use Rattle.checksum.specs.Folding.{wordSum, folded, chunk, lastInput};
+ghost use Rattle.checksum.specs.Folding.{wordSum, folded, chunk, finalInput};
 
 // The bytes that are added up before the carries are brought back.
 const CHUNK: usize = 65536;
@@ -23,12 +27,12 @@ const ALL_ONES: u16 = 65535;
 pub fn sum_from(start: u32, s: &[u8]) -> u16
     ensures { λ r. ⌜ r ≡ onesSumFrom start (now (s .entry)) ⌝ }
 {
-    fold(last_input(start, s))
+    fold(final_input(start, s))
 }
 
 // What the last fold is given. Few bytes, as a header has, are added up without the loop.
-fn last_input(start: u32, s: &[u8]) -> u64
-    ensures { λ r. ⌜ r ≡ lastInput start (now (s .entry)) ⌝ }
+fn final_input(start: u32, s: &[u8]) -> u64
+    ensures { λ r. ⌜ r ≡ finalInput start (now (s .entry)) ⌝ }
 {
     if s.len() < words::FEW {
         start as u64 + words::few(s) as u64
@@ -41,18 +45,17 @@ fn last_input(start: u32, s: &[u8]) -> u64
 // the last fold.
 //   "it may be more efficient to defer adding end-around carries until the main summation loop is finished" (RFC 1071, 2)
 fn chunk_by_chunk(start: u32, s: &[u8]) -> u64
-    ensures { λ r. ⌜ r ≡ lastInput start (now (s .entry)) ⌝ }
+    ensures { λ r. ⌜ r ≡ finalInput start (now (s .entry)) ⌝ }
 {
     let mut last = start;
     let mut at = 0;
     loop {
-        let end = chunk_end(at, s.len());
-        let sum = input(last, &s[at..end]);
-        if end - at < CHUNK {
+        let sum = fold_input(last, s, at);
+        if s.len() - at < CHUNK {
             return sum;
         }
         last = fold(sum) as u32;
-        at = end;
+        at += CHUNK;
     }
 }
 
@@ -68,16 +71,18 @@ fn chunk_end(at: usize, length: usize) -> usize
     }
 }
 
-// What a fold is given: the last one's result, and the exact sum of the words since.
-fn input(last: u32, s: &[u8]) -> u64
-    requires { ⌜ length (now s) ≤ chunk ⌝ }
-    ensures { λ r. ⌜ r ≡ last + wordSum (now (s .entry)) ⌝ }
+// What a fold is given: the last one's result and the exact sum of the words since, those of the chunk that starts at a place, or of what is
+// left.
+fn fold_input(last: u32, s: &[u8], at: usize) -> u64
+    requires { ⌜ (at ≤ length (now s)) × (at % chunk ≡ 0) ⌝ }
+    ensures { λ r. ⌜ r ≡ last + wordSum (take chunk (drop at (now (s .entry)))) ⌝ }
 {
-    last as u64 + words::many(s) as u64
+    let end = chunk_end(at, s.len());
+    last as u64 + words::many(&s[at..end]) as u64
 }
 
 // The fold: carries are brought back in until none is left.
-//   "Fold 32-bit sum to 16 bits: while (sum>>16) sum = (sum & 0xffff) + (sum >> 16);" (RFC 1071, 4.1)
+//   "Fold 32-bit sum to 16 bits", "while (sum>>16) sum = (sum & 0xffff) + (sum >> 16);" (RFC 1071, 4.1)
 fn fold(x: u64) -> u16
     ensures { λ r. ⌜ r ≡ folded x ⌝ }
 {

@@ -1,10 +1,10 @@
-// The exact sum of the words of up to 65,536 bytes, quickly. Words are added up in blocks, the compiler adds the words of a block side by
-// side, and each block takes its words off the sum of what is left.
+// The exact sum of the words of up to 65,536 bytes, quickly: words are added up in blocks, and the compiler adds the words of a block side by
+// side.
 ghost use mathlib.Core.Path.{_≡_};
 ghost use Prim.Native.Nat.{_+_, _*_, _/_, _%_, _≤_, _<_};
 ghost use lib.ListN.{length, drop};
 ghost use Rattle.checksum.specs.Folding.{wordSum, chunk};
-ghost use Rattle.checksum.specs.Words.{Summed, BlockSum, PowerOfTwo, highSum};
+ghost use Rattle.checksum.specs.Words.{fewBytes, runWords, Summed, BlockSum, PowerOfTwo, highSum};
 
 // Fewer bytes are added up without a loop over runs.
 pub(crate) const FEW: usize = 128;
@@ -21,10 +21,10 @@ struct Part {
 
 // The exact sum of the words of few bytes: FEW bytes are two blocks of FEW / 4 words.
 pub(crate) fn few(s: &[u8]) -> u32
-    requires { ⌜ length (now s) < 128 ⌝ }
+    requires { ⌜ length (now s) < fewBytes ⌝ }
     ensures { λ r. ⌜ r ≡ wordSum (now (s .entry)) ⌝ }
 {
-    last_byte(s, halving(s, Part { sum: 0, at: 0 }, FEW / 4))
+    odd_byte(s, halving(s, Part { sum: 0, at: 0 }, FEW / 4))
 }
 
 // The exact sum of the words of a chunk, or of what is left behind the last one; 32 bits hold it. What is left behind full runs is shorter
@@ -33,13 +33,13 @@ pub(crate) fn many(s: &[u8]) -> u32
     requires { ⌜ length (now s) ≤ chunk ⌝ }
     ensures { λ r. ⌜ r ≡ wordSum (now (s .entry)) ⌝ }
 {
-    last_byte(s, halving(s, full_runs(s), RUN / 2))
+    odd_byte(s, halving(s, full_runs(s), RUN / 2))
 }
 
 // The words of full runs.
 fn full_runs(s: &[u8]) -> Part
     requires { ⌜ length (now s) ≤ chunk ⌝ }
-    ensures { λ r. ⌜ Summed (now (s .entry)) (r .sum) (r .at) × (length (now (s .entry)) < r .at + 512) ⌝ }
+    ensures { λ r. ⌜ Summed (now (s .entry)) (r .sum) (r .at) × (length (now (s .entry)) < r .at + 2 * runWords) ⌝ }
 {
     let mut sum: u32 = 0;
     let mut at = 0;
@@ -53,7 +53,7 @@ fn full_runs(s: &[u8]) -> Part
 // The words behind a part, where fewer than twice as many as most are left: a block of most words if it fits, one of half as many, and so
 // down to one word. The compiler makes straight code of it.
 fn halving(s: &[u8], p: Part, most: usize) -> Part
-    requires { ⌜ Summed (now s) (p .sum) (p .at) × (length (now s) < p .at + 4 * most) × PowerOfTwo most × (most ≤ 256) ⌝ }
+    requires { ⌜ Summed (now s) (p .sum) (p .at) × (length (now s) < p .at + 4 * most) × PowerOfTwo most × (most ≤ runWords) ⌝ }
     ensures { λ r. ⌜ Summed (now (s .entry)) (r .sum) (r .at) × (length (now (s .entry)) < r .at + 2) ⌝ }
 {
     let mut part = p;
@@ -67,7 +67,7 @@ fn halving(s: &[u8], p: Part, most: usize) -> Part
 
 // A block of n words more, if it fits.
 fn with_block(s: &[u8], p: Part, n: usize) -> Part
-    requires { ⌜ Summed (now s) (p .sum) (p .at) × (length (now s) < p .at + 4 * n) × (n ≤ 256) ⌝ }
+    requires { ⌜ Summed (now s) (p .sum) (p .at) × (length (now s) < p .at + 4 * n) × (n ≤ runWords) ⌝ }
     ensures { λ r. ⌜ Summed (now (s .entry)) (r .sum) (r .at) × (length (now (s .entry)) < r .at + 2 * n) ⌝ }
 {
     let at = p.at;
@@ -83,7 +83,7 @@ fn with_block(s: &[u8], p: Part, n: usize) -> Part
 
 // An odd last byte is paired with a zero byte.
 //   "Add left-over byte, if any" (RFC 1071, 4.1)
-fn last_byte(s: &[u8], p: Part) -> u32
+fn odd_byte(s: &[u8], p: Part) -> u32
     requires { ⌜ Summed (now s) (p .sum) (p .at) × (length (now s) < p .at + 2) ⌝ }
     ensures { λ r. ⌜ r ≡ wordSum (now (s .entry)) ⌝ }
 {
@@ -97,7 +97,7 @@ fn last_byte(s: &[u8], p: Part) -> u32
 
 // The exact sum of the n words from a place on.
 fn block(s: &[u8], at: usize, n: usize) -> u32
-    requires { ⌜ (at + 2 * n ≤ length (now s)) × (n ≤ 256) ⌝ }
+    requires { ⌜ (at + 2 * n ≤ length (now s)) × (n ≤ runWords) ⌝ }
     ensures { λ r. ⌜ BlockSum (now (s .entry)) at n r ⌝ }
 {
     if n < RUN_FROM {
@@ -107,9 +107,10 @@ fn block(s: &[u8], at: usize, n: usize) -> u32
     }
 }
 
-// The exact sum of the n words from a place on, word by word.
+// The exact sum of the n words from a place on, word by word. Each is read as the machine does and then exchanged, since that is one load.
+//   "This is the inner loop" (RFC 1071, 4.1)
 fn one_by_one(s: &[u8], at: usize, n: usize) -> u32
-    requires { ⌜ (at + 2 * n ≤ length (now s)) × (n ≤ 256) ⌝ }
+    requires { ⌜ (at + 2 * n ≤ length (now s)) × (n ≤ runWords) ⌝ }
     ensures { λ r. ⌜ BlockSum (now (s .entry)) at n r ⌝ }
 {
     let mut sum: u32 = 0;
@@ -123,7 +124,7 @@ fn one_by_one(s: &[u8], at: usize, n: usize) -> u32
 // high + 256 * low. The sum of these is kept modulo 65536, that of the low bytes exactly, and the sum of the high bytes, which has 16
 // bits, follows from the two.
 fn run(s: &[u8], at: usize, n: usize) -> u32
-    requires { ⌜ (at + 2 * n ≤ length (now s)) × (n ≤ 256) ⌝ }
+    requires { ⌜ (at + 2 * n ≤ length (now s)) × (n ≤ runWords) ⌝ }
     ensures { λ r. ⌜ BlockSum (now (s .entry)) at n r ⌝ }
 {
     let mut exchanged: u16 = 0;
@@ -140,7 +141,7 @@ fn run(s: &[u8], at: usize, n: usize) -> u32
 fn high_sum(exchanged: u16, low: u16) -> u32
     ensures { λ r. ⌜ r ≡ highSum exchanged low ⌝ }
 {
-    ((exchanged as u64 + 65280 * low as u64) % 65536) as u32
+    (exchanged as u32 + 65280 * low as u32) % 65536
 }
 
 // The two bytes from i on as the machine reads a word, the first the low-order one: the compiler makes one load of it.

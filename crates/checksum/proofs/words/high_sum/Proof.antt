@@ -9,4 +9,4 @@ unfolding highSum
 returns c = omega arith
 
 pub high-sum-spec : {M : Type 1} → statement M
-high-sum-spec = tie.close (tie.spec (omega arith) (omega arith) (omega arith) returns)
+high-sum-spec = tie.close (tie.spec (omega arith) (omega arith) returns)

@@ -2,7 +2,7 @@
 use native.Mathlib.Omega.{arith}
 use Prim.Native.Nat.{_-_, _≤_}
 use Rattle.checksum.specs.Words.{BlockSum}
-use Rattle.checksum.proofs.Left.{block-none, block-more, block-all}
+use Rattle.checksum.proofs.Blocks.{block-none, block-more, block-all}
 use Rattle.checksum.proofs.words.one_by_one.Statement.{statement}
 use Rattle.checksum.proofs.words.one_by_one.Tie as tie
 

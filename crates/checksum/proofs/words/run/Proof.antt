@@ -1,8 +1,9 @@
--- `checksum::words::run` meets its contract: the invariant says what is left to add, and a turn takes two bytes off it. Assumes nothing.
+-- `checksum::words::run` meets its contract: of at most 256 words the high bytes have a sum below 65,536, so the modulus loses nothing of it.
+-- Assumes nothing.
 use native.Mathlib.Omega.{arith}
 use Prim.Native.Nat.{_+_, _*_, _/_, _%_, _-_, _≤_, _<_, _^_}
 use Rattle.checksum.specs.Words.{BlockSum, highSum}
-use Rattle.checksum.proofs.Left.{block-none, block-more, block-all, highSum-step, highSum-none}
+use Rattle.checksum.proofs.Blocks.{block-none, block-more, block-all, highSum-step, highSum-none}
 use Rattle.checksum.proofs.words.run.Statement.{statement}
 use Rattle.checksum.proofs.words.run.Tie as tie
 
