@@ -1,9 +1,10 @@
 // The Internet checksum of RFC 1071. The parts of the program in its section 4.1 and where they stand:
-//   the inner loop      words.rt, at its plainest one_by_one; here chunk_by_chunk, the loop over chunks
-//   left-over byte      words.rt, odd_byte
+//   the loop            chunk_by_chunk, over chunks; its inner loop in words.rt, at its plainest one_by_one
+//   left-over byte      odd_byte, in words.rt
 //   the fold            fold
-//   the end             complement, and for a checksum that is read right
-// That program folds once; here also each full chunk is folded, so that a sum has room in 32 bits, however long the input is.
+//   the end             complement; of a checksum that is read, right
+// That program folds once, at the end; here each full chunk is folded too, so that 32 bits hold the sum of the words since, however many
+// there are.
 mod words;
 
 ghost use mathlib.Core.Path.{_≡_};
@@ -71,8 +72,8 @@ fn chunk_end(at: usize, length: usize) -> usize
     }
 }
 
-// What a fold is given: the last one's result and the exact sum of the words since, those of the chunk that starts at a place, or of what is
-// left.
+// What a fold is given: the last one's result and the exact sum of the words since. These are the words of the chunk that starts at a
+// place, or of what is left.
 fn fold_input(last: u32, s: &[u8], at: usize) -> u64
     requires { ⌜ (at ≤ length (now s)) × (at % chunk ≡ 0) ⌝ }
     ensures { λ r. ⌜ r ≡ last + wordSum (take chunk (drop at (now (s .entry)))) ⌝ }

@@ -1,4 +1,4 @@
-// The exact sum of the words of up to 65,536 bytes, quickly: words are added up in blocks, and the compiler adds the words of a block side by
+// The exact sum of the words of up to 65,536 bytes, quickly: words are added up in blocks, and the compiler adds those of a block side by
 // side.
 ghost use mathlib.Core.Path.{_≡_};
 ghost use Prim.Native.Nat.{_+_, _*_, _/_, _%_, _≤_, _<_};
@@ -120,7 +120,7 @@ fn one_by_one(s: &[u8], at: usize, n: usize) -> u32
     sum
 }
 
-// The exact sum of the n words from a place on, without exchanging the bytes of each: a word as the machine reads it is
+// The exact sum of the n words from a place on, without exchanging the bytes of each: as the machine reads it, a word is
 // high + 256 * low. The sum of these is kept modulo 65536, that of the low bytes exactly, and the sum of the high bytes, which has 16
 // bits, follows from the two.
 fn run(s: &[u8], at: usize, n: usize) -> u32
