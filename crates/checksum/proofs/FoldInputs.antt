@@ -1,4 +1,4 @@
--- What the folds are given: the definition step by step, and that the last one's result is the sum. Assumes nothing.
+-- What the folds are given: the definition step by step, and that the sum is the result of the last. Assumes nothing.
 use Prim.Native.Nat.{ℕ, zero, suc, _+_, _/_, _≤_, _<_, _^_}
 use mathlib.Core.Path.{_≡_, refl, sym, ap, _∙_}
 use mathlib.Core.List.{List}
@@ -14,15 +14,15 @@ use Rattle.checksum.proofs.Laws.{wordSum-append, folded-folded, sum-fol
 full-chunks : (s : List ℕ) → chunk ≤ length s → length s / chunk ≡ suc (length (drop chunk s) / chunk)
 full-chunks s h = omega (arith, length-drop chunk s)
 
-pub final-full : (last : ℕ) (s : List ℕ) → chunk ≤ length s
-    → finalInput last s ≡ finalInput (folded (last + wordSum (take chunk s))) (drop chunk s)
+pub final-full : (result : ℕ) (s : List ℕ) → chunk ≤ length s
+    → finalInput result s ≡ finalInput (folded (result + wordSum (take chunk s))) (drop chunk s)
 unfolding finalInput foldInputs
-final-full last s h = rw (full-chunks s h)
+final-full result s h = rw (full-chunks s h)
 
 -- fewer bytes than a chunk, which are the end
-pub final-end : (last : ℕ) (s : List ℕ) → length s < chunk → finalInput last s ≡ last + wordSum s
+pub final-end : (result : ℕ) (s : List ℕ) → length s < chunk → finalInput result s ≡ result + wordSum s
 unfolding finalInput foldInputs
-final-end last s h = let none : length s / chunk ≡ 0 = omega arith in rw none
+final-end result s h = let none : length s / chunk ≡ 0 = omega arith in rw none
 
 chunk-words : (s : List ℕ) → chunk ≤ length s → wordSum s ≡ wordSum (take chunk s) + wordSum (drop chunk s)
 chunk-words s h =
@@ -30,11 +30,11 @@ chunk-words s h =
     ap wordSum (sym (take-append-drop chunk s)) ∙ wordSum-append (take chunk s) (drop chunk s) (omega arith)
 
 -- over so many full chunks, the last fold's result is that of all words at once
-folds-all : (full last : ℕ) (s : List ℕ) → length s / chunk ≡ full → folded (getD (inputsAfter full last s) full 0) ≡ folded (last + wordSum s)
-folds-all zero last s h = refl
-folds-all (suc full) last s h =
-    folds-all full (folded (last + wordSum (take chunk s))) (drop chunk s) (omega (arith, length-drop chunk s))
-    ∙ folded-folded (last + wordSum (take chunk s)) (wordSum (drop chunk s))
+folds-all : (full result : ℕ) (s : List ℕ) → length s / chunk ≡ full → folded (getD (inputsAfter full result s) full 0) ≡ folded (result + wordSum s)
+folds-all zero result s h = refl
+folds-all (suc full) result s h =
+    folds-all full (folded (result + wordSum (take chunk s))) (drop chunk s) (omega (arith, length-drop chunk s))
+    ∙ folded-folded (result + wordSum (take chunk s)) (wordSum (drop chunk s))
     ∙ ap folded (omega (arith, chunk-words s (omega arith)))
 
 -- the last fold's result is the sum

@@ -48,23 +48,23 @@ folds-to x = folds-below x x (omega arith)
 
 -- over so many full chunks
 
-inputs-count : (full last : ℕ) (s : List ℕ) → length (inputsAfter full last s) ≡ full + 1
-inputs-count zero last s = refl
-inputs-count (suc full) last s = omega (arith, inputs-count full (folded (last + wordSum (take chunk s))) (drop chunk s))
+inputs-count : (full result : ℕ) (s : List ℕ) → length (inputsAfter full result s) ≡ full + 1
+inputs-count zero result s = refl
+inputs-count (suc full) result s = omega (arith, inputs-count full (folded (result + wordSum (take chunk s))) (drop chunk s))
 
-inputs-first : (full last : ℕ) (s : List ℕ) → length s / chunk ≡ full → getD (inputsAfter full last s) 0 0 ≡ last + wordSum (take chunk s)
-inputs-first zero last s h = ap (λ (t : List ℕ). last + wordSum t) (sym (take-all chunk s (omega arith)))
-inputs-first (suc full) last s h = refl
+inputs-first : (full result : ℕ) (s : List ℕ) → length s / chunk ≡ full → getD (inputsAfter full result s) 0 0 ≡ result + wordSum (take chunk s)
+inputs-first zero result s h = ap (λ (t : List ℕ). result + wordSum t) (sym (take-all chunk s (omega arith)))
+inputs-first (suc full) result s h = refl
 
-inputs-next : (full last : ℕ) (s : List ℕ) (i : ℕ) → length s / chunk ≡ full → i < full
-    → getD (inputsAfter full last s) (suc i) 0 ≡ folded (getD (inputsAfter full last s) i 0) + wordSum (take chunk (drop (chunk * suc i) s))
-inputs-next (suc full) last s zero h k =
-    inputs-first full (folded (last + wordSum (take chunk s))) (drop chunk s) (omega (arith, length-drop chunk s))
-inputs-next (suc full) last s (suc i) h k =
+inputs-next : (full result : ℕ) (s : List ℕ) (i : ℕ) → length s / chunk ≡ full → i < full
+    → getD (inputsAfter full result s) (suc i) 0 ≡ folded (getD (inputsAfter full result s) i 0) + wordSum (take chunk (drop (chunk * suc i) s))
+inputs-next (suc full) result s zero h k =
+    inputs-first full (folded (result + wordSum (take chunk s))) (drop chunk s) (omega (arith, length-drop chunk s))
+inputs-next (suc full) result s (suc i) h k =
     let n : chunk + chunk * suc i ≡ chunk * suc (suc i) = omega arith in
     let d : drop (chunk * suc i) (drop chunk s) ≡ drop (chunk * suc (suc i)) s = rw (drop-drop (chunk * suc i) chunk s, n) in
-    inputs-next full (folded (last + wordSum (take chunk s))) (drop chunk s) i (omega (arith, length-drop chunk s)) (omega arith)
-    ∙ ap (λ (t : List ℕ). folded (getD (inputsAfter (suc full) last s) (suc i) 0) + wordSum (take chunk t)) d
+    inputs-next full (folded (result + wordSum (take chunk s))) (drop chunk s) i (omega (arith, length-drop chunk s)) (omega arith)
+    ∙ ap (λ (t : List ℕ). folded (getD (inputsAfter (suc full) result s) (suc i) 0) + wordSum (take chunk t)) d
 
 inputs-since : (start : ℕ) (s : List ℕ) (i : ℕ) → i < length s / chunk
     → given start s (i + 1) ≡ folded (given start s i) + exactSum (take chunk (drop (chunk * (i + 1)) s))

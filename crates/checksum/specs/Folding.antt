@@ -19,16 +19,16 @@ folded n = min n ((n - 1) % 65535 + 1)
 abbrev pub chunk : ℕ
 chunk = 65536
 
--- what the folds are given after so many full chunks, and at the end: the last one's result and the exact sum of the words since
+-- what the folds are given after so many full chunks, and at the end: the result of the one before and the exact sum of the words since
 abbrev pub inputsAfter : ℕ → ℕ → List ℕ → List ℕ
-inputsAfter zero last s = (last + wordSum s) ∷ []
-inputsAfter (suc full) last s =
-    (last + wordSum (take chunk s)) ∷ inputsAfter full (folded (last + wordSum (take chunk s))) (drop chunk s)
+inputsAfter zero result s = (result + wordSum s) ∷ []
+inputsAfter (suc full) result s =
+    (result + wordSum (take chunk s)) ∷ inputsAfter full (folded (result + wordSum (take chunk s))) (drop chunk s)
 
--- what the folds are given, from first to last: the first one has the start value for a last one's result
+-- what the folds are given, from first to last: before the first one stands the start value
 unfoldable pub foldInputs : ℕ → List ℕ → List ℕ
 foldInputs start s = inputsAfter (length s / chunk) start s
 
--- what the last fold is given
+-- what the last fold is given, at the end
 unfoldable pub finalInput : ℕ → List ℕ → ℕ
 finalInput start s = getD (foldInputs start s) (length s / chunk) 0

@@ -1,5 +1,5 @@
--- The folds of a sum in plain facts over the octets: what each fold is given, what it makes of it, and that the last one's result is the
--- sum. The code's own contracts name `folded` and what the last fold is given.
+-- The folds of a sum in plain facts over the octets: what each fold is given, what it makes of it, and that the sum is the result of the
+-- last. The code's own contracts name `folded` and `finalInput`.
 use Prim.Native.Nat.{ℕ, zero, suc, _+_, _*_, _/_, _≤_, _<_}
 use mathlib.Core.Path.{_≡_}
 use mathlib.Core.List.{List, [], _∷_}
@@ -38,11 +38,11 @@ pub record Folds (start : ℕ) (s : List ℕ) : Type 0 where
   pub count : length (foldInputs start s) ≡ length s / 65536 + 1
   -- the first is given the start value and the exact sum of the words of the first 65,536 octets, or of all if there are fewer
   pub first : given start s 0 ≡ start + exactSum (take 65536 s)
-  -- each later one the last one's result and the exact sum of the words since: of the next 65,536 octets, the last one of what is left
+  -- each later one the result of the one before and the exact sum of the words since: of the next 65,536 octets, or at the end of what is left
   pub next : (i : ℕ) → i < length s / 65536 → given start s (i + 1) ≡ folded (given start s i) + exactSum (take 65536 (drop (65536 * (i + 1)) s))
-  -- the last of these is what the code's contracts name
+  -- of these the last is what the code's contracts name
   pub last : finalInput start s ≡ given start s (length s / 65536)
   -- a fold goes on until no carry is left
   pub fold : (x : ℕ) → FoldsTo x (folded x)
-  -- the last one's result is the sum of RFC 1071
+  -- the sum of RFC 1071 is the result of the last
   pub sum : onesSumFrom start s ≡ folded (given start s (length s / 65536))

@@ -48,14 +48,14 @@ fn final_input(start: u32, s: &[u8]) -> u64
 fn chunk_by_chunk(start: u32, s: &[u8]) -> u64
     ensures { λ r. ⌜ r ≡ finalInput start (now (s .entry)) ⌝ }
 {
-    let mut last = start;
+    let mut result = start;
     let mut at = 0;
     loop {
-        let sum = fold_input(last, s, at);
+        let sum = fold_input(result, s, at);
         if s.len() - at < CHUNK {
             return sum;
         }
-        last = fold(sum) as u32;
+        result = fold(sum) as u32;
         at += CHUNK;
     }
 }
@@ -72,14 +72,14 @@ fn chunk_end(at: usize, length: usize) -> usize
     }
 }
 
-// What a fold is given: the last one's result and the exact sum of the words since. These are the words of the chunk that starts at a
+// What a fold is given: the result of the one before and the exact sum of the words since. These are the words of the chunk that starts at a
 // place, or of what is left.
-fn fold_input(last: u32, s: &[u8], at: usize) -> u64
+fn fold_input(result: u32, s: &[u8], at: usize) -> u64
     requires { ⌜ (at ≤ length (now s)) × (at % chunk ≡ 0) ⌝ }
-    ensures { λ r. ⌜ r ≡ last + wordSum (take chunk (drop at (now (s .entry)))) ⌝ }
+    ensures { λ r. ⌜ r ≡ result + wordSum (take chunk (drop at (now (s .entry)))) ⌝ }
 {
     let end = chunk_end(at, s.len());
-    last as u64 + words::many(&s[at..end]) as u64
+    result as u64 + words::many(&s[at..end]) as u64
 }
 
 // The fold: carries are brought back in until none is left.

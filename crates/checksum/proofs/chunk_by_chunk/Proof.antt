@@ -11,10 +11,10 @@ use Rattle.checksum.proofs.chunk_by_chunk.Statement.{statement}
 use Rattle.checksum.proofs.chunk_by_chunk.Tie as tie
 
 abbrev Inv-loop : tie.InvT-loop
-Inv-loop start s last₀ at₀ last at = (at ≤ length s) × (at % chunk ≡ 0) × (last < 2 ^ 32) × (finalInput last (drop at s) ≡ finalInput start s)
+Inv-loop start s result₀ at₀ result at = (at ≤ length s) × (at % chunk ≡ 0) × (result < 2 ^ 32) × (finalInput result (drop at s) ≡ finalInput start s)
 
 abbrev μ-loop : tie.MeasureT-loop
-μ-loop start s last₀ at₀ last at = length s - at
+μ-loop start s result₀ at₀ result at = length s - at
 
 returns : tie.Need-returns Inv-loop μ-loop
 returns c =
@@ -22,8 +22,8 @@ returns c =
     let s = l .before .before .args .s .now in
     let rest = drop (l .loop .at) s in
     c .before .fold-input .ensures
-    ∙ ap (λ (t : List ℕ). l .loop .last + wordSum t) (take-all chunk rest (omega (arith, length-drop (l .loop .at) s)))
-    ∙ sym (final-end (l .loop .last) rest (omega (arith, length-drop (l .loop .at) s)))
+    ∙ ap (λ (t : List ℕ). l .loop .result + wordSum t) (take-all chunk rest (omega (arith, length-drop (l .loop .at) s)))
+    ∙ sym (final-end (l .loop .result) rest (omega (arith, length-drop (l .loop .at) s)))
     ∙ l .loop .inv .3
 
 loop-again : tie.Need-loop-again Inv-loop μ-loop
@@ -35,7 +35,7 @@ loop-again c =
       omega arith,
       omega arith,
       ap (λ (r : ℕ). finalInput r (drop (at + chunk) s)) (c .fold .ensures ∙ ap folded (c .before .before .fold-input .ensures))
-          ∙ rw (← drop-drop chunk at s) (sym (final-full (l .loop .last) (drop at s) (omega (arith, length-drop at s))))
+          ∙ rw (← drop-drop chunk at s) (sym (final-full (l .loop .result) (drop at s) (omega (arith, length-drop at s))))
           ∙ l .loop .inv .3,
     )
 
