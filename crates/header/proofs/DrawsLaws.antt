@@ -1,26 +1,94 @@
 -- The test passes exactly for the packets that draw a message. Assumes nothing.
-use Prim.Native.Nat.{ℕ}
+use Prim.Native.Nat.{ℕ, _+_, _<_}
+use mathlib.Core.Path.{_≡_, refl, sym, _∙_}
 use mathlib.Core.Logic.{⊎-elim, inl, inr}
-use mathlib.Core.List.{List}
-use lib.ListN.{getD, length}
+use mathlib.Core.Bool.{true, not, _&&_}
+use mathlib.Core.List.{List, flatten}
+use native.Mathlib.Decide.{ℕ-discrete}
+use native.Mathlib.Nat.{add-zero}
+use native.Mathlib.Omega.{arith}
+use lib.ListN.{getD, length, drop, length-drop}
+use lib.Seq.{getD-drop, drop-drop, drop-append-seam}
+use borrow.Author.Tests.{eq-eqb, ne-eqb}
+use Rattle.address.specs.Address.{isMulticastOrUnspecified}
+use Rattle.address.specs.Facts.{Multicast, Unspecified}
 use Rattle.address.proofs.Facts.{decides-multicast-or-unspecified}
-use Rattle.lists.proofs.Decides.{Decides, decides-eq, decides-lt, decides-or, decides-and, decides-not, decides-as}
+use Rattle.lists.proofs.Decides.{Decides, decides-eq, decides-lt, decides-or, decides-not, decides-as}
+use Rattle.lists.proofs.Tests.{and-left, and-right}
 use Rattle.header.specs.Numbers.{innerHeader, icmpv6}
 use Rattle.header.specs.Fields.{addressAt}
-use Rattle.header.specs.Inner.{isErrorOrRedirect, mayDrawError}
-use Rattle.header.specs.Draws.{ErrorOrRedirect, DrawsMessage}
+use Rattle.header.specs.Chain.{isErrorOrRedirect, isQuiet, chainMayDraw}
+use Rattle.header.specs.Inner.{mayDrawError}
+use Rattle.header.specs.Draws.{Chain, OffsetsZero, ErrorOrRedirect, Harmless, DrawsMessage}
+use Rattle.header.proofs.ChainLaws.{chain-upper}
+use Rattle.header.proofs.ChainFacts.{upper-layer, headers-on}
+use Rattle.header.proofs.ChainTaken.{Behind, behind}
+
+-- an upper layer at an offset of the packet
+module _ (p : List ℕ) (upper at : ℕ) where
+  decides-kind : Decides (isErrorOrRedirect (getD (drop at p) 0 0)) (ErrorOrRedirect p at)
+  decides-kind = rw (getD-drop at p 0 0, add-zero at) (decides-or _ _ (decides-lt (getD p at 0) 128) (decides-eq (getD p at 0) 137))
+
+  pub decides-harmless : Decides (not (isQuiet upper (drop at p))) (Harmless p upper at)
+  decides-harmless = go (ℕ-discrete upper icmpv6)
+    where
+      go : Dec (upper ≡ 58) → Decides (not (isQuiet upper (drop at p))) (Harmless p upper at)
+      go (yes e) = rw (eq-eqb upper icmpv6 e)
+          (decides-as _ (decides-not _ (decides-or _ _ (decides-eq (length (drop at p)) 0) decides-kind))
+          (λ n f. (more (λ z. n (inl z)), λ k. n (inr k)))
+          (λ h. ⊎-elim (λ z. omega (arith, z, h e .0, length-drop at p)) (h e .1)))
+        where
+          more : (length (drop at p) ≡ 0 → ⊥) → at < length p
+          more n = omega (arith, n, length-drop at p)
+      go (no n) = rw (ne-eqb upper icmpv6 n) (record { holds = λ t f. absurd (n f); passes = λ h. refl })
 
 module _ (p : List ℕ) where
-  decides-error : Decides (isErrorOrRedirect p) (ErrorOrRedirect p)
-  decides-error =
-      let next = decides-eq (getD p 6 0) icmpv6 in
-      let some = decides-lt innerHeader (length p) in
-      let kind = decides-or _ _ (decides-lt (getD p innerHeader 0) 128) (decides-eq (getD p innerHeader 0) 137) in
-      decides-as _ (decides-and _ _ (decides-and _ _ next some) kind) (λ f. (f .0 .0, f .0 .1, f .1)) (λ f. ((f .0, f .1), f .2))
+  -- without a later fragment, a chain draws what its upper layer draws
+  pub chain-draws : (hs : List (List ℕ)) (upper at : ℕ) → Chain p hs upper at → OffsetsZero (getD p 6 0) hs
+      → chainMayDraw (getD p 6 0) (drop innerHeader p) ≡ not (isQuiet upper (drop at p))
+  chain-draws hs upper at c z =
+      rw (c .bytes)
+      (headers-on (drop at p) (getD p 6 0) hs upper (c .headers) z
+      ∙ chain-upper upper (drop at p) (upper-layer upper (c .ends)))
+
+  module _ (b : Behind (getD p 6 0) (drop innerHeader p)) where
+    abbrev at : ℕ
+    at = 40 + length (flatten (b .hs))
+
+    rest-at : drop at p ≡ b .rest
+    rest-at = sym (drop-drop (length (flatten (b .hs))) 40 p) ∙ rw (b .bytes) (drop-append-seam (flatten (b .hs)) (b .rest))
+
+    chain-at : Chain p (b .hs) (b .upper) at
+    chain-at = record { headers = b .headers; ends = b .ends; offset = refl; bytes = b .bytes ∙ rw rest-at }
+
+    harmless-at : Harmless p (b .upper) at
+    harmless-at = decides-harmless p (b .upper) at .holds (rw (rest-at, b .loud))
+
+  -- the source is one that a message can go to
+  pub decides-answerable : Decides (not (isMulticastOrUnspecified (addressAt p 8))) ((Multicast (addressAt p 8) → ⊥) × (Unspecified (addressAt p 8) → ⊥))
+  decides-answerable =
+      decides-as _ (decides-not _ (decides-multicast-or-unspecified (addressAt p 8))) (λ n. (λ f. n (inl f), λ f. n (inr f))) (λ f. ⊎-elim (f .0) (f .1))
 
   pub decides-draws : Decides (mayDrawError p) (DrawsMessage p)
   unfolding mayDrawError
-  decides-draws =
-      decides-as _ (decides-not _ (decides-or _ _ (decides-multicast-or-unspecified (addressAt p 8)) decides-error))
-      (λ n. record { unicast = λ f. n (inl (inl f)); specified = λ f. n (inl (inr f)); harmless = λ f. n (inr f) })
-      (λ d. ⊎-elim (⊎-elim (d .unicast) (d .specified)) (d .harmless))
+  decides-draws = record { holds = holds; passes = passes }
+    where
+      holds : (not (isMulticastOrUnspecified (addressAt p 8)) && chainMayDraw (getD p 6 0) (drop innerHeader p)) ≡ true → DrawsMessage p
+      holds t =
+          let source = decides-answerable .holds (and-left _ _ t) in
+          let b = behind (length (drop innerHeader p)) (getD p 6 0) (drop innerHeader p) (omega arith) (and-right (not (isMulticastOrUnspecified (addressAt p 8))) _ t) in
+          record {
+            unicast = source .0;
+            specified = source .1;
+            headers = b .hs;
+            upper = b .upper;
+            at = 40 + length (flatten (b .hs));
+            chain = chain-at b;
+            first = b .first;
+            harmless = harmless-at b;
+          }
+
+      passes : DrawsMessage p → (not (isMulticastOrUnspecified (addressAt p 8)) && chainMayDraw (getD p 6 0) (drop innerHeader p)) ≡ true
+      passes d =
+          rw (decides-answerable .passes (d .unicast, d .specified))
+          (chain-draws (d .headers) (d .upper) (d .at) (d .chain) (d .first) ∙ decides-harmless p (d .upper) (d .at) .passes (d .harmless))

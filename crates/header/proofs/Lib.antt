@@ -1,7 +1,11 @@
 pub mod OuterLaws
 pub mod Readers
 pub mod InnerLaws
+pub mod ChainLaws
+pub mod ChainFacts
+pub mod ChainTaken
 pub mod DrawsLaws
+pub mod ByChain
 pub mod Padded
 pub mod WriterLaws
 pub mod Right

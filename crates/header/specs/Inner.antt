@@ -2,11 +2,12 @@
 use Prim.Native.Nat.{ℕ, _+_, _/_}
 use mathlib.Core.Bool.{Bool, cond, not, _&&_, _||_}
 use mathlib.Core.List.{List, []}
-use lib.ListN.{getD, length, take}
+use lib.ListN.{getD, length, take, drop}
 use lib.Dec.{eqb, ltb}
 use Rattle.address.specs.Address.{isMulticastOrUnspecified}
-use Rattle.header.specs.Numbers.{innerHeader, icmpv6}
+use Rattle.header.specs.Numbers.{innerHeader}
 use Rattle.header.specs.Fields.{wordAt, addressAt}
+use Rattle.header.specs.Chain.{chainMayDraw}
 use Rattle.header.specs.declared.inner.Inner.{Inner}
 
 -- the fields
@@ -25,10 +26,6 @@ isPacketMalformed n i = ltb n innerHeader || not (eqb (i .version) 6) || not (eq
 unfoldable pub innerPacketOf : List ℕ → List ℕ
 innerPacketOf p = cond (isInnerMalformed (length p) (innerOf p)) [] (take (innerOf p .length) p)
 
--- R8.2 (RFC 4443, 2.4 (e)): the first next header is 58 with payload, and the type is below 128 or is 137
-abbrev pub isErrorOrRedirect : List ℕ → Bool
-isErrorOrRedirect p = eqb (getD p 6 0) icmpv6 && ltb innerHeader (length p) && (ltb (getD p innerHeader 0) 128 || eqb (getD p innerHeader 0) 137)
-
--- a message is written unless the packet's source is multicast or `::`, or the packet is itself such a message
+-- R8.2, R25: a message is written unless the packet's source is multicast or `::`, or its chain of headers draws none
 unfoldable pub mayDrawError : List ℕ → Bool
-mayDrawError p = not (isMulticastOrUnspecified (addressAt p 8) || isErrorOrRedirect p)
+mayDrawError p = not (isMulticastOrUnspecified (addressAt p 8)) && chainMayDraw (getD p 6 0) (drop innerHeader p)

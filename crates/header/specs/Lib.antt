@@ -1,7 +1,10 @@
 pub mod Numbers
 pub mod Fields
 pub mod Outer
+pub mod Chain
+pub mod Walks
 pub mod Inner
 pub mod Wrap
 pub mod Whole
 pub mod Draws
+pub mod ByChain

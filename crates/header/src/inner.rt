@@ -1,6 +1,6 @@
 // The inner IPv6 header, read and judged.
-use crate::ICMPV6;
 use crate::INNER_HEADER;
+use crate::chain;
 use crate::fields;
 ghost use mathlib.Core.Path.{_≡_};
 ghost use Prim.Native.Nat.{_≤_};
@@ -84,9 +84,8 @@ pub fn inner_packet(p: &[u8]) -> &[u8]
 pub fn may_draw_error(p: &[u8]) -> bool
     ensures { λ r. ⌜ r ≡ mayDrawError (now (p .entry)) ⌝ }
 {
-    let next = fields::byte(p, 6);
-    let kind = fields::byte(p, INNER_HEADER);
-    let source = fields::address(p, 8);
-    let error = (next == ICMPV6) & (INNER_HEADER < p.len()) & ((kind < 128) | (kind == 137));
-    !(address::multicast_or_unspecified(source) | error)
+    if address::multicast_or_unspecified(fields::address(p, 8)) {
+        return false;
+    }
+    chain::chain_may_draw(fields::byte(p, 6), fields::tail(p, INNER_HEADER))
 }

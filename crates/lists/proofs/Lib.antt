@@ -4,3 +4,4 @@ pub mod AnyLaws
 pub mod Decides
 pub mod First
 pub mod PartTests
+pub mod Walks

@@ -20,9 +20,13 @@ module _ {A : Type 0} where
   drop-least (suc n) [] = cc (min-zero (suc n))
   drop-least (suc n) (x ∷ xs) = cc (suc-min-suc n (length xs), drop-least n xs)
 
-  -- the part of a slice from k to its end, where k is n or the end
+  -- the part of a slice from k to its end
+  pub rest-from : (k : ℕ) (xs : List A) → take (length xs - k) (drop k xs) ≡ drop k xs
+  rest-from k xs = take-all (length xs - k) (drop k xs) (omega (arith, length-drop k xs))
+
+  -- the same, where k is n or the end
   pub part-from : (n k : ℕ) (xs : List A) → k ≡ min n (length xs) → take (length xs - k) (drop k xs) ≡ drop n xs
-  part-from n k xs h = take-all (length xs - k) (drop k xs) (omega (arith, length-drop k xs)) ∙ rw h (drop-least n xs)
+  part-from n k xs h = rest-from k xs ∙ rw h (drop-least n xs)
 
   -- the part from k to n, in either order
   pub drop-take : (k n : ℕ) (xs : List A) → k ≤ n → k ≤ length xs → drop k (take n xs) ≡ take (n - k) (drop k xs)

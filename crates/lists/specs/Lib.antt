@@ -1,2 +1,3 @@
 pub mod Any
 pub mod Parts
+pub mod Walks
