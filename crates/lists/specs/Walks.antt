@@ -1,5 +1,5 @@
 -- A walk over things that stand one behind another in a list of bytes, each with a length of its own.
--- Only functions of the crates that walk cite this.
+-- No contract of node, boundary or program rests on this.
 use Prim.Native.Nat.{ℕ, zero, suc}
 use mathlib.Core.Bool.{cond}
 use mathlib.Core.List.{List}

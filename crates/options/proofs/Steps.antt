@@ -3,11 +3,11 @@
 use mathlib.Core.Path.{_≡_, refl, sym, ap, _∙_}
 use mathlib.Core.List.{List, [], _∷_, _++_, map, flatten, append-nil}
 use mathlib.Core.Bool.{Bool, true, false, cond, or-false, or-assoc}
-use Prim.Native.Nat.{ℕ, _+_, _-_, _≤_, min}
+use Prim.Native.Nat.{ℕ, _+_, _≤_, min}
 use native.Mathlib.Decide.{ℕ-discrete}
 use native.Mathlib.Omega.{arith}
 use lib.ListN.{length, take, drop, length-append, length-take, length-drop}
-use lib.Seq.{take-all, getD-take}
+use lib.Seq.{getD-take}
 use lib.Dec.{eqb}
 use borrow.Author.Tests.{eq-eqb, ne-eqb}
 use Rattle.options.specs.declared.Smallest.{Smallest}
@@ -101,7 +101,3 @@ module _ (bs : List ℕ) (good : optionSize bs ≡ 0 → ⊥) where
       let least = size-least bs good in
       rw (whole-on, options-cons bs good, lifetime-first (optionSize bs) bs least, getD-take (optionSize bs) bs 0 0 (omega arith))
       (rw (shorter-counted (f .smallest) (lifetimeOf bs) (map lifetimeOf rest), or-assoc (f .«source_link_layer»)))
-
--- the part of a slice that starts at n
-pub part : (bs : List ℕ) (n : ℕ) → take (length bs - n) (drop n bs) ≡ drop n bs
-part bs n = take-all (length bs - n) (drop n bs) (omega (arith, length-drop n bs))

@@ -1,99 +1,42 @@
--- A walk over at most so many options, told from what all of them say.
+-- A turn of the walks over all options, and what the options say where the walks end.
 -- Assumes nothing.
-use mathlib.Core.Path.{_≡_, refl, sym, _∙_}
+use mathlib.Core.Path.{_≡_, refl, sym, ap}
 use mathlib.Core.List.{List}
-use mathlib.Core.Bool.{Bool, true, false, cond}
-use Prim.Native.Nat.{ℕ, zero, suc, _+_, _-_, _≤_, _<_}
+use mathlib.Core.Bool.{Bool, true, false}
+use Prim.Native.Nat.{ℕ, suc, _-_, _≤_, _<_}
 use native.Mathlib.Omega.{arith}
 use lib.ListN.{length, take, drop, length-drop}
-use lib.Seq.{drop-drop}
 use lib.Dec.{eqb}
 use borrow.Author.Tests.{eqb-true, eqb-false, eq-eqb, ne-eqb}
+use Rattle.lists.specs.Walks.{walked}
+use Rattle.lists.proofs.Walks as walks
 use Rattle.options.specs.declared.Found.{Found}
 use Rattle.options.specs.declared.Walked.{Walked}
 use Rattle.options.specs.Options.{optionSize}
-use Rattle.options.specs.SoFar.{foundWith, walkedOf, readOf}
-use Rattle.options.proofs.Sizes.{size-fits, size-least}
-use Rattle.options.proofs.Steps.{optionsWith, read-end, read-bad, read-on, part}
-
--- a walk over no option
-pub walked-none : (most : ℕ) (bs : List ℕ) (f : Found) → most ≡ 0 → _≡_ {A = Walked} (record { left = length bs; found = f }) (walkedOf most bs f)
-unfolding walkedOf
-walked-none zero bs f e = refl
-walked-none (suc most) bs f e = absurd (omega arith)
-
--- a walk that comes to no option
-pub walked-end : (most : ℕ) (bs : List ℕ) (f : Found) → optionSize bs ≡ 0 → _≡_ {A = Walked} (record { left = length bs; found = f }) (walkedOf most bs f)
-unfolding walkedOf
-walked-end zero bs f e = refl
-walked-end (suc most) bs f e = rw (eq-eqb _ _ e)
-
--- a walk over an option, and at most one less from there
-pub walked-step : (most : ℕ) (bs : List ℕ) (f : Found) → (most ≡ 0 → ⊥) → (optionSize bs ≡ 0 → ⊥)
-    → walkedOf (most - 1) (drop (optionSize bs) bs) (foundWith f bs) ≡ walkedOf most bs f
-unfolding walkedOf
-walked-step zero bs f some good = absurd (some refl)
-walked-step (suc most) bs f some good = let same : suc most - 1 ≡ most = omega arith in rw (ne-eqb _ _ good, same)
-
--- what is left is a part of the bytes
-pub left-most : (most : ℕ) (bs : List ℕ) (f : Found) → walkedOf most bs f .left ≤ length bs
-unfolding walkedOf
-left-most zero bs f = omega arith
-left-most (suc most) bs f = go (eqb (optionSize bs) 0) (left-most most (drop (optionSize bs) bs) (foundWith f bs))
-  where
-    go : (t : Bool) → walkedOf most (drop (optionSize bs) bs) (foundWith f bs) .left ≤ length (drop (optionSize bs) bs)
-        → cond t (record { left = length bs; found = f }) (walkedOf most (drop (optionSize bs) bs) (foundWith f bs)) .left ≤ length bs
-    go true h = omega arith
-    go false h = omega (arith, length-drop (optionSize bs) bs)
-
--- where there is an option, a walk leaves fewer bytes
-pub left-falls : (most : ℕ) (bs : List ℕ) (f : Found) → (optionSize bs ≡ 0 → ⊥) → walkedOf (suc most) bs f .left < length bs
-unfolding walkedOf
-left-falls most bs f good =
-    let n = optionSize bs in
-    rw (ne-eqb n 0 good)
-    (omega (arith, left-most most (drop n bs) (foundWith f bs), length-drop n bs, size-fits bs, size-least bs good))
-
--- what the bytes that a walk leaves say, with what is found up to there, is what all bytes say
-pub walk-on : (most : ℕ) (bs : List ℕ) (f : Found)
-    → readOf bs f ≡ readOf (drop (length bs - walkedOf most bs f .left) bs) (walkedOf most bs f .found)
-unfolding walkedOf
-walk-on zero bs f = let none : length bs - length bs ≡ 0 = omega arith in rw none
-walk-on (suc most) bs f = go (eqb (optionSize bs) 0) refl (walk-on most (drop (optionSize bs) bs) (foundWith f bs))
-  where
-    go : (t : Bool) → eqb (optionSize bs) 0 ≡ t
-        → let rest = drop (optionSize bs) bs in
-        let next = foundWith f bs in
-        let v = walkedOf most rest next in
-        let w = cond t (record { left = length bs; found = f }) v in
-        readOf rest next ≡ readOf (drop (length rest - v .left) rest) (v .found)
-        → readOf bs f ≡ readOf (drop (length bs - w .left) bs) (w .found)
-    go true e h = let none : length bs - length bs ≡ 0 = omega arith in rw none
-    go false e h =
-        let n = optionSize bs in
-        let next = foundWith f bs in
-        let w = walkedOf most (drop n bs) next in
-        let part : n + (length (drop n bs) - w .left) ≡ length bs - w .left =
-        omega (arith, left-most most (drop n bs) next, length-drop n bs, size-fits bs) in
-        sym (read-on bs (eqb-false n 0 e) f) ∙ h ∙ rw (drop-drop, part)
+use Rattle.options.specs.SoFar.{sizeAfter, foundWith, walkedOf, readOf}
+use Rattle.options.proofs.Sizes.{size-fits}
+use Rattle.options.proofs.Steps.{optionsWith, read-end, read-bad, read-on}
 
 -- a turn: a walk over the bytes from a place on, which are the part of a slice
-module _ (most at : ℕ) (bs : List ℕ) (f : Found) (within : at ≤ length bs)
+module _ (most at : ℕ) (bs : List ℕ) (f : Found)
     (w : Walked) (is : w ≡ walkedOf (suc most) (take (length bs - at) (drop at bs)) f) where
-  from : w ≡ walkedOf (suc most) (drop at bs) f
-  from = is ∙ rw (part bs at)
+  came : (w .found, w .left) ≡ walked sizeAfter foundWith (suc most) f (take (length bs - at) (drop at bs))
+  unfolding walkedOf
+  came = ap (λ (v : Walked). (v .found, v .left)) is
+
+  fits : (g : Found) (rest : List ℕ) → sizeAfter g rest ≤ length rest
+  fits g rest = size-fits rest
 
   pub turn-left : w .left ≤ length bs - at
-  turn-left = rw from (omega (arith, left-most (suc most) (drop at bs) f, length-drop at bs))
+  turn-left = walks.turn-left sizeAfter foundWith fits most at bs f (w .found, w .left) came
 
   pub turn-falls : (optionSize (drop at bs) ≡ 0 → ⊥) → w .left < length bs - at
-  turn-falls good = rw from (omega (arith, left-falls most (drop at bs) f good, length-drop at bs))
+  turn-falls = walks.turn-falls sizeAfter foundWith fits most at bs f (w .found, w .left) came
 
-  pub turn-on : readOf (drop at bs) f ≡ readOf (drop (length bs - w .left) bs) (w .found)
-  turn-on =
-      let v = walkedOf (suc most) (drop at bs) f in
-      let behind : at + (length (drop at bs) - v .left) ≡ length bs - v .left = omega (arith, left-most (suc most) (drop at bs) f, length-drop at bs) in
-      rw from (walk-on (suc most) (drop at bs) f ∙ rw (drop-drop, behind))
+  pub turn-on : at ≤ length bs → readOf (drop at bs) f ≡ readOf (drop (length bs - w .left) bs) (w .found)
+  turn-on within =
+      walks.turn-on sizeAfter foundWith fits (λ g rest. readOf rest g) (λ g rest good. sym (read-on rest good g)) most at bs f within
+      (w .found, w .left) came
 
 -- where there is no option, the options are whole if no byte is left
 pub read-none : (bs : List ℕ) (f : Found) → optionSize bs ≡ 0 → optionsWith (eqb (length bs) 0) f ≡ readOf bs f

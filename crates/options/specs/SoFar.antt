@@ -1,9 +1,8 @@
 -- What a walk over the options has found so far. Only functions of the crate's own cite this.
-use Prim.Native.Nat.{ℕ, zero, suc}
+use Prim.Native.Nat.{ℕ}
 use mathlib.Core.List.{List, [], _∷_, _++_, map}
-use mathlib.Core.Bool.{cond, _||_}
-use lib.ListN.{length, drop}
-use lib.Dec.{eqb}
+use mathlib.Core.Bool.{_||_}
+use Rattle.lists.specs.Walks.{walked}
 use Rattle.options.specs.declared.Smallest.{Smallest}
 use Rattle.options.specs.declared.Smallest.the-variants.{Seconds, NoneCounts}
 use Rattle.options.specs.declared.Options.{Options}
@@ -26,12 +25,17 @@ unfoldable pub foundWith : Found → List ℕ → Found
 foundWith found bs =
     record { smallest = shorterOf (found .smallest) (lifetimeOf bs); «source_link_layer» = found .«source_link_layer» || isSourceLinkLayer bs }
 
--- what a walk over at most so many options leaves: the count of the bytes behind them, and what is found so far and in them
+-- the bytes that the first option takes, whatever is found before it
+abbrev pub sizeAfter : Found → List ℕ → ℕ
+sizeAfter found bs = optionSize bs
+
+-- what a walk leaves: what is found so far and in its options, and the count of the bytes behind them
+abbrev pub walkedTo : Found × ℕ → Walked
+walkedTo w = record { left = w .1; found = w .0 }
+
+-- what a walk over at most so many options leaves
 unfoldable pub walkedOf : ℕ → List ℕ → Found → Walked
-walkedOf zero bs found = record { left = length bs; found = found }
-walkedOf (suc most) bs found =
-    let size = optionSize bs in
-    cond (eqb size 0) (record { left = length bs; found = found }) (walkedOf most (drop size bs) (foundWith found bs))
+walkedOf most bs found = walkedTo (walked sizeAfter foundWith most found bs)
 
 -- what all options say, with what is found so far
 abbrev pub readOf : List ℕ → Found → Options

@@ -3,14 +3,15 @@
 use borrow.Author.Needs.{needs}
 use denote.Ref.{now}
 use native.Mathlib.Omega.{arith}
-use mathlib.Core.Path.{sym, _∙_}
+use mathlib.Core.Path.{sym, ap, _∙_}
 use Prim.Native.Nat.{ℕ, _-_, _<_}
 use lib.ListN.{length, drop, length-take, length-drop}
 use borrow.Fn.Kinds.{In}
 use borrow.Fn.PlainCycle.{Measures, is, falls, and}
+use Rattle.lists.proofs.Parts.{rest-from}
+use Rattle.lists.proofs.Walks.{walked-none, walked-end, walked-step}
+use Rattle.options.specs.SoFar.{sizeAfter, foundWith, walkedTo, walkedOf}
 use Rattle.options.proofs.Sizes.{size-fits, size-least}
-use Rattle.options.proofs.Steps.{part}
-use Rattle.options.proofs.Walks.{walked-none, walked-end, walked-step}
 use Rattle.options.proofs.walk.Reads as walk
 use Rattle.options.proofs.walk.Kinds as walk-kinds
 use Rattle.options.proofs.+walk.Lts-walk as walk-lts
@@ -40,15 +41,17 @@ known t = (
 )
 
 returns : (t : ℕ) → walk-lts.Need-returns (known t) (walk-at t) walk.Post
+unfolding walkedOf
 returns t c =
     let a = c .before .before .args in
-    walked-none (a .most) (now (a .rest)) (a .found) (c .if1 .taken)
+    ap walkedTo (sym (walked-none sizeAfter foundWith (a .most) (a .found) (now (a .rest)) (c .if1 .taken)))
 
 returns-2 : (t : ℕ) → walk-lts.Need-returns-2 (known t) (walk-at t) walk.Post
+unfolding walkedOf
 returns-2 t c =
     let b = c .before in
     let a = b .before .before .before .args in
-    walked-end (a .most) (now (a .rest)) (a .found) (sym (b .option-size .ensures) ∙ c .if2 .taken)
+    ap walkedTo (sym (walked-end sizeAfter foundWith (a .most) (a .found) (now (a .rest)) (sym (b .option-size .ensures) ∙ c .if2 .taken)))
 
 -- the first option lies within the bytes, and is at least 8 bytes long
 first : (t : ℕ) → walk-lts.Need-with-option-requires (known t) (walk-at t) walk.Post
@@ -76,13 +79,14 @@ below t c κs =
     (omega (arith, b .option-size .ensures, size-fits bs, length-take (length bs - n) (drop n bs), length-drop n bs), tt)
 
 returns-3 : (t : ℕ) → walk-lts.Need-returns-3 (known t) (walk-at t) walk.Post
+unfolding walkedOf
 returns-3 t c =
     let b = c .before .before .before in
     let e = b .before .option-size .ensures in
     let a = b .before .before .before .before .args in
     c .walk .ensures
-    ∙ rw (part (now (a .rest)) _, c .before .before .with-option .ensures, e)
-    (walked-step (a .most) (now (a .rest)) (a .found) (b .before .before .if1 .left) (λ z. b .if2 .left (e ∙ z)))
+    ∙ rw (rest-from _ (now (a .rest)), c .before .before .with-option .ensures, e)
+    (ap walkedTo (sym (walked-step sizeAfter foundWith (a .most) (a .found) (now (a .rest)) (b .before .before .if1 .left) (λ z. b .if2 .left (e ∙ z)))))
 
 pub +walk-spec : {M : Type 1} → statement M
 +walk-spec = close μ-walk λ t. walk-lts.spec (known t) (walk-at t) walk.Post

@@ -5,9 +5,9 @@ use native.Mathlib.Omega.{arith}
 use Prim.Native.Nat.{_-_, _≤_}
 use mathlib.Core.Path.{_≡_, sym, _∙_}
 use lib.ListN.{length, drop}
+use Rattle.lists.proofs.Parts.{rest-from}
 use Rattle.options.specs.Options.{optionSize}
 use Rattle.options.specs.SoFar.{readOf}
-use Rattle.options.proofs.Steps.{part}
 use Rattle.options.proofs.Walks.{turn-left, turn-falls, turn-on, read-at}
 use Rattle.options.proofs.read.Statement.{statement}
 use Rattle.options.proofs.read.Tie as tie
@@ -25,7 +25,7 @@ loop-holds c = (omega arith, c .option-size .ensures, cc)
 sub-at : tie.Need-sub-at Inv-loop μ-loop
 sub-at c =
     let l = c .before .before .before .before in
-    let left = turn-left _ (l .loop .at) (c .before .before .before .before .before .before .before .args .options .now) (l .loop .found) (l .loop .inv .0) (c .before .walk .result) (c .before .walk .ensures) in
+    let left = turn-left _ (l .loop .at) (c .before .before .before .before .before .before .before .args .options .now) (l .loop .found) (c .before .walk .result) (c .before .walk .ensures) in
     omega arith
 
 loop-less : tie.Need-loop-less Inv-loop μ-loop
@@ -34,7 +34,7 @@ loop-less c =
     let l = w .before .before .before in
     let bs = l .before .before .before .args .options .now in
     let at-option : optionSize (drop (l .loop .at) bs) ≡ 0 → ⊥ = λ (z : optionSize (drop (l .loop .at) bs) ≡ 0). (let size = l .loop .inv .1 in omega arith) in
-    let falls = turn-falls _ (l .loop .at) bs (l .loop .found) (l .loop .inv .0) (w .walk .result) (w .walk .ensures) at-option in
+    let falls = turn-falls _ (l .loop .at) bs (l .loop .found) (w .walk .result) (w .walk .ensures) at-option in
     omega arith
 
 loop-again : tie.Need-loop-again Inv-loop μ-loop
@@ -42,7 +42,7 @@ loop-again c =
     let w = c .before .before .before .before in
     let l = w .before .before .before in
     let bs = l .before .before .before .args .options .now in
-    (omega arith, c .option-size2 .ensures ∙ rw (part bs _), l .loop .inv .2 ∙ turn-on _ (l .loop .at) bs (l .loop .found) (l .loop .inv .0) (w .walk .result) (w .walk .ensures))
+    (omega arith, c .option-size2 .ensures ∙ rw (rest-from _ bs), l .loop .inv .2 ∙ turn-on _ (l .loop .at) bs (l .loop .found) (w .walk .result) (w .walk .ensures) (l .loop .inv .0))
 
 returns : tie.Need-returns Inv-loop μ-loop
 returns c =
