@@ -9,6 +9,7 @@ pub mod NewList
 pub mod RightSettings
 pub mod Readings
 pub mod Two
+pub mod BehindHeaders
 pub mod Fair
 pub mod RoundTrip
 pub mod Corrected

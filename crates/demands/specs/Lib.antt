@@ -2,6 +2,7 @@ pub mod Calls
 pub mod One
 pub mod Readings
 pub mod Two
+pub mod BehindHeaders
 pub mod Plain
 pub mod Sender
 pub mod Three

@@ -1,12 +1,13 @@
--- What a packet's chain decides about its message holds of every packet. Assumes nothing.
-use Prim.Native.Nat.{ℕ, _<_}
+-- Which chains of headers draw no message, whatever the packet's source; and what is drawn where there is no extension header.
+-- Assumes nothing.
+use Prim.Native.Nat.{ℕ, _≤_, _<_}
 use mathlib.Core.Path.{_≡_, refl, _∙_}
 use mathlib.Core.Bool.{Bool, true, false, not, _&&_, _||_, and-false}
 use mathlib.Core.List.{List}
 use native.Mathlib.Omega.{arith}
 use lib.ListN.{getD, length, drop, length-drop}
 use lib.Seq.{getD-drop}
-use lib.Dec.{eqb}
+use lib.Dec.{eqb, ltb}
 use borrow.Author.Tests.{lt-ltb, ne-eqb}
 use Rattle.address.specs.Address.{isMulticastOrUnspecified}
 use Rattle.lists.proofs.Decides.{refutes}
@@ -14,14 +15,13 @@ use Rattle.header.specs.Numbers.{innerHeader, icmpv6}
 use Rattle.header.specs.Fields.{addressAt}
 use Rattle.header.specs.Chain.{isErrorOrRedirect, isQuiet, chainMayDraw}
 use Rattle.header.specs.Inner.{mayDrawError}
-use Rattle.header.specs.Draws.{UpperLayer, Chain}
-use Rattle.header.specs.ByChain.{mayDrawByFirst, DrawnByChain}
+use Rattle.header.specs.Draws.{UpperLayer, Chain, OffsetsZero, ErrorOrRedirect}
 use Rattle.header.proofs.ChainLaws.{chain-upper}
 use Rattle.header.proofs.ChainFacts.{upper-layer, headers-none, headers-later}
 use Rattle.header.proofs.DrawsLaws.{decides-harmless, decides-draws}
 
 module _ (p : List ℕ) where
-  -- a chain that draws none, whatever the source
+  -- a chain that draws none
   silent : chainMayDraw (getD p 6 0) (drop innerHeader p) ≡ false → mayDrawError p ≡ false
   unfolding mayDrawError
   silent e = rw e (and-false (not (isMulticastOrUnspecified (addressAt p 8))))
@@ -32,15 +32,33 @@ module _ (p : List ℕ) where
       silent
       (rw (c .bytes) (headers-none (drop at p) (getD p 6 0) hs upper (c .headers) (chain-upper upper (drop at p) (upper-layer upper (c .ends)) ∙ e)))
 
+  -- ICMPv6 behind the headers, an error or a redirect
+  pub error-silent : (hs : List (List ℕ)) (at : ℕ) → Chain p hs 58 at → ErrorOrRedirect p at → mayDrawError p ≡ false
+  error-silent hs at c e = quiet-end hs 58 at c (refutes _ (decides-harmless p 58 at) (λ h. h refl .1 e))
+
+  -- ICMPv6 with no byte left
+  pub empty-silent : (hs : List (List ℕ)) (at : ℕ) → Chain p hs 58 at → length p ≤ at → mayDrawError p ≡ false
+  empty-silent hs at c short = quiet-end hs 58 at c (refutes _ (decides-harmless p 58 at) (λ h. omega (arith, short, h refl .0)))
+
+  -- a later fragment among the headers
+  pub later-silent : (hs : List (List ℕ)) (upper at : ℕ) → Chain p hs upper at → (OffsetsZero (getD p 6 0) hs → ⊥) → mayDrawError p ≡ false
+  later-silent hs upper at c later = silent (rw (c .bytes) (headers-later (drop at p) (getD p 6 0) hs upper (c .headers) later))
+
+  -- no chain, since it runs past the packet
+  pub past-silent : ((hs : List (List ℕ)) (upper at : ℕ) → Chain p hs upper at → ⊥) → mayDrawError p ≡ false
+  past-silent none = refutes _ (decides-draws p) (λ d. none (d .headers) (d .upper) (d .at) (d .chain))
+
   joined : (a next kind : Bool) → (not a && not (next && (false || kind))) ≡ not (a || (next && true && kind))
   joined true next kind = refl
   joined false true kind = refl
   joined false false kind = refl
 
-  -- without an extension header, the first next header alone
-  by-first : UpperLayer (getD p 6 0) → 40 < length p → mayDrawError p ≡ mayDrawByFirst p
+  -- no extension header, and some payload
+  pub draws-by-first : UpperLayer (getD p 6 0) → 40 < length p
+      → mayDrawError p
+      ≡ not (isMulticastOrUnspecified (addressAt p 8) || (eqb (getD p 6 0) 58 && ltb 40 (length p) && (ltb (getD p 40 0) 128 || eqb (getD p 40 0) 137)))
   unfolding mayDrawError
-  by-first u long =
+  draws-by-first u long =
       rw (
         chain-upper (getD p 6 0) (drop innerHeader p) (upper-layer (getD p 6 0) u),
         ne-eqb (length (drop innerHeader p)) 0 (λ z. omega (arith, z, long, length-drop innerHeader p)),
@@ -48,13 +66,3 @@ module _ (p : List ℕ) where
         getD-drop innerHeader p 0 0,
       )
       (joined (isMulticastOrUnspecified (addressAt p 8)) (eqb (getD p 6 0) icmpv6) (isErrorOrRedirect (getD p 40 0)))
-
-  pub drawn-by-chain : DrawnByChain p
-  drawn-by-chain = record {
-    error = λ hs at c k. quiet-end hs 58 at c (refutes _ (decides-harmless p 58 at) (λ h. h refl .1 k));
-    empty = λ hs at c short. quiet-end hs 58 at c (refutes _ (decides-harmless p 58 at) (λ h. omega (arith, short, h refl .0)));
-    piece = λ hs upper at c n. silent (rw (c .bytes) (headers-later (drop at p) (getD p 6 0) hs upper (c .headers) n));
-    past = λ none. refutes _ (decides-draws p) (λ d. none (d .headers) (d .upper) (d .at) (d .chain));
-    other = λ hs upper at c z h s. decides-draws p .passes (record { unicast = s .0; specified = s .1; headers = hs; upper = upper; at = at; chain = c; first = z; harmless = h });
-    first = by-first;
-  }

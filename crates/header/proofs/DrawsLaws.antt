@@ -11,7 +11,6 @@ use lib.ListN.{getD, length, drop, length-drop}
 use lib.Seq.{getD-drop, drop-drop, drop-append-seam}
 use borrow.Author.Tests.{eq-eqb, ne-eqb}
 use Rattle.address.specs.Address.{isMulticastOrUnspecified}
-use Rattle.address.specs.Facts.{Multicast, Unspecified}
 use Rattle.address.proofs.Facts.{decides-multicast-or-unspecified}
 use Rattle.lists.proofs.Decides.{Decides, decides-eq, decides-lt, decides-or, decides-not, decides-as}
 use Rattle.lists.proofs.Tests.{and-left, and-right}
@@ -19,7 +18,7 @@ use Rattle.header.specs.Numbers.{innerHeader, icmpv6}
 use Rattle.header.specs.Fields.{addressAt}
 use Rattle.header.specs.Chain.{isErrorOrRedirect, isQuiet, chainMayDraw}
 use Rattle.header.specs.Inner.{mayDrawError}
-use Rattle.header.specs.Draws.{Chain, OffsetsZero, ErrorOrRedirect, Harmless, DrawsMessage}
+use Rattle.header.specs.Draws.{Chain, OffsetsZero, ErrorOrRedirect, Harmless, Answerable, DrawsMessage}
 use Rattle.header.proofs.ChainLaws.{chain-upper}
 use Rattle.header.proofs.ChainFacts.{upper-layer, headers-on}
 use Rattle.header.proofs.ChainTaken.{Behind, behind}
@@ -64,8 +63,7 @@ module _ (p : List ℕ) where
     harmless-at : Harmless p (b .upper) at
     harmless-at = decides-harmless p (b .upper) at .holds (rw (rest-at, b .loud))
 
-  -- the source is one that a message can go to
-  pub decides-answerable : Decides (not (isMulticastOrUnspecified (addressAt p 8))) ((Multicast (addressAt p 8) → ⊥) × (Unspecified (addressAt p 8) → ⊥))
+  decides-answerable : Decides (not (isMulticastOrUnspecified (addressAt p 8))) (Answerable p)
   decides-answerable =
       decides-as _ (decides-not _ (decides-multicast-or-unspecified (addressAt p 8))) (λ n. (λ f. n (inl f), λ f. n (inr f))) (λ f. ⊎-elim (f .0) (f .1))
 
@@ -75,11 +73,9 @@ module _ (p : List ℕ) where
     where
       holds : (not (isMulticastOrUnspecified (addressAt p 8)) && chainMayDraw (getD p 6 0) (drop innerHeader p)) ≡ true → DrawsMessage p
       holds t =
-          let source = decides-answerable .holds (and-left _ _ t) in
           let b = behind (length (drop innerHeader p)) (getD p 6 0) (drop innerHeader p) (omega arith) (and-right (not (isMulticastOrUnspecified (addressAt p 8))) _ t) in
           record {
-            unicast = source .0;
-            specified = source .1;
+            source = decides-answerable .holds (and-left _ _ t);
             headers = b .hs;
             upper = b .upper;
             at = 40 + length (flatten (b .hs));
@@ -90,5 +86,5 @@ module _ (p : List ℕ) where
 
       passes : DrawsMessage p → (not (isMulticastOrUnspecified (addressAt p 8)) && chainMayDraw (getD p 6 0) (drop innerHeader p)) ≡ true
       passes d =
-          rw (decides-answerable .passes (d .unicast, d .specified))
+          rw (decides-answerable .passes (d .source))
           (chain-draws (d .headers) (d .upper) (d .at) (d .chain) (d .first) ∙ decides-harmless p (d .upper) (d .at) .passes (d .harmless))

@@ -6,6 +6,7 @@ pub mod ChainFacts
 pub mod ChainTaken
 pub mod DrawsLaws
 pub mod ByChain
+pub mod Examples
 pub mod Padded
 pub mod WriterLaws
 pub mod Right

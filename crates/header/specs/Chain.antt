@@ -27,24 +27,28 @@ destinationOptions = 60
 abbrev pub isExtension : ℕ → Bool
 isExtension next = eqb next hopByHop || eqb next routing || eqb next fragment || eqb next destinationOptions
 
+-- RFC 2460, 4.3 to 4.6: a header's length counts units of 8 bytes, without the first; a fragment header is one
+abbrev pub extensionUnit : ℕ
+extensionUnit = 8
+
 -- R25.2, R25.3: (second byte + 1) · 8 bytes; a fragment header always 8
 abbrev pub extensionLength : ℕ → List ℕ → ℕ
-extensionLength next bs = cond (eqb next fragment) 8 ((getD bs 1 0 + 1) * 8)
+extensionLength next bs = cond (eqb next fragment) extensionUnit ((getD bs 1 0 + 1) * extensionUnit)
 
 -- R25.6: a fragment with offset not 0; the offset is the high 13 of the 16 bits at 2 (RFC 2460, 4.5)
 abbrev pub isLaterFragment : ℕ → List ℕ → Bool
 isLaterFragment next bs = eqb next fragment && not (eqb (wordAt bs 2 / 8) 0)
 
--- R8.2 (RFC 4443, 2.4 (e)): the type is below 128 or is 137
+-- R25.5 (RFC 4443, 2.1 and 2.4 (e)): the type of an error, below 128, or of a redirect, 137
 abbrev pub isErrorOrRedirect : ℕ → Bool
 isErrorOrRedirect kind = ltb kind 128 || eqb kind 137
 
--- an upper layer that draws no message: ICMPv6 with no byte left (R25.5), an ICMPv6 error or a redirect
+-- R25.5: an upper layer that draws no message: ICMPv6 with no byte left, an ICMPv6 error or a redirect
 abbrev pub isQuiet : ℕ → List ℕ → Bool
 isQuiet next bs = eqb next icmpv6 && (eqb (length bs) 0 || isErrorOrRedirect (getD bs 0 0))
 
--- whether a message may be drawn by what follows, of which the first has the number `next`; k bytes of the header before are still to be
--- passed, and a chain that runs past the packet draws none (R25.4)
+-- whether a message may be drawn by these bytes, of which the first header has the number `next`; k bytes of the header before are still to
+-- be passed, and a chain that runs past the packet draws none (R25.4)
 unfoldable pub mayDrawFrom : ℕ → ℕ → List ℕ → Bool
 mayDrawFrom (suc k) next [] = false
 mayDrawFrom (suc k) next (b ∷ bs) = mayDrawFrom k next bs

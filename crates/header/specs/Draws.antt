@@ -49,10 +49,13 @@ ErrorOrRedirect p at = (getD p at 0 < 128) ⊎ (getD p at 0 ≡ 137)
 abbrev pub Harmless : List ℕ → ℕ → ℕ → Type 0
 Harmless p upper at = upper ≡ 58 → (at < length p) × (ErrorOrRedirect p at → ⊥)
 
--- a packet whose source is neither multicast nor `::`, and whose chain is whole, has no later fragment, and ends harmless
+-- a message can go to the packet's source: it is neither multicast nor `::`
+abbrev pub Answerable : List ℕ → Type 0
+Answerable p = (Multicast (addressAt p 8) → ⊥) × (Unspecified (addressAt p 8) → ⊥)
+
+-- a packet to whose source a message can go, and whose chain is whole, has no later fragment, and ends harmless
 pub record DrawsMessage (p : List ℕ) : Type 0 where
-  pub unicast : Multicast (addressAt p 8) → ⊥
-  pub specified : Unspecified (addressAt p 8) → ⊥
+  pub source : Answerable p
   pub headers : List (List ℕ)
   pub upper : ℕ
   pub at : ℕ

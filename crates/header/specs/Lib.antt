@@ -7,4 +7,3 @@ pub mod Inner
 pub mod Wrap
 pub mod Whole
 pub mod Draws
-pub mod ByChain

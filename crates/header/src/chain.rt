@@ -15,7 +15,7 @@ const FRAGMENT: u8 = 44;
 
 const DESTINATION_OPTIONS: u8 = 60;
 
-// A header's length counts units of 8 bytes, without the first; a fragment header is one, and its offset counts them (RFC 2460, 4.3 to 4.6).
+// A header's length counts units of 8 bytes, without the first; a fragment header is one (RFC 2460, 4.3 to 4.6).
 const UNIT: usize = 8;
 
 // How many headers one walk passes at most. A walk makes a call for each of them, and so needs the same stack whatever the packet is.

@@ -1,0 +1,64 @@
+-- What a packet's chain of headers means for a sending, by demand 2 and by what the chain decides. Assumes nothing.
+use Prim.Native.Nat.{ℕ, _≤_}
+use mathlib.Core.Path.{_≡_, refl, ap}
+use mathlib.Core.Bool.{Bool, true, false, cond}
+use mathlib.Core.List.{List}
+use native.Mathlib.Omega.{arith}
+use lib.Dec.{ltb}
+use lib.ListN.{getD, length}
+use borrow.Author.Tests.{ltb-true}
+use Rattle.lists.proofs.Decides.{fails}
+use Rattle.header.specs.Inner.{mayDrawError}
+use Rattle.header.specs.Draws.{UpperLayer}
+use Rattle.header.proofs.DrawsLaws.{decides-draws}
+use Rattle.header.proofs.ByChain.{error-silent, empty-silent, later-silent, past-silent, draws-by-first}
+use Rattle.paths.specs.Packets.{largestPacket}
+use Rattle.refusals.specs.Refusals.{stopOr}
+use Rattle.settings.specs.Locators.{addressOf}
+use Rattle.settings.specs.Settings.{locatorOf}
+use Rattle.sending.specs.Plan.{sendCheck, sizedPlan, planOf}
+use Rattle.sending.specs.declared.judging.Plan.{Plan}
+use Rattle.sending.specs.declared.judging.Plan.the-variants.{Wrap, Tell, Silent, Refuse}
+use Rattle.settings.specs.declared.Settings.{Settings}
+use Rattle.node.specs.Send.{pathSizeToward}
+use Rattle.node.specs.declared.Node.{Node}
+use Rattle.demands.specs.BehindHeaders.{mayDrawByFirst, planByFirst, Due, Tells, BehindHeaders}
+use Rattle.demands.proofs.Two.{demand-two}
+
+-- M is 1,280 at least
+largest-least : (P : ℕ) → 1280 ≤ largestPacket P
+unfolding largestPacket
+largest-least P = omega arith
+
+-- a packet that is longer than M has payload
+by-first : (s : Settings) (P : ℕ) (packet hop : List ℕ) (k : ℕ) → UpperLayer (getD packet 6 0) → planOf s P packet hop k ≡ planByFirst s P packet hop k
+unfolding planOf sizedPlan
+by-first s P packet hop k u =
+    ap (λ (plan : Plan). stopOr Refuse (sendCheck s packet hop k) plan) (go (ltb (largestPacket P) (length packet)) refl)
+  where
+    go : (t : Bool) → ltb (largestPacket P) (length packet) ≡ t
+        → _≡_ {A = Plan}
+        (cond t (cond (mayDrawError packet) (Tell (largestPacket P)) (Silent (largestPacket P))) (Wrap (addressOf (locatorOf s k))))
+        (cond t (cond (mayDrawByFirst packet) (Tell (largestPacket P)) (Silent (largestPacket P))) (Wrap (addressOf (locatorOf s k))))
+    go true e = rw (draws-by-first packet u (omega (arith, ltb-true (largestPacket P) (length packet) e, largest-least P)))
+    go false e = refl
+
+module _ (n : Node) (packet hop : List ℕ) (k time : ℕ) (out : List ℕ) where
+  -- where no message is drawn
+  silent : (M : ℕ) → Due n packet hop k time out M → mayDrawError packet ≡ false → Tells n packet hop k time out M 0 out
+  silent M due none =
+      let e = demand-two .calls n .sends packet hop k time out .exactly .tooBig .silent M due (fails (mayDrawError packet) (decides-draws packet) none) in
+      (e .0 .0, e .1)
+
+  pub behind-headers : BehindHeaders n packet hop k time out
+  behind-headers = record {
+    error = λ M hs at due c e. silent M due (error-silent packet hs at c e);
+    empty = λ M hs at due c short. silent M due (empty-silent packet hs at c short);
+    piece = λ M hs upper at due c later. silent M due (later-silent packet hs upper at c later);
+    past = λ M due none. silent M due (past-silent packet none);
+    other = λ M hs upper at due c first harmless source room.
+        (let e = demand-two .calls n .sends packet hop k time out .exactly .tooBig .told M due
+        (record { source = source; headers = hs; upper = upper; at = at; chain = c; first = first; harmless = harmless }) room in
+        (e .0 .0, e .1));
+    first = by-first (n .service .settings) (pathSizeToward n hop time) packet hop k;
+  }
