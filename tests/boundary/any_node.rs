@@ -1,6 +1,7 @@
 //! Nodes of any bytes, as a caller in C can hand them over: no call goes wrong on one. What holds of every node is checked: an answer
 //! is one of the call's numbers, a refusal leaves the output alone and changes the latest time only, but for what a piece may change; a part
-//! lies in the datagram or in the memory; and answer, node and output are the same when the call is made once more elsewhere in memory.
+//! lies in the datagram or in the memory; 14 has a message exactly where the packet draws one; and answer, node and output are the same
+//! when the call is made once more elsewhere in memory.
 
 use crate::advertised;
 use crate::check::{hex, same, Check};
@@ -8,7 +9,8 @@ use crate::nodes::may_change;
 use crate::packets::{self, put};
 use crate::pieces;
 use crate::plain::pieces::{Key, MEMORY, ROOM};
-use crate::totals::{Call, JOINED};
+use crate::plain::rules::unanswered;
+use crate::totals::{Call, JOINED, TOO_BIG_SILENT};
 use bogtrumpet::raw::{self, Address, Addresses, Node, Service};
 use std::fmt::Debug;
 use std::hint::black_box;
@@ -21,7 +23,10 @@ pub fn any_node(check: &mut Check) {
     let number = check.random.one_of(&[0, 7, 8, usize::MAX]);
     let source = packets::address(&[0xfe, 0x80, 0, 0, 0, 0, 0, 0], 0, router);
     let length = check.random.one_of(&[40, 60, 100, 1280, 1281, 1500]);
-    let packet = packets::packet(&mut check.random, length, 58, &source);
+    let mut packet = packets::packet(&mut check.random, length, 58, &source);
+    if check.random.once_in(2) {
+        packets::random_chain(&mut check.random, &mut packet);
+    }
 
     let datagram = packets::datagram(&mut check.random, (router, locator.address), 0, &packet, 3);
     let room = check.random.one_of(&[MEMORY, MEMORY, MEMORY, MEMORY + 7, MEMORY - 1, 0]);
@@ -123,6 +128,13 @@ fn writing(check: &mut Check, node: &Node, packet: &[u8], next_hop: Address, loc
     let longest = sent.answer.length.max(sent.answer.message_length);
     same("length in the room", &true, &(longest <= room), &|| tried.words());
     tried.count(check, sent.answer.number, &[0, 8, 11, 12, 13, 14, 15, 23]);
+    if sent.answer.number == 14 {
+        let length = if unanswered(packet) { 0 } else { 1280 };
+        same("length of the message", &length, &sent.answer.message_length, &|| tried.words());
+        if length == 0 {
+            check.totals.count(Call::AnyNode, TOO_BIG_SILENT);
+        }
+    }
 
     let tried = Tried { node, bytes: &[], memory: None, room, time, name: "ask" };
     let asked = tried.twice(check, |node, _, out| node.ask(locator, time, out));

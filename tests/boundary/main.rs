@@ -11,6 +11,7 @@
 mod advertise_edges;
 mod advertised;
 mod any_node;
+mod chain_edges;
 mod check;
 mod edges;
 mod faults;
@@ -50,6 +51,7 @@ fn compare(check: &mut Check, calls: u64, with_edges: bool) {
     faults::faults(check);
     if with_edges {
         edges::edges(check);
+        chain_edges::edges(check);
         advertise_edges::edges(check);
         piece_edges::edges(check);
         rules::edges(check);
