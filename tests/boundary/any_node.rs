@@ -11,14 +11,14 @@ use crate::pieces;
 use crate::plain::pieces::{Key, MEMORY, ROOM};
 use crate::plain::rules::unanswered;
 use crate::totals::{Call, JOINED, TOO_BIG_SILENT};
-use bogtrumpet::raw::{self, Address, Addresses, Node, Service};
+use bogtrumpet::raw::{self, Address, Addresses, Locator, Node, Service};
 use std::fmt::Debug;
 use std::hint::black_box;
 
 /// Every call on one such node, with bytes that suit its first locator and router.
 pub fn any_node(check: &mut Check) {
     let node = node(check);
-    let (locator, router) = (node.service.settings.locators[0], node.service.routers.routers[0].address);
+    let (locator, router) = ends(&node);
     let time = check.random.next() as u32;
     let number = check.random.one_of(&[0, 7, 8, usize::MAX]);
     let source = packets::address(&[0xfe, 0x80, 0, 0, 0, 0, 0, 0], 0, router);
@@ -27,18 +27,7 @@ pub fn any_node(check: &mut Check) {
     if check.random.once_in(2) {
         packets::random_chain(&mut check.random, &mut packet);
     }
-
-    let datagram = packets::datagram(&mut check.random, (router, locator.address), 0, &packet, 3);
-    let room = check.random.one_of(&[MEMORY, MEMORY, MEMORY, MEMORY + 7, MEMORY - 1, 0]);
-    let mut memory = check.pattern(room);
-    receiving(check, &node, &datagram, locator.interface, time, &memory);
-    for source in [router, router, 0x0a01_0001] {
-        let key = Key { source, destination: locator.address, identification: 1, protocol: 41 };
-        let (node, piece) = on_its_way(check, &node, key, &packet, time);
-        // Some places hold the packet.
-        memory.chunks_exact_mut(ROOM).filter(|_| check.random.once_in(3)).for_each(|place| put(place, 0, &packet));
-        receiving(check, &node, &piece, locator.interface, time, &memory);
-    }
+    arriving(check, &node, &packet, time);
 
     let size = check.random.next() as u16;
     let message = packets::size_report(&mut check.random, size, 1500, (locator.address, router), 0, 8);
@@ -64,6 +53,27 @@ pub fn any_node(check: &mut Check) {
     same("node", &node, &size.node, &|| tried.words());
     check.totals.count(Call::AnyNode, 0);
     writing(check, &node, &packet, Address { bytes: source }, number, time);
+}
+
+/// The first locator of the node, and its first router.
+fn ends(node: &Node) -> (Locator, u32) {
+    (node.service.settings.locators[0], node.service.routers.routers[0].address)
+}
+
+/// A datagram with the packet, and pieces of it.
+fn arriving(check: &mut Check, node: &Node, packet: &[u8], time: u32) {
+    let (locator, router) = ends(node);
+    let datagram = packets::datagram(&mut check.random, (router, locator.address), 0, packet, 3);
+    let room = check.random.one_of(&[MEMORY, MEMORY, MEMORY, MEMORY + 7, MEMORY - 1, 0]);
+    let mut memory = check.pattern(room);
+    receiving(check, node, &datagram, locator.interface, time, &memory);
+    for source in [router, router, 0x0a01_0001] {
+        let key = Key { source, destination: locator.address, identification: 1, protocol: 41 };
+        let (node, piece) = on_its_way(check, node, key, packet, time);
+        // Some places hold the packet.
+        memory.chunks_exact_mut(ROOM).filter(|_| check.random.once_in(3)).for_each(|place| put(place, 0, packet));
+        receiving(check, &node, &piece, locator.interface, time, &memory);
+    }
 }
 
 fn receiving(check: &mut Check, node: &Node, datagram: &[u8], interface: u8, time: u32, memory: &[u8]) {
