@@ -37,9 +37,9 @@
 #include <stddef.h>
 #include <stdint.h>
 
-#define BOGTRUMPET_VERSION "0.4.0"
+#define BOGTRUMPET_VERSION "0.5.0"
 #define BOGTRUMPET_VERSION_MAJOR 0
-#define BOGTRUMPET_VERSION_MINOR 4
+#define BOGTRUMPET_VERSION_MINOR 5
 #define BOGTRUMPET_VERSION_PATCH 0
 
 /* A compiler that can warns where an answer is not looked at. */
@@ -97,7 +97,7 @@ enum bogtrumpet_number {
     BOGTRUMPET_NO_LOCATOR = 11,             /* no locator of that number */
     BOGTRUMPET_NEXT_HOP_NOT_ISATAP = 12,    /* next hop is no ISATAP address */
     BOGTRUMPET_TUNNEL_END_FORBIDDEN = 13,   /* tunnel end forbidden, or a locator's address */
-    BOGTRUMPET_TOO_BIG = 14,                /* packet above the size that passes; carries that size and a message */
+    BOGTRUMPET_TOO_BIG = 14,                /* packet above the size that passes; carries that size and a message's length */
     BOGTRUMPET_OUTPUT_SHORT = 15,           /* lent output too short for what would be written, or lent memory too short */
     BOGTRUMPET_REPORT_MALFORMED = 16,       /* no well-formed size report */
     BOGTRUMPET_QUOTE_NOT_OURS = 17,         /* the quote is not of our sending */
@@ -342,7 +342,9 @@ BOGTRUMPET_CHECKED struct bogtrumpet_received bogtrumpet_receive(struct bogtrump
                                                                  uint8_t *memory, size_t room);
 
 /* Wraps an IPv6 packet for the next hop, from the numbered locator (from 0) (R7). A packet above the size that passes gets 14, and an
-   ICMPv6 Packet Too Big of 1,280 bytes in the output, unless none may be sent to its source (R8).
+   ICMPv6 Packet Too Big of 1,280 bytes in the output (R8). None is written, whatever the room, where the packet's source is multicast or
+   ::; where behind its extension headers (hop-by-hop options, routing, fragment, destination options) an ICMPv6 error or redirect stands,
+   or ICMPv6 with no byte left; where these headers run past the packet; or where one is of a fragment whose offset is not 0 (R8.2, R25).
    Numbers, in this order: 8 (also where the length is not 40 + payload length), 11, 12, 13, 14, 23, 15; 15 in the place of 14
    where the message does not fit. 23 does not come on a node made from accepted settings. */
 BOGTRUMPET_CHECKED struct bogtrumpet_sent bogtrumpet_send(struct bogtrumpet_node *node, const uint8_t *packet,
@@ -448,8 +450,9 @@ BOGTRUMPET_CHECKED struct bogtrumpet_received bogtrumpet_unwrap(const uint8_t *d
 BOGTRUMPET_CHECKED struct bogtrumpet_written bogtrumpet_wrap(struct bogtrumpet_outer outer, const uint8_t *packet,
                                                              size_t length, uint8_t *out, size_t room);
 
-/* Writes an ICMPv6 Packet Too Big about the packet, to its source, whoever that is (R8.1): 48 bytes, then the packet's first 1,232, or
-   all where it has fewer. Numbers, in this order: 8 (the packet is under 40 bytes), 15. */
+/* Writes an ICMPv6 Packet Too Big about the packet, whatever it holds, to its source, whoever that is (R8.1): 48 bytes, then the packet's
+   first 1,232, or all where it has fewer. Whether one may be sent, bogtrumpet_send alone judges (R8.2).
+   Numbers, in this order: 8 (the packet is under 40 bytes), 15. */
 BOGTRUMPET_CHECKED struct bogtrumpet_written bogtrumpet_too_big(struct bogtrumpet_address reporting, uint16_t size,
                                                                 const uint8_t *packet, size_t length, uint8_t *out,
                                                                 size_t room);

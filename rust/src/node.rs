@@ -42,8 +42,11 @@ pub enum Sent<'o> {
     TooBig {
         /// The largest packet that passes.
         size: u16,
-        /// An ICMPv6 Packet Too Big, an IPv6 packet for the sender of the packet, as the part of the output that was written; `None`
-        /// where none may be sent.
+        /// An ICMPv6 Packet Too Big, an IPv6 packet for the sender of the packet, as the part of the output that was written.
+        ///
+        /// `None` where none may be sent: where the packet's source is multicast or `::`; where behind its extension headers (hop-by-hop
+        /// options, routing, fragment, destination options) an ICMPv6 error or redirect stands, or ICMPv6 with no byte left; where these
+        /// headers run past the packet; or where one is of a fragment whose offset is not 0.
         message: Option<&'o [u8]>,
     },
 }
@@ -125,7 +128,8 @@ impl Node {
     /// # Errors
     /// In this order: [`Refusal::InnerMalformed`], [`Refusal::NoLocator`], [`Refusal::NextHopNotIsatap`],
     /// [`Refusal::TunnelEndForbidden`], [`Refusal::WrappedTooLong`] (on no node that this interface makes), [`Refusal::OutputShort`].
-    /// [`Sent::TooBig`] is judged before the last two; it too needs an output that its message fits in. The output is then as it was.
+    /// [`Sent::TooBig`] is judged before the last two; it too needs an output that its message fits in, if it has one. The output is then
+    /// as it was.
     #[inline]
     pub fn send<'o>(
         &mut self,

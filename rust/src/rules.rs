@@ -128,7 +128,8 @@ pub fn wrap<'o>(outer: &Outer, packet: &[u8], out: &'o mut [u8]) -> Result<&'o [
     part(written, out)
 }
 
-/// Writes an ICMPv6 Packet Too Big about the packet, to its source, whoever that is, and gives the part of the output that was written.
+/// Writes an ICMPv6 Packet Too Big about the packet, whatever it holds, to its source, whoever that is, and gives the part of the output
+/// that was written. Whether one may be sent, [`Node::send`](crate::Node::send) alone judges.
 ///
 /// # Errors
 /// In this order: [`Refusal::InnerMalformed`] (under 40 bytes), [`Refusal::OutputShort`].

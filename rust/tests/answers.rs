@@ -195,6 +195,36 @@ fn sending() {
 }
 
 #[test]
+fn too_big_behind_extension_headers() {
+    let mut node = node();
+    let to = link_local(NEIGHBOUR);
+    // Destination options of 16 bytes, then a fragment header, then ICMPv6.
+    let mut behind = packet(1481, link_local(OWN));
+    behind[6] = 60;
+    behind[40..42].copy_from_slice(&[44, 1]);
+    behind[56..60].copy_from_slice(&[58, 7, 0, 1]);
+    let mut out = [0x55; 1600];
+    let mut send = |changes: &[(usize, u8)], room: usize| {
+        let mut packet = behind.clone();
+        for &(at, value) in changes {
+            packet[at] = value;
+        }
+        match node.send(&packet, to, 0, 5, &mut out[..room])? {
+            Sent::TooBig { size: 1480, message } => Ok(message.map(<[u8]>::len)),
+            other => panic!("1481 bytes are too big: {other:?}"),
+        }
+    };
+    // An echo request draws a message, an error and a redirect none.
+    for (kind, drawn) in [(128, Some(1280)), (1, None), (137, None)] {
+        assert_eq!(send(&[(64, kind)], 1600), Ok(drawn));
+        assert_eq!(send(&[(64, kind)], 1279), drawn.map_or(Ok(None), |_| Err(Refusal::OutputShort)));
+    }
+    // A later fragment, and options that run past the packet.
+    assert_eq!(send(&[(64, 128), (59, 8)], 0), Ok(None));
+    assert_eq!(send(&[(64, 128), (41, 255)], 0), Ok(None));
+}
+
+#[test]
 fn reports() {
     let mut node = node();
     assert_eq!(node.report(&[], 1), Err(Refusal::ReportMalformed));

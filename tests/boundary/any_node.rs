@@ -1,6 +1,7 @@
 //! Nodes of any bytes, as a caller in C can hand them over: no call goes wrong on one. What holds of every node is checked: an answer
 //! is one of the call's numbers, a refusal leaves the output alone and changes the latest time only, but for what a piece may change; a part
-//! lies in the datagram or in the memory; and answer, node and output are the same when the call is made once more elsewhere in memory.
+//! lies in the datagram or in the memory; 14 has a message exactly where the packet draws one; and answer, node and output are the same
+//! when the call is made once more elsewhere in memory.
 
 use crate::advertised;
 use crate::check::{hex, same, Check};
@@ -8,32 +9,25 @@ use crate::nodes::may_change;
 use crate::packets::{self, put};
 use crate::pieces;
 use crate::plain::pieces::{Key, MEMORY, ROOM};
-use crate::totals::{Call, JOINED};
-use bogtrumpet::raw::{self, Address, Addresses, Node, Service};
+use crate::plain::rules::unanswered;
+use crate::totals::{Call, JOINED, TOO_BIG_SILENT};
+use bogtrumpet::raw::{self, Address, Addresses, Locator, Node, Service};
 use std::fmt::Debug;
 use std::hint::black_box;
 
 /// Every call on one such node, with bytes that suit its first locator and router.
 pub fn any_node(check: &mut Check) {
     let node = node(check);
-    let (locator, router) = (node.service.settings.locators[0], node.service.routers.routers[0].address);
+    let (locator, router) = ends(&node);
     let time = check.random.next() as u32;
     let number = check.random.one_of(&[0, 7, 8, usize::MAX]);
     let source = packets::address(&[0xfe, 0x80, 0, 0, 0, 0, 0, 0], 0, router);
     let length = check.random.one_of(&[40, 60, 100, 1280, 1281, 1500]);
-    let packet = packets::packet(&mut check.random, length, 58, &source);
-
-    let datagram = packets::datagram(&mut check.random, (router, locator.address), 0, &packet, 3);
-    let room = check.random.one_of(&[MEMORY, MEMORY, MEMORY, MEMORY + 7, MEMORY - 1, 0]);
-    let mut memory = check.pattern(room);
-    receiving(check, &node, &datagram, locator.interface, time, &memory);
-    for source in [router, router, 0x0a01_0001] {
-        let key = Key { source, destination: locator.address, identification: 1, protocol: 41 };
-        let (node, piece) = on_its_way(check, &node, key, &packet, time);
-        // Some places hold the packet.
-        memory.chunks_exact_mut(ROOM).filter(|_| check.random.once_in(3)).for_each(|place| put(place, 0, &packet));
-        receiving(check, &node, &piece, locator.interface, time, &memory);
+    let mut packet = packets::packet(&mut check.random, length, 58, &source);
+    if check.random.once_in(2) {
+        packets::random_chain(&mut check.random, &mut packet);
     }
+    arriving(check, &node, &packet, time);
 
     let size = check.random.next() as u16;
     let message = packets::size_report(&mut check.random, size, 1500, (locator.address, router), 0, 8);
@@ -59,6 +53,27 @@ pub fn any_node(check: &mut Check) {
     same("node", &node, &size.node, &|| tried.words());
     check.totals.count(Call::AnyNode, 0);
     writing(check, &node, &packet, Address { bytes: source }, number, time);
+}
+
+/// The first locator of the node, and its first router.
+fn ends(node: &Node) -> (Locator, u32) {
+    (node.service.settings.locators[0], node.service.routers.routers[0].address)
+}
+
+/// A datagram with the packet, and pieces of it.
+fn arriving(check: &mut Check, node: &Node, packet: &[u8], time: u32) {
+    let (locator, router) = ends(node);
+    let datagram = packets::datagram(&mut check.random, (router, locator.address), 0, packet, 3);
+    let room = check.random.one_of(&[MEMORY, MEMORY, MEMORY, MEMORY + 7, MEMORY - 1, 0]);
+    let mut memory = check.pattern(room);
+    receiving(check, node, &datagram, locator.interface, time, &memory);
+    for source in [router, router, 0x0a01_0001] {
+        let key = Key { source, destination: locator.address, identification: 1, protocol: 41 };
+        let (node, piece) = on_its_way(check, node, key, packet, time);
+        // Some places hold the packet.
+        memory.chunks_exact_mut(ROOM).filter(|_| check.random.once_in(3)).for_each(|place| put(place, 0, packet));
+        receiving(check, &node, &piece, locator.interface, time, &memory);
+    }
 }
 
 fn receiving(check: &mut Check, node: &Node, datagram: &[u8], interface: u8, time: u32, memory: &[u8]) {
@@ -123,6 +138,13 @@ fn writing(check: &mut Check, node: &Node, packet: &[u8], next_hop: Address, loc
     let longest = sent.answer.length.max(sent.answer.message_length);
     same("length in the room", &true, &(longest <= room), &|| tried.words());
     tried.count(check, sent.answer.number, &[0, 8, 11, 12, 13, 14, 15, 23]);
+    if sent.answer.number == 14 {
+        let length = if unanswered(packet) { 0 } else { 1280 };
+        same("length of the message", &length, &sent.answer.message_length, &|| tried.words());
+        if length == 0 {
+            check.totals.count(Call::AnyNode, TOO_BIG_SILENT);
+        }
+    }
 
     let tried = Tried { node, bytes: &[], memory: None, room, time, name: "ask" };
     let asked = tried.twice(check, |node, _, out| node.ask(locator, time, out));

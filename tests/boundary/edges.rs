@@ -10,10 +10,10 @@ use crate::random::Random;
 use crate::stateless;
 
 pub const LOCATOR: u32 = 0x0a00_0001;
-const NEIGHBOUR: u32 = 0x0a01_0001;
+pub const NEIGHBOUR: u32 = 0x0a01_0001;
 const ROUTER: u32 = 0x0a02_0001;
 const PREFIX: [u8; 8] = [0x20, 0x01, 0x0d, 0xb8, 0, 0, 0, 1];
-const SOURCE: Address = [0x20, 1, 0xd, 0xb8, 0, 0, 0, 9, 0, 0, 0, 0, 0, 0, 0, 9];
+pub const SOURCE: Address = [0x20, 1, 0xd, 0xb8, 0, 0, 0, 9, 0, 0, 0, 0, 0, 0, 0, 9];
 
 pub fn edges(check: &mut Check) {
     sizes(check);
@@ -46,15 +46,14 @@ pub fn node(check: &mut Check, settings: &Settings) -> Nodes {
     Nodes::new(check, settings).expect("settings within the rules")
 }
 
-fn report(random: &mut Random, size: u16, neighbour: u32) -> Vec<u8> {
+pub fn report(random: &mut Random, size: u16, neighbour: u32) -> Vec<u8> {
     packets::size_report(random, size, 1500, (LOCATOR, neighbour), 0, 8)
 }
 
 /// A packet of the length to the neighbour, with these rooms: what will be written, and a byte less.
 fn send(check: &mut Check, nodes: &mut Nodes, length: usize, time: u32) {
     let packet = packets::packet(&mut check.random, length, 17, &SOURCE);
-    let limit = usize::from(nodes.plain.path_size(NEIGHBOUR)).saturating_sub(20).max(1280);
-    let written = if length > limit { 1280 } else { length + 20 };
+    let written = if length > nodes.limit(NEIGHBOUR) { 1280 } else { length + 20 };
     for room in [written - 1, written] {
         nodes.send(check, &packet, link_local(NEIGHBOUR), 0, time, room);
     }

@@ -378,22 +378,14 @@ fn send(check: &mut Check, world: &mut World) {
     let random = &mut check.random;
     let end = any_address(random, world);
     let next_hop = embedding(random, &world.settings, end);
-    let limit = usize::from(world.nodes.plain.path_size(end)).saturating_sub(20).max(1280);
-    let mut length = length(random);
-    if random.once_in(3) {
-        length = limit + random.below(4) - 1;
-    }
-    let source = if random.once_in(4) { other_source(random) } else { random.bytes() };
-    let next_header = random.one_of(&[58, 58, 59, 6, 0, 44]);
-    let mut packet = packets::packet(random, length, next_header, &source);
-    put(&mut packet, 40, &[random.one_of(&[0, 1, 2, 127, 128, 129, 135, 136, 137, 138, 255])]);
-    if random.once_in(10) {
-        match random.below(4) {
-            0 => packet[0] = random.next() as u8,
-            1 => put16(&mut packet, 4, (length - 40).wrapping_add(random.between(0, 2)).wrapping_sub(1) as u16),
-            _ => packets::damage(random, &mut packet),
-        }
-    }
+    let limit = world.nodes.limit(end);
+    let length = match random.below(6) {
+        0 => limit + random.below(4) - 1,
+        // Extension headers can end where the packet does, or a byte from there.
+        1 => limit / 8 * 8 + 7 + random.below(3),
+        _ => length(random),
+    };
+    let packet = sent_packet(random, length);
     let written = if length > limit { 1280 } else { length + 20 };
     let room = match random.below(12) {
         0 => written - 1,
@@ -404,6 +396,25 @@ fn send(check: &mut Check, world: &mut World) {
     let locator = locator_number(random, world);
     let time = time(random, world);
     world.nodes.send(check, &packet, next_hop, locator, time, room);
+}
+
+/// A packet of the length, half of them with extension headers; some are malformed.
+fn sent_packet(random: &mut Random, length: usize) -> Vec<u8> {
+    let source = if random.once_in(4) { other_source(random) } else { random.bytes() };
+    let next_header = random.one_of(&[58, 58, 59, 6, 0, 44]);
+    let mut packet = packets::packet(random, length, next_header, &source);
+    put(&mut packet, 40, &[random.one_of(&[0, 1, 2, 127, 128, 129, 135, 136, 137, 138, 255])]);
+    if random.once_in(2) {
+        packets::random_chain(random, &mut packet);
+    }
+    if random.once_in(10) {
+        match random.below(4) {
+            0 => packet[0] = random.next() as u8,
+            1 => put16(&mut packet, 4, (length - 40).wrapping_add(random.between(0, 2)).wrapping_sub(1) as u16),
+            _ => packets::damage(random, &mut packet),
+        }
+    }
+    packet
 }
 
 fn locator_number(random: &mut Random, world: &World) -> usize {

@@ -1,11 +1,11 @@
 //! A node of the library beside one of plain Rust. Each call is made on both; answers, next states and outputs must be the same.
 
 use crate::check::{hex, same, same_input, same_node, Check};
-use crate::packets::is_piece;
+use crate::packets::{is_extended, is_piece};
 use crate::plain::pieces::{Key, Place, MEMORY};
-use crate::plain::rules::{Preference, Prefix, Route};
+use crate::plain::rules::{address_at, no_host, u32_at, Preference, Prefix, Route};
 use crate::plain::{self, Address, Refusal};
-use crate::totals::{Call, IGNORED, JOINED, TOO_BIG_SILENT};
+use crate::totals::{Call, CHAIN_SHORT, CHAIN_SILENT, CHAIN_TOLD, IGNORED, JOINED, TOO_BIG_SILENT};
 use bogtrumpet::raw::{self, Advertised, Asked, Heard, Received, Reported, Sent};
 
 #[derive(Clone)]
@@ -194,9 +194,25 @@ impl Nodes {
         same("answer", &expected, &library, &call);
         loan.same_output(packet, &call);
         self.next(library.number, *node, time, &call);
-        let silent = library.number == 14 && library.message_length == 0;
-        check.totals.count(Call::Send, if silent { TOO_BIG_SILENT } else { library.number.into() });
+        check.totals.count(Call::Send, self.counted(packet, &next_hop, &library));
         library.number
+    }
+
+    /// The largest packet that passes to the tunnel end.
+    pub fn limit(&self, end: u32) -> usize {
+        usize::from(self.plain.path_size(end)).saturating_sub(20).max(1280)
+    }
+
+    /// What sending is counted as. 15 in the place of 14 is told by the packet's length.
+    fn counted(&self, packet: &[u8], next_hop: &Address, sent: &Sent) -> usize {
+        let chain = is_extended(packet) && !no_host(&address_at(packet, 8));
+        match (sent.number, sent.message_length) {
+            (14, 0) if chain => CHAIN_SILENT,
+            (14, 0) => TOO_BIG_SILENT,
+            (14, _) if chain => CHAIN_TOLD,
+            (15, _) if chain && packet.len() > self.limit(u32_at(next_hop, 12)) => CHAIN_SHORT,
+            (number, _) => number.into(),
+        }
     }
 
     pub fn report(&mut self, check: &mut Check, message: &[u8], time: u32) -> u8 {

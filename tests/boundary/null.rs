@@ -49,12 +49,16 @@ pub fn null_slices(check: &mut Check, settings: Settings) {
     check.totals.count(Call::Null, 0);
 }
 
-/// Too Big without a message needs no output.
+/// Too Big without a message, for the packet's source or for its extension headers, needs no output.
 fn large_and_silent(node: &mut Node, hop: Address) {
-    let mut packet = vec![0; 9300];
-    (packet[0], packet[4], packet[5]) = (0x60, 0x24, 0x2c);
-    let answer = unsafe { bogtrumpet_send(node, packet.as_ptr(), packet.len(), hop, 0, 0, null_mut(), 0) };
-    same("no message", &(14, 0), &(answer.number, answer.message_length), &|| "send 9300 from :: to (NULL, 0)".into());
+    for (at, value, why) in [(6, 59, "from ::"), (8, 0x20, "with headers that run past it")] {
+        let mut packet = vec![0; 9300];
+        (packet[0], packet[4], packet[5]) = (0x60, 0x24, 0x2c);
+        packet[at] = value;
+        let answer = unsafe { bogtrumpet_send(node, packet.as_ptr(), packet.len(), hop, 0, 0, null_mut(), 0) };
+        let call = || format!("send 9300 {why} to (NULL, 0)");
+        same("no message", &(14, 0), &(answer.number, answer.message_length), &call);
+    }
 }
 
 /// No packet that asks, then no output.

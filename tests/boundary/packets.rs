@@ -23,6 +23,14 @@ pub const EDGES: [u32; 14] = [
     0x0a00_0001,
 ];
 
+/// The extension headers that are followed.
+pub const EXTENSIONS: [u8; 4] = [0, 43, FRAGMENT, 60];
+pub const FRAGMENT: u8 = 44;
+/// Numbers of headers, to fill a packet with in turn: each alone, and all.
+pub const TURNS: [[u8; 4]; 5] = [[0; 4], [43; 4], [FRAGMENT; 4], [60; 4], EXTENSIONS];
+/// As many headers as a packet can have.
+pub const MOST_EXTENSIONS: usize = 8191;
+
 pub fn put16(bytes: &mut [u8], at: usize, value: u16) {
     put(bytes, at, &value.to_be_bytes());
 }
@@ -53,6 +61,95 @@ pub fn packet(random: &mut Random, length: usize, next_header: u8, source: &Addr
     packet[6] = next_header;
     put(&mut packet, 8, source);
     packet
+}
+
+/// An extension header of this number, with this second byte and these 16 bits at its byte 2: a fragment's offset and three bits more.
+#[derive(Clone, Copy, Debug)]
+pub struct Extension {
+    pub number: u8,
+    pub second: u8,
+    pub field: u16,
+}
+
+impl Extension {
+    /// The shortest of the number.
+    pub const fn new(number: u8) -> Extension {
+        Extension { number, second: 0, field: 0 }
+    }
+
+    pub fn length(&self) -> usize {
+        if self.number == FRAGMENT {
+            8
+        } else {
+            8 + 8 * usize::from(self.second)
+        }
+    }
+}
+
+/// Whether an extension header that is followed stands behind the packet's own.
+pub fn is_extended(packet: &[u8]) -> bool {
+    packet.len() >= 40 && EXTENSIONS.contains(&packet[6])
+}
+
+/// Where the headers end in a packet, or would.
+pub fn chain_end(headers: &[Extension]) -> usize {
+    40 + headers.iter().map(Extension::length).sum::<usize>()
+}
+
+/// Puts the headers one behind the other into the packet, and behind them an upper layer that starts with these bytes; all as far as there
+/// are bytes.
+pub fn put_chain(packet: &mut [u8], headers: &[Extension], upper: u8, first: &[u8]) {
+    let (mut number_at, mut at) = (6, 40);
+    for header in headers {
+        put(packet, number_at, &[header.number]);
+        put(packet, at + 1, &[header.second]);
+        put16(packet, at + 2, header.field);
+        (number_at, at) = (at, at + header.length());
+    }
+    put(packet, number_at, &[upper]);
+    put(packet, at, first);
+}
+
+/// So many of the shortest headers, of the numbers in turn.
+pub fn shortest(turns: [u8; 4], count: usize) -> Vec<Extension> {
+    turns.into_iter().cycle().take(count).map(Extension::new).collect()
+}
+
+/// Adds long headers of the number, no fragment, up to the end, or to the last place before it where one can end.
+pub fn lengthen(headers: &mut Vec<Extension>, number: u8, end: usize) {
+    let mut units = end.saturating_sub(chain_end(headers)) / 8;
+    while units > 0 {
+        let taken = units.min(256);
+        headers.push(Extension { second: (taken - 1) as u8, ..Extension::new(number) });
+        units -= taken;
+    }
+}
+
+/// Gives the packet up to 40 extension headers and an upper layer. Many a chain ends where the packet does, or nearly.
+pub fn random_chain(random: &mut Random, packet: &mut [u8]) {
+    let count = if random.once_in(4) { random.between(0, 40) } else { random.between(0, 4) };
+    let longest = random.one_of(&[0, 0, 1, 3, 255]);
+    let mut headers: Vec<_> = (0..count).map(|_| extension(random, longest)).collect();
+    if random.once_in(3) {
+        let number = random.one_of(&[0, 43, 60]);
+        lengthen(&mut headers, number, packet.len() - random.one_of(&[0, 8]) + random.one_of(&[0, 0, 1, 7]));
+        headers.extend(random.once_in(2).then(|| extension(random, 0)));
+    }
+    let any = random.next() as u8;
+    let upper = random.one_of(&[58, 58, 58, 58, 58, 6, 17, 50, 51, 59, 0, 43, 44, 60, any]);
+    let kind = random.one_of(&[0, 1, 2, 127, 128, 128, 129, 129, 135, 136, 137, 138, 255, any]);
+    put_chain(packet, &headers, upper, &[kind]);
+}
+
+/// A header with a second byte of at most so much, a fragment with any; mostly of a first fragment.
+fn extension(random: &mut Random, longest: usize) -> Extension {
+    let (number, any) = (random.one_of(&EXTENSIONS), random.next() as u16);
+    let offset = if random.once_in(24) { random.one_of(&[1, 0x20, 0x1000, 0x1fff, any >> 3]) } else { 0 };
+    if number == FRAGMENT {
+        Extension { number, second: (any >> 8) as u8, field: offset << 3 | any & 7 }
+    } else {
+        Extension { number, second: random.between(0, longest) as u8, field: any }
+    }
 }
 
 /// A datagram of protocol 41 with `words` words of options and `padding` bytes behind it.

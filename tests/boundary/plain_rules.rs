@@ -49,9 +49,13 @@ const UNSPECIFIED: Address = [0; 16];
 const LOOPBACK: Address = [0, 0, 0, 0, 0, 0, 0, 0, 0, 0, 0, 0, 0, 0, 0, 1];
 /// The most of a packet that a Too Big quotes.
 const QUOTED: usize = 1232;
-/// The first byte of a router's two messages.
+/// The first byte of a router's two messages, and of a redirect.
 const SOLICITATION: u8 = 133;
 const ADVERTISEMENT: u8 = 134;
+const REDIRECT: u8 = 137;
+/// The extension headers that are followed: hop-by-hop options, routing, fragment, destination options.
+const FRAGMENT: u8 = 44;
+const EXTENSIONS: [u8; 4] = [0, 43, FRAGMENT, 60];
 /// The types of the options that the rules name.
 const SOURCE_LINK_LAYER: u8 = 1;
 const PREFIX: u8 = 3;
@@ -268,10 +272,27 @@ pub fn wrap(outer: &Outer, packet: &[u8], out: &mut [u8]) -> Result<usize, Refus
     Ok(length)
 }
 
-/// Whether a packet that is too big is answered by no message: its source is no host, or it is an ICMPv6 error or redirect.
+/// Whether a packet that is too big is answered by no message (R8.2): its source is no host, or what follows its header draws none.
 pub fn unanswered(packet: &[u8]) -> bool {
-    let error = packet[6] == ICMPV6 && packet.len() > INNER_HEADER && (packet[40] < 128 || packet[40] == 137);
-    error || no_host(&address_at(packet, 8))
+    no_host(&address_at(packet, 8)) || !draws_message(packet[6], &packet[INNER_HEADER..])
+}
+
+/// Whether the extension headers of a packet end in it, with no fragment but a first one, and what stands behind them is neither an ICMPv6
+/// error nor a redirect, nor ICMPv6 with no byte left (R25).
+fn draws_message(mut next: u8, mut rest: &[u8]) -> bool {
+    while EXTENSIONS.contains(&next) {
+        // None is shorter than 8 bytes.
+        if rest.len() < 8 {
+            return false;
+        }
+        let length = if next == FRAGMENT { 8 } else { 8 * (usize::from(rest[1]) + 1) };
+        let later = next == FRAGMENT && u16_at(rest, 2) >> 3 != 0;
+        if later || rest.len() < length {
+            return false;
+        }
+        (next, rest) = (rest[0], &rest[length..]);
+    }
+    next != ICMPV6 || rest.first().is_some_and(|&kind| kind >= 128 && kind != REDIRECT)
 }
 
 /// Writes an IPv6 header before an ICMPv6 message that stands in `out` from byte 40 on, and the message's checksum.

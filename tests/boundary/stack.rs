@@ -169,6 +169,26 @@ fn sending(needs: &mut Needs, random: &mut Random, start: Node) {
         }
         needs.call("path_size", || start.path_size(neighbour));
     }
+    chains(needs, random, start);
+}
+
+/// The longest packet with as many extension headers as there can be: up to an error, up to what draws a message, and past the end.
+fn chains(needs: &mut Needs, random: &mut Random, start: Node) {
+    let next_hop = Address { bytes: packets::address(&PREFIX, 2, NEIGHBOUR) };
+    let mut out = vec![0; 1280];
+    for turns in packets::TURNS {
+        let headers = packets::shortest(turns, packets::MOST_EXTENSIONS);
+        for (upper, kind, drawn) in [(58, 1, 0), (58, 128, 1280), (6, 1, 1280), (0, 6, 0), (44, 6, 0)] {
+            let mut packet = packets::packet(random, 65_575, 0, &link_local(NEIGHBOUR));
+            packets::put_chain(&mut packet, &headers, upper, &[kind]);
+            let mut node = start;
+            let sent = node.send(&packet, next_hop, 7, 1001, &mut out);
+            assert_eq!((sent.number, sent.message_length), (14, drawn), "all headers are followed");
+            for room in [0, 1280] {
+                needs.call("send", || node.send(&packet, next_hop, 7, 1001, &mut out[..room]));
+            }
+        }
+    }
 }
 
 fn reports(needs: &mut Needs, random: &mut Random, start: Node) {

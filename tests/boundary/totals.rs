@@ -7,11 +7,15 @@ struct Kind {
     answers: &'static [usize],
 }
 
-/// Counted apart, behind the last number: Too Big with no message, of 14; a piece that is ignored, of 27; what is joined, of 0.
+/// Counted apart, behind the last number: Too Big with no message, of 14; a piece that is ignored, of 27; what is joined, of 0. And of a
+/// packet from a host with extension headers, Too Big with a message, with none, and 15 in its place.
 pub const TOO_BIG_SILENT: usize = 31;
 pub const IGNORED: usize = 32;
 pub const JOINED: usize = 33;
-const ANSWERS: usize = 34;
+pub const CHAIN_TOLD: usize = 34;
+pub const CHAIN_SILENT: usize = 35;
+pub const CHAIN_SHORT: usize = 36;
+const ANSWERS: usize = 37;
 
 macro_rules! kinds {
     ($($constant:ident $name:literal $answers:expr;)*) => {
@@ -27,7 +31,7 @@ kinds! {
     Receive "receive" [0, 2, 3, 4, 6, 7, 8, 9, 10, 15];
     Piece "receive of a piece" [JOINED, 2, 3, 4, 6, 7, 8, 9, 10, 15, 27, IGNORED, 28, 29, 30];
     Joined "joined as whole" [0, 4, 6, 7, 8, 9, 10];
-    Send "send" [0, 8, 11, 12, 13, 14, TOO_BIG_SILENT, 15];
+    Send "send" [0, 8, 11, 12, 13, 14, TOO_BIG_SILENT, 15, CHAIN_TOLD, CHAIN_SILENT, CHAIN_SHORT];
     Report "report" [0, 16, 17, 18, 19];
     Replace "replace_routers" [0, 1];
     Ask "ask" [0, 11, 22, 15];
@@ -47,7 +51,7 @@ kinds! {
     TooBig "too_big" [0, 8, 15];
     Solicitation "solicitation" [0, 15];
     Null "with (NULL, 0)" [0];
-    AnyNode "on any node" [0, JOINED, 1, 8, 10, 11, 14, 15, 17, 19, 21, 22, 24, 25, 26, 27, 28, 29, 30];
+    AnyNode "on any node" [0, JOINED, 1, 8, 10, 11, 14, TOO_BIG_SILENT, 15, 17, 19, 21, 22, 24, 25, 26, 27, 28, 29, 30];
 }
 
 pub struct Totals {
@@ -93,6 +97,9 @@ fn answer_name(answer: usize) -> String {
         TOO_BIG_SILENT => "14 silent".into(),
         IGNORED => "27 ignored".into(),
         JOINED => "0 joined".into(),
+        CHAIN_TOLD => "14 behind headers".into(),
+        CHAIN_SILENT => "14 silent behind headers".into(),
+        CHAIN_SHORT => "15 behind headers".into(),
         _ => answer.to_string(),
     }
 }
