@@ -181,9 +181,27 @@ def send(name, p):
     case("packet_malformed", f"{name}, malformed", yes(bad), p)
 
 
+# RFC 2460, 4.3 to 4.6: hop-by-hop options, routing, fragment, destination options.
+EXTENSIONS, FRAGMENT, ICMPV6 = (0, 43, 44, 60), 44, 58
+
+
+def upper_layer(number, d):
+    """R25: its number and its bytes; no number where the headers run past the end, or are those of a fragment that is not the first."""
+    if number not in EXTENSIONS:
+        return number, d
+    units = 0 if number == FRAGMENT else (d + bytes(2))[1]
+    if len(d) < 8 * units + 8 or number == FRAGMENT and struct.unpack(">H", d[2:4])[0] // 8 > 0:
+        return None, b""
+    return upper_layer(d[0], d[8 * units + 8:])
+
+
 def draws(name, p):
-    source = ipaddress.IPv6Address(p[8:24])
-    quiet = source.is_multicast or source.is_unspecified or (p[6] == 58 and len(p) > 40 and (p[40] < 128 or p[40] == 137))
+    """Of a packet under 40 bytes the missing ones are read as 0."""
+    header = p[:40].ljust(40, b"\0")
+    source = ipaddress.IPv6Address(header[8:24])
+    number, d = upper_layer(header[6], p[40:])
+    error = number == ICMPV6 and (d == b"" or d[0] < 128 or d[0] == 137)
+    quiet = source.is_multicast or source.is_unspecified or number is None or error
     case("may_draw_error", f"draws an error, {name}", yes(not quiet), p)
 
 
@@ -205,7 +223,7 @@ def sent():
         draws(f"next header {next_header}, first byte {kind}", inner(1, next_header) + bytes([kind]))
     draws("ICMPv6 without payload", inner(next_header=58))
     for source in ("ff02::5efe:10.0.0.2", "ff00::", "feff::1", "::1", "::", "::2", "::1:0:0:0", "100::"):
-        draws(f"source {source}", inner(next_header=58, source=source))
+        draws(f"source {source}", inner(source=source))
         draws(f"echo from {source}", inner(1, 58, source=source) + bytes([128]))
 
 

@@ -15,6 +15,7 @@ Each module imports only those above it:
     scenarios       runs of calls that show one rule
     scenarios_pieces  those of joining (R23)
     many_options    solicitations and advertisements of many options
+    extension_headers  packets too big with extension headers (R25)
     generator       random lists, bad inputs, inputs of the program (R17)
     double_faults   calls with two faults, also as tests/double_faults.txt
     named           the named set, the fixed batches, the stored list

@@ -27,6 +27,27 @@ def datagram(inner, source, destination, options=b"", words=None, total=None, ve
     return start + spoiled(checksum_field(start + b"\0\0" + end), spoil) + end + inner
 
 
+# ---- Extension headers
+
+def chain(headers, upper, fill=b"\0"):
+    """The number that stands before these extension headers, and their bytes, behind which the number `upper` stands. A header is its number,
+    its second byte and, of a fragment header, the 16 bits of its offset and flags; the rest of it is `fill`."""
+    numbers, data = [header[0] for header in headers] + [upper], b""
+    for (kind, second, *field), behind in zip(headers, numbers[1:]):
+        start = bytes([behind, second]) + b"".join(map(u16, field))
+        data += start + fill * ((8 if kind == 44 else 8 * second + 8) - len(start))
+    return numbers[0], data
+
+
+def making_up(length, kind=60):
+    """As few headers of this kind as can be that are as long as this together, or up to 7 bytes longer."""
+    headers = []
+    while length > 0:
+        headers.append((kind, min(255, (length - 1) // 8)))
+        length -= 8 * headers[-1][1] + 8
+    return headers
+
+
 # ---- Pieces
 
 def piece(payload, start, more, source, destination, flags=0, **fields):

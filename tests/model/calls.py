@@ -3,7 +3,8 @@
 Where the answer is known from the faults alone it is compared with the model's, so that the model is not the only one to
 say it.
 """
-from .builders import advertisement, datagram, operator_prefix, operator_route, option, packet, prefix_option, report, route_option, solicitation
+from .builders import advertisement, chain, datagram, making_up, operator_prefix, operator_route, option, packet, prefix_option, report
+from .builders import route_option, solicitation
 from .faults import LENGTHS, LIFETIMES, PLATEAU_BELOW
 from .formats import MEMORY, answer, digest, encode_call, encode_settings, lent
 from .node import Node
@@ -153,12 +154,28 @@ class Calls:
         self.call("part", f["interface"], data, want=f"{len(inner)} {digest(inner)}")
         return data
 
+    def headers(self):
+        """Extension headers that are followed, in any order; a fragment among them is the first of its packet."""
+        kinds = self.random.choices((0, 43, 44, 60), k=self.random.choice((1, 1, 2, 3, 4, 13)))
+        return [(kind, self.random.choice((0, 7, 255)), self.random.randrange(8)) if kind == 44 else
+                (kind, self.random.choice((0, 0, 0, 0, 1, 1, 2, 7, 31, 255))) for kind in kinds]
+
+    def chained(self, f, n):
+        """The first next header and the payload of a packet of n bytes; of more, where the headers need them, or are to end it."""
+        start, fill = b"" if f["first"] is None else bytes([f["first"]]), self.some(1)
+        number, headers = chain(f["headers"], f["next_header"], fill)
+        if f["ends"] is None:
+            return number, headers + start + self.some(max(0, n - 40 - len(headers + start)))
+        front = making_up(n - 40 + f["ends"] - len(headers + start), self.random.choice((0, 43, 60)))
+        number, headers = chain(front + f["headers"], f["next_header"], fill)
+        return number, (headers + start)[:len(headers + start) - f["ends"]]
+
     def send(self, faults=(), n=None, end=None, time=None, next_hop=None):
         address = next_hop[12:] if next_hop else end or self.neighbour()
         time = self.time() if time is None else time
         f = self.packet_fields(b"\x20" + self.some(15), self.some(16), b"")
         f.update(address=address, index=self.random.randrange(len(self.settings.locators)), first=None, more=0, short=0,
-                 message=True, next_header=17 if faults or n else self.random.choice((0, 17, 58, 59)),
+                 message=True, headers=[], ends=None, next_header=17 if faults or n else self.random.choice((0, 17, 58, 59)),
                  next_hop=next_hop or isatap_address(self.prefix(), self.random.choice(ISATAP_IDENTIFIERS), address))
         for _, changes in faults:
             self.change(f, changes)
@@ -166,9 +183,8 @@ class Calls:
         largest = max(1280, self.node.size(address) - 20)
         numbers = [fault for fault, _ in faults]
         n = largest + f["more"] if f["more"] else n or self.random.choice((40, 41, 60, self.random.randint(42, 200), 1280))
-        f["payload"] = self.some(n - 40)
-        if f["first"] is not None:
-            f["payload"] = bytes([f["first"]]) + f["payload"][1:]
+        f["next_header"], f["payload"] = self.chained(f, n)
+        n = 40 + len(f["payload"])
         written = n + 20 if n <= largest else 1280 if f["message"] else 0
         room = max(0, written - f["short"]) if f["short"] else written + self.random.choice((0, 0, 1, 50))
         data = (packet_of(f) + f["tail"])[:f["cut"]]

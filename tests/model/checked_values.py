@@ -88,6 +88,20 @@ def size_checks():
     yield "P 600: 1,280 passes, flag clear", sent(600, 1280), ("wrapped 1300", 0)
 
 
+def extension_checks():
+    """R25: the number in the IPv6 header and the first bytes behind it, by hand; zeros follow."""
+    for text, first, start, n, written in (
+            ("an error behind destination options", 60, "3a00000000000000 01", 1481, 0),
+            ("an echo behind them", 60, "3a00000000000000 80", 1481, 1280),
+            ("an echo behind 16 bytes of them", 60, "3a01000000000000 0000000000000000 80", 1481, 1280),
+            ("a redirect behind hop-by-hop options and routing", 0, "2b00000000000000 3a00000000000000 89", 1481, 0),
+            ("an echo in a first fragment", 44, "3a07000100000000 80", 1481, 1280), ("UDP in a later one", 44, "1100000800000000 80", 1481, 0),
+            ("ICMPv6 of which no byte is left", 60, "3ab4", 1488, 0), ("TCP of which none is left", 60, "06b4", 1488, 1280),
+            ("a header without its last byte", 60, "06b4", 1487, 0), ("one that would start at the end", 60, "2cb4", 1488, 0)):
+        data = builders.packet(link_local(PEER), LOOPBACK, bytes.fromhex(start).ljust(n - 40, b"\0"), next_header=first)
+        yield f"{text}: {written} bytes written", node().send(0, 0, link_local(PEER), lent(1280), data), f"too-big 1480 {written}"
+
+
 def report_checks():
     """★ Reports: plateaus, limits, age."""
     for total, size in ((1500, 1492), (1492, 1006), (69, 68), (68, None)):
@@ -240,7 +254,8 @@ def replay_checks():
         yield text, replay(start + b"\0\x08\0" + u16(0) + bytes(3) + u16(0) + u16(len(routes)) + entries + u16(48) + asking), [given]
 
 
-CHECKS = (size_checks, report_checks, neighbour_checks, receive_checks, joining_checks, program_checks, message_checks, time_checks, advertise_checks, replay_checks)
+CHECKS = (size_checks, extension_checks, report_checks, neighbour_checks, receive_checks, joining_checks, program_checks, message_checks,
+          time_checks, advertise_checks, replay_checks)
 
 
 def checked():

@@ -4,7 +4,7 @@ is no fault: it is given where the piece has no other, whatever the inner packet
 
 tests/double_faults.txt has them as text, for other implementations to read.
 """
-from .builders import advertisement, datagram, operator_prefix, operator_route, packet, piece, report, solicitation
+from .builders import advertisement, chain, datagram, making_up, operator_prefix, operator_route, packet, piece, report, solicitation
 from .formats import encode_operator
 from .octets import LINK_LOCAL, LOOPBACK, isatap_address, link_local
 from .rules import Advertisement
@@ -26,7 +26,7 @@ HEAD = """# Calls with two faults. Each line is one call, at time 0, on a new no
 # Of several datagrams the last is the one that is judged; the others are handed in before it, each by a call of its own with the same
 # memory. ROOM is how many bytes of memory or of output are lent. ADVERTISEMENT, what the operator sets, is laid out as in an input of `replay`
 # (docs/REPLAY.md). `advertise` has no time.
-# 14 is the answer Too Big with its size and the length written: here 1480, and 1280 where the packet's source can get a message.
+# 14 is the answer Too Big with its size and the length written: here 1480, and 1280 where the packet draws a message.
 """
 
 
@@ -48,8 +48,11 @@ def behind(first, second, *datagrams):
     return first, second, 0, 16384, datagrams
 
 
-def sent(first, second, n=60, index=0, next_hop=link_local(PEER), room=2000, tail=b"", source6=link_local(OTHER), version6=6):
-    return first, second, index, next_hop, room, packet(source6, link_local(PEER), bytes(n - 40), version=version6) + tail
+def sent(first, second, n=60, index=0, next_hop=link_local(PEER), room=2000, tail=b"", source6=link_local(OTHER), version6=6, headers=(), upper=59):
+    """With extension headers in front of its zeros, if there are any."""
+    number, payload = chain(headers, upper)
+    inner = packet(source6, link_local(PEER), payload.ljust(n - 40, b"\0"), version=version6, next_header=number)
+    return first, second, index, next_hop, room, inner + tail
 
 
 def reported(first, second, candidate=600, source=OWN, neighbour=PEER, **fields):
@@ -101,7 +104,12 @@ SENT = [
     sent(12, 15, next_hop=isatap_address(OFF_LINK, "00005efe", PEER), room=0),
     sent(13, 14, next_hop=link_local(LOCAL_HOST), n=1481), sent(13, 14, next_hop=link_local(OWN), n=1481),
     sent(13, 15, next_hop=link_local(OWN), room=0), sent(14, 15, n=1481, source6=bytes(16), room=0), sent(14, 15, n=1481, room=1280),
-    sent(15, 14, n=1481, room=1279)]
+    sent(15, 14, n=1481, room=1279), sent(14, 15, n=1481, room=0, upper=58), sent(14, 15, n=1481, room=0, headers=[(60, 0)], upper=58),
+    sent(14, 15, n=1481, room=1279, headers=[(0, 0), (43, 1), (44, 255, 1), (60, 2)], upper=58),
+    sent(14, 15, n=1481, room=0, headers=[(44, 0, 8)], upper=17), sent(14, 15, n=1481, room=0, headers=making_up(1448), upper=58),
+    sent(14, 15, n=1481, room=1279, headers=making_up(1448), upper=60),
+    sent(15, 14, n=1481, room=1279, headers=[(60, 0)], upper=17), sent(15, 14, n=1481, room=0, headers=[(44, 7, 1)], upper=51),
+    sent(15, 14, n=1481, room=1279, headers=making_up(1448), upper=59)]
 REPORTED = [
     reported(16, 17, spoil=1, protocol=17), reported(16, 17, code=3, source=OTHER), reported(16, 17, version=6, neighbour=LOCAL_HOST),
     reported(16, 18, spoil=1, candidate=67), reported(16, 18, kind=11, candidate=0, total=68), reported(16, 19, spoil=1, candidate=1500),

@@ -69,13 +69,23 @@ RECEIVE_VARIATIONS = (
     + [{"source": lambda calls, f: f["destination"], "source6": lambda calls, f: link_local(f["source"])},
        {"time": lambda calls, f: calls.time()}])
 
-# Sending; `more` bytes above M, `short` bytes of room missing, `first` byte of the payload
+# Sending; `more` bytes above M, `short` bytes of room missing; extension `headers`, and behind them the upper layer `next_header` with the
+# `first` byte. With `ends` nothing stands behind that, and so many bytes are cut off the end
 
 MESSAGE = [{}, {"more": 7}, {"source6": LOOPBACK}, {"source6": bytes([0xfe]) + bytes(15)}, {"next_header": 17, "first": 1},
            {"destination6": MULTICAST}]
 MESSAGE += [{"next_header": 58, "first": first} for first in (128, 133, 136, 138, 255)]
 NO_MESSAGE = one_of("source6", (MULTICAST, bytes([255]) + bytes(15), UNSPECIFIED))
 NO_MESSAGE += [{"next_header": 58, "first": first} for first in (0, 1, 2, 127, 137)]
+BEHIND = {"headers": lambda calls, f: calls.headers()}
+MESSAGE += [dict(BEHIND, next_header=58, first=first) for first in (128, 129, 136, 138, 255)]
+MESSAGE += [dict(BEHIND, next_header=upper, first=first) for upper, first in ((1, 1), (6, 1), (17, 137), (50, 58), (51, 58), (59, 0))]
+MESSAGE += [dict(BEHIND, next_header=upper, ends=0) for upper in (6, 17, 50, 51, 59)] + [dict(BEHIND, next_header=58, first=128, ends=0)]
+NO_MESSAGE += [dict(BEHIND, next_header=58, first=first) for first in (0, 1, 2, 127, 137)]
+NO_MESSAGE += [dict(BEHIND, next_header=number, ends=0) for number in (0, 43, 44, 60, 58)] + [dict(BEHIND, next_header=58, first=1, ends=0)]
+NO_MESSAGE += [dict(BEHIND, next_header=upper, ends=cut) for upper, cut in ((17, 1), (58, 1), (59, 7), (6, 8))]
+NO_MESSAGE += [{"headers": lambda calls, f, field=field: calls.headers() + [(44, 0, field)], "next_header": upper, "first": 128}
+               for field, upper in ((8, 58), (8, 17), (0x100, 58), (0xfff8, 6), (0xffff, 58))]
 SEND_FAULTS = (
     faults(8, *one_of("cut", (0, 39)), *one_of("version6", (4, 5)), {"tail": b"\0"}, {"payload_error": 1})
     + faults(11, {"index": lambda calls, f: len(calls.settings.locators)}, {"index": 255})

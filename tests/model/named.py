@@ -3,6 +3,7 @@ import random
 from pathlib import Path
 
 from . import double_faults
+from . import extension_headers as extensions
 from . import scenarios_pieces as pieces
 from .builders import datagram, operator_prefix, operator_route, packet, piece
 from .calls import Calls
@@ -101,6 +102,15 @@ NAMED = {
     "send_two_faults": lambda calls: each_pair(calls, "send", 2),
     "send_rooms": rooms,
     "send_path_sizes": lambda calls: path_sizes(calls, (68, 600, 1299, 1300, 1301, 1302, 1499, 1500)),
+    "send_extension_headers": extensions.each_rule,
+    "send_behind_extension_headers": extensions.errors,
+    "send_extension_header_lengths": extensions.lengths,
+    "send_extension_headers_end_the_packet": extensions.ends,
+    "send_fragment_headers": extensions.fragments,
+    "send_upper_layers": extensions.upper_layers,
+    "send_many_extension_headers": extensions.many,
+    "send_extension_headers_rooms": extensions.rooms,
+    "send_extension_headers_sources": extensions.sources,
     "zero_checksums": zero_checksums,
     "report_refusals": lambda calls: each_fault(calls, "report"),
     "report_two_faults": lambda calls: each_pair(calls, "report", 20),
@@ -203,6 +213,7 @@ NAMED_SETTINGS = {"double_faults": (double_faults.SETTINGS, double_faults.make),
                   "pieces_on_two_interfaces": ({"locators": TWICE}, pieces.two_interfaces),
                   "no_router": ({"routers": []}, no_router), "identification_wrap": ({"identification": 65530}, sends),
                   "send_path_sizes_large_link": ({"link": 9216}, lambda calls: path_sizes(calls, (8166, 1500, 9216))),
+                  "send_thousands_of_extension_headers": ({"link": 9216}, extensions.longest),
                   "report_plateaus_large_link": ({"link": 9216}, plateaus),
                   "advertisement_lifetimes_long_interval": ({"interval": 3600}, lambda calls: advertised_due_time(calls, waits(3600)))}
 
@@ -319,7 +330,9 @@ def expected(batches=True):
 
 STORED_LAST = ("long_ages", "times_near_the_end", "pieces_near_the_end")  # they leave no time for others
 NOT_STORED = ("longest_packets", "longest_lifetime", "neighbours_64", "neighbours_65", "neighbours_64_reported_again",
-              "identifications", "pieces_of_the_longest_payloads", "pieces_by_rfc_791", "pieces_two")  # long, or shown by others
+              "identifications", "pieces_of_the_longest_payloads", "pieces_by_rfc_791", "pieces_two", "send_behind_extension_headers",
+              "send_extension_header_lengths", "send_extension_headers_end_the_packet", "send_fragment_headers", "send_upper_layers",
+              "send_many_extension_headers", "send_extension_headers_rooms")  # long, or shown by others
 
 
 def stored():

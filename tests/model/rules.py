@@ -109,12 +109,30 @@ def inner_source_bad(source):
     return source[:12] == bytes(12) and forbidden(source[12:])
 
 
+def extension_length(kind, rest):
+    """A fragment header is 8 bytes long (R25.3), the others (second byte + 1) * 8 (R25.2), so 8 at least where that byte is missing."""
+    return 8 if kind == 44 or len(rest) < 2 else 8 * (rest[1] + 1)
+
+
+def draws_none(kind, rest):
+    """Hop-by-hop options, routing, fragment and destination options headers are followed (R25.1). One that runs past the packet (R25.4) draws
+    no message, nor does a fragment that is not the first (R25.6), nor ICMPv6 without its type, an error or a redirect (R25.5)."""
+    while kind in (0, 43, 44, 60):
+        length = extension_length(kind, rest)
+        if length > len(rest):
+            return True
+        if kind == 44 and number(rest[2:4]) >> 3 != 0:
+            return True
+        kind, rest = rest[0], rest[length:]
+    return kind == 58 and (len(rest) == 0 or rest[0] < 128 or rest[0] == 137)
+
+
 def gets_no_message(packet):
-    """Source is multicast or `::`, or its first next header is 58 with payload and the type is below 128 or is 137 (R8.2)."""
-    source, payload = packet[8:24], packet[40:]
+    """Source is multicast or `::`, or what stands behind the 40 bytes of header draws none (R8.2)."""
+    source = packet[8:24]
     if source[0] == 0xff or source == UNSPECIFIED:
         return True
-    return packet[6] == 58 and len(payload) > 0 and (payload[0] < 128 or payload[0] == 137)
+    return draws_none(packet[6], packet[40:])
 
 
 def icmpv6_packet(source, destination, hop_limit, message):

@@ -4,7 +4,8 @@
 that is bent: an outer header asked for 20 bytes (its words and length say so), an inner packet for 40 (its payload length says so), a sum
 of 0 taken for right (no header and no message is all zeros), 23 before 15 and 19 before 18 (they never apply together); a key without the
 protocol (4 leaves but one), datagrams dropped when they are live no more, by whichever call (they never are again, and their places are
-free), an ignored piece kept as one that was taken (it has the same bytes and the same end).
+free), an ignored piece kept as one that was taken (it has the same bytes and the same end); a fragment's offset asked before its length (a
+header cut off and a later fragment both draw no message).
 """
 import sys
 from itertools import zip_longest
@@ -12,7 +13,7 @@ from pathlib import Path
 from types import ModuleType
 
 from .. import digests
-from . import advertising, joining, orders, programs, receiving, routers, sending, settings, sizes, times  # noqa: F401
+from . import advertising, extension_headers, joining, orders, programs, receiving, routers, sending, settings, sizes, times  # noqa: F401
 from .edits import WRONG
 
 MODULES = ("octets", "rules", "joining", "node", "formats")
