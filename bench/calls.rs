@@ -2,8 +2,8 @@
 
 use crate::check::Check;
 use crate::measure::Row;
-use crate::packets::{address, advertisement, datagram, option, packet, put, put16, put32};
-use crate::packets::{repair_outer, size_report, solicitation};
+use crate::packets::{address, advertisement, datagram, option, packet, put, put16, put32, put_chain, shortest};
+use crate::packets::{repair_outer, size_report, solicitation, EXTENSIONS, MOST_EXTENSIONS};
 use crate::plain::rules::link_local;
 use crate::plain::Address;
 use crate::work::{nodes, work, Advertised, Call, Turn, Work, INTERFACE, START};
@@ -121,7 +121,19 @@ fn sends(check: &mut Check) -> Vec<Work> {
     too_big.name = "send 1500, Too Big".into();
     too_big.number = 14;
     works.push(too_big);
+    works.extend([behind(check, 1500, 4), behind(check, 40 + 8 * MOST_EXTENSIONS + 1, MOST_EXTENSIONS)]);
     works
+}
+
+/// Four packets that are too big, each an ICMPv6 error behind so many extension headers of 8 bytes, the four in turn.
+fn behind(check: &mut Check, length: usize, count: usize) -> Work {
+    let nodes = nodes(check, 64);
+    let source = link_local(OWN);
+    work(format!("send, behind {count} headers"), Call::Send, 14, nodes, |_| {
+        let mut packet = packet(&mut check.random, length, 0, &source);
+        put_chain(&mut packet, &shortest(EXTENSIONS, count), 58, &[1]);
+        packet
+    })
 }
 
 /// Reports about four neighbours that the path table keeps, which would all be too old if it were not for the refusal.
