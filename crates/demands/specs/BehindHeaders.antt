@@ -15,10 +15,12 @@ use Rattle.refusals.specs.Refusals.{stopOr}
 use Rattle.settings.specs.Locators.{addressOf}
 use Rattle.settings.specs.Settings.{locatorOf}
 use Rattle.settings.specs.declared.Settings.{Settings}
-use Rattle.sending.specs.Plan.{sendCheck, planOf}
+use Rattle.sending.specs.Plan.{sendCheck}
+use Rattle.sending.specs.Sending.{planAnswer, identificationAfter, planOutput}
 use Rattle.sending.specs.Exactly.{Exceeds, messageLength}
 use Rattle.sending.specs.declared.judging.Plan.{Plan}
 use Rattle.sending.specs.declared.judging.Plan.the-variants.{Wrap, Tell, Silent, Refuse}
+use Rattle.sending.specs.declared.SendAnswer.{SendAnswer}
 use Rattle.sending.specs.declared.SendAnswer.the-variants.{TooBig}
 use Rattle.node.specs.Send.{pathSizeToward, sendOf, sendOutput}
 use Rattle.node.specs.declared.Node.{Node}
@@ -29,7 +31,7 @@ abbrev pub mayDrawByFirst : List ℕ → Bool
 mayDrawByFirst p =
     not (isMulticastOrUnspecified (addressAt p 8) || (eqb (getD p 6 0) 58 && ltb 40 (length p) && (ltb (getD p 40 0) 128 || eqb (getD p 40 0) 137)))
 
--- the plan of a sending by that; its answer, the next identification and the output are made of the plan
+-- the plan of a sending by that
 abbrev pub planByFirst : Settings → ℕ → List ℕ → List ℕ → ℕ → Plan
 planByFirst s P packet hop k =
     let size : ℕ = largestPacket P in
@@ -45,6 +47,14 @@ module _ (n : Node) (packet hop : List ℕ) (k time : ℕ) (out : List ℕ) wher
   abbrev pub Tells : ℕ → ℕ → List ℕ → Type 0
   Tells M len bytes = (sendOf n packet hop k time (length out) .answer ≡ TooBig M len) × (sendOutput n packet hop k time out ≡ bytes)
 
+  -- what a sending comes to by the first next header alone
+  abbrev pub byFirst : Plan
+  byFirst = planByFirst (n .service .settings) (pathSizeToward n hop time) packet hop k
+
+  -- its answer by that
+  abbrev pub answerByFirst : SendAnswer
+  answerByFirst = planAnswer byFirst (length packet) (length out)
+
   -- what is written about a packet that is too big, by its chain of headers
   pub record BehindHeaders : Type 0 where
     -- where an ICMPv6 error or a redirect stands behind headers, however many, nothing is written about it, whatever the room
@@ -59,7 +69,9 @@ module _ (n : Node) (packet hop : List ℕ) (k time : ℕ) (out : List ℕ) wher
     pub other : (M : ℕ) (hs : List (List ℕ)) (upper at : ℕ) → Due M → Chain packet hs upper at → OffsetsZero (getD packet 6 0) hs
         → Harmless packet upper at → Answerable packet → messageLength packet ≤ length out
         → Tells M (messageLength packet) (written (tooBigBytes (n .service .settings .reporting) M packet) out)
-    -- where the first next header is none of the four, a sending comes to what it comes to by that header alone
+    -- where the first next header is none of the four, a sending is what it is by that header alone: answer, next identification, output
     pub first : UpperLayer (getD packet 6 0)
-        → planOf (n .service .settings) (pathSizeToward n hop time) packet hop k
-        ≡ planByFirst (n .service .settings) (pathSizeToward n hop time) packet hop k
+        → (sendOf n packet hop k time (length out) .answer ≡ answerByFirst)
+        × (sendOf n packet hop k time (length out) .node .service .identification ≡ identificationAfter answerByFirst (n .service .identification))
+        × (sendOutput n packet hop k time out
+        ≡ planOutput byFirst (n .service .settings) (n .service .identification) (pathSizeToward n hop time) packet hop out)
