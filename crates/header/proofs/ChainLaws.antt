@@ -83,6 +83,14 @@ module _ (next : ℕ) (bs : List ℕ) where
       go true true f ex el ef good = absurd (good refl)
       go false l f ex el ef good = absurd (good refl)
 
+  -- none is passed where no header fits
+  pub passed-short : length bs < 8 → passedLength next bs ≡ 0
+  passed-short few = go (ℕ-discrete (passedLength next bs) 0)
+    where
+      go : Dec (passedLength next bs ≡ 0) → passedLength next bs ≡ 0
+      go (yes e) = e
+      go (no good) = absurd (omega (arith, few, is-passed good .there, extension-least next bs))
+
   pub passed-least : (passedLength next bs ≡ 0 → ⊥) → 8 ≤ passedLength next bs
   passed-least good = rw (is-passed good .size) (extension-least next bs)
 

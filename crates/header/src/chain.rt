@@ -3,7 +3,9 @@
 use crate::ICMPV6;
 use crate::fields;
 ghost use mathlib.Core.Path.{_≡_};
-ghost use Rattle.header.specs.Chain.{isExtension, extensionLength, isLaterFragment, isErrorOrRedirect, isQuiet, chainMayDraw};
+ghost use Prim.Native.Nat.{_≤_};
+ghost use lib.ListN.{length};
+ghost use Rattle.header.specs.Chain.{isExtension, extensionUnit, extensionLength, isLaterFragment, isErrorOrRedirect, isQuiet, chainMayDraw};
 ghost use Rattle.header.specs.Walks.{passedLength, walkedOf};
 
 // The extension headers that are followed.
@@ -29,26 +31,31 @@ fn extension(next: u8) -> bool
 
 // The bytes that the first header takes by its own length.
 fn extension_length(next: u8, rest: &[u8]) -> usize
+    requires { ⌜ extensionUnit ≤ length (now rest) ⌝ }
     ensures { λ r. ⌜ r ≡ extensionLength next (now (rest .entry)) ⌝ }
 {
     if next == FRAGMENT {
         UNIT
     } else {
-        (fields::byte(rest, 1) as usize + 1) * UNIT
+        (rest[1] as usize + 1) * UNIT
     }
 }
 
 // Whether the first header is that of a fragment whose offset is not 0. The offset's 13 bits stand before three others.
 fn later_fragment(next: u8, rest: &[u8]) -> bool
+    requires { ⌜ extensionUnit ≤ length (now rest) ⌝ }
     ensures { λ r. ⌜ r ≡ isLaterFragment next (now (rest .entry)) ⌝ }
 {
-    (next == FRAGMENT) & (fields::word(rest, 2) / 8 != 0)
+    (next == FRAGMENT) & (fields::pair(rest[2], rest[3]) / 8 != 0)
 }
 
 // The bytes that the first header takes, and 0 if none is passed: it is an upper layer, a later fragment, or runs past the end.
 fn passed_length(next: u8, rest: &[u8]) -> usize
     ensures { λ r. ⌜ r ≡ passedLength next (now (rest .entry)) ⌝ }
 {
+    if rest.len() < UNIT {
+        return 0;
+    }
     let size = extension_length(next, rest);
     if extension(next) & !later_fragment(next, rest) & (size <= rest.len()) {
         size
