@@ -17,13 +17,13 @@ use Rattle.refusals.specs.Refusals.{stopOr}
 use Rattle.settings.specs.Locators.{addressOf}
 use Rattle.settings.specs.Settings.{locatorOf}
 use Rattle.sending.specs.Plan.{sendCheck, sizedPlan, planOf}
-use Rattle.sending.specs.Sending.{identificationAfter, planOutput, sentOf, sentOutput}
+use Rattle.sending.specs.Sending.{identificationAfter, sentOf, sentOutput}
 use Rattle.sending.specs.declared.judging.Plan.{Plan}
 use Rattle.sending.specs.declared.judging.Plan.the-variants.{Wrap, Tell, Silent, Refuse}
 use Rattle.settings.specs.declared.Settings.{Settings}
 use Rattle.node.specs.Send.{pathSizeToward, sentBy, sendOf, sendOutput}
 use Rattle.node.specs.declared.Node.{Node}
-use Rattle.demands.specs.BehindHeaders.{mayDrawByFirst, planByFirst, Due, Tells, byFirst, answerByFirst, BehindHeaders}
+use Rattle.demands.specs.BehindHeaders.{mayDrawByFirst, planByFirst, Due, Tells, answerByFirst, outputByFirst, BehindHeaders}
 use Rattle.demands.proofs.Two.{demand-two}
 
 -- M is 1,280 at least
@@ -51,14 +51,13 @@ module _ (n : Node) (packet hop : List ℕ) (k time : ℕ) (out : List ℕ) wher
       let e = demand-two .calls n .sends packet hop k time out .exactly .tooBig .silent M due (fails (mayDrawError packet) (decides-draws packet) none) in
       (e .0 .0, e .1)
 
-  first : UpperLayer (getD packet 6 0)
+  as-first : UpperLayer (getD packet 6 0)
       → (sendOf n packet hop k time (length out) .answer ≡ answerByFirst n packet hop k time out)
       × (sendOf n packet hop k time (length out) .node .service .identification
       ≡ identificationAfter (answerByFirst n packet hop k time out) (n .service .identification))
-      × (sendOutput n packet hop k time out
-      ≡ planOutput (byFirst n packet hop k time out) (n .service .settings) (n .service .identification) (pathSizeToward n hop time) packet hop out)
+      × (sendOutput n packet hop k time out ≡ outputByFirst n packet hop k time out)
   unfolding sendOf sentBy sentOf sendOutput sentOutput
-  first u =
+  as-first u =
       let plan = by-first (n .service .settings) (pathSizeToward n hop time) packet hop k u in
       (rw plan, rw plan, rw plan)
 
@@ -66,11 +65,11 @@ module _ (n : Node) (packet hop : List ℕ) (k time : ℕ) (out : List ℕ) wher
   behind-headers = record {
     error = λ M hs at due c e. silent M due (error-silent packet hs at c e);
     empty = λ M hs at due c short. silent M due (empty-silent packet hs at c short);
-    piece = λ M hs upper at due c later. silent M due (later-silent packet hs upper at c later);
+    later = λ M hs upper at due c later. silent M due (later-silent packet hs upper at c later);
     past = λ M due none. silent M due (past-silent packet none);
-    other = λ M hs upper at due c first harmless source room.
+    other = λ M hs upper at due c offsets harmless source room.
         (let e = demand-two .calls n .sends packet hop k time out .exactly .tooBig .told M due
-        (record { source = source; headers = hs; upper = upper; at = at; chain = c; first = first; harmless = harmless }) room in
+        (record { source = source; headers = hs; upper = upper; at = at; chain = c; offsets = offsets; harmless = harmless }) room in
         (e .0 .0, e .1));
-    first = first;
+    byFirst = as-first;
   }

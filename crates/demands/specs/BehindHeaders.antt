@@ -47,13 +47,15 @@ module _ (n : Node) (packet hop : List ℕ) (k time : ℕ) (out : List ℕ) wher
   abbrev pub Tells : ℕ → ℕ → List ℕ → Type 0
   Tells M len bytes = (sendOf n packet hop k time (length out) .answer ≡ TooBig M len) × (sendOutput n packet hop k time out ≡ bytes)
 
-  -- what a sending comes to by the first next header alone
-  abbrev pub byFirst : Plan
-  byFirst = planByFirst (n .service .settings) (pathSizeToward n hop time) packet hop k
-
-  -- its answer by that
+  -- the answer by the first next header alone
   abbrev pub answerByFirst : SendAnswer
-  answerByFirst = planAnswer byFirst (length packet) (length out)
+  answerByFirst = planAnswer (planByFirst (n .service .settings) (pathSizeToward n hop time) packet hop k) (length packet) (length out)
+
+  -- and the output
+  abbrev pub outputByFirst : List ℕ
+  outputByFirst =
+      planOutput (planByFirst (n .service .settings) (pathSizeToward n hop time) packet hop k) (n .service .settings) (n .service .identification)
+      (pathSizeToward n hop time) packet hop out
 
   -- what is written about a packet that is too big, by its chain of headers
   pub record BehindHeaders : Type 0 where
@@ -62,16 +64,15 @@ module _ (n : Node) (packet hop : List ℕ) (k time : ℕ) (out : List ℕ) wher
     -- nor is it about a chain of which ICMPv6 is the end and no byte is left
     pub empty : (M : ℕ) (hs : List (List ℕ)) (at : ℕ) → Due M → Chain packet hs 58 at → length packet ≤ at → Tells M 0 out
     -- nor about one with a later fragment
-    pub piece : (M : ℕ) (hs : List (List ℕ)) (upper at : ℕ) → Due M → Chain packet hs upper at → (OffsetsZero (getD packet 6 0) hs → ⊥) → Tells M 0 out
+    pub later : (M : ℕ) (hs : List (List ℕ)) (upper at : ℕ) → Due M → Chain packet hs upper at → (OffsetsZero (getD packet 6 0) hs → ⊥) → Tells M 0 out
     -- nor about one that runs past the packet
     pub past : (M : ℕ) → Due M → ((hs : List (List ℕ)) (upper at : ℕ) → Chain packet hs upper at → ⊥) → Tells M 0 out
     -- about a chain that ends otherwise the message is written, where a message can go to the source and the room takes it
     pub other : (M : ℕ) (hs : List (List ℕ)) (upper at : ℕ) → Due M → Chain packet hs upper at → OffsetsZero (getD packet 6 0) hs
         → Harmless packet upper at → Answerable packet → messageLength packet ≤ length out
         → Tells M (messageLength packet) (written (tooBigBytes (n .service .settings .reporting) M packet) out)
-    -- where the first next header is none of the four, a sending is what it is by that header alone: answer, next identification, output
-    pub first : UpperLayer (getD packet 6 0)
+    -- where the first next header is none of the four, a sending is what it is by that header alone
+    pub byFirst : UpperLayer (getD packet 6 0)
         → (sendOf n packet hop k time (length out) .answer ≡ answerByFirst)
         × (sendOf n packet hop k time (length out) .node .service .identification ≡ identificationAfter answerByFirst (n .service .identification))
-        × (sendOutput n packet hop k time out
-        ≡ planOutput byFirst (n .service .settings) (n .service .identification) (pathSizeToward n hop time) packet hop out)
+        × (sendOutput n packet hop k time out ≡ outputByFirst)

@@ -20,6 +20,12 @@ use Rattle.header.proofs.ChainLaws.{chain-upper}
 use Rattle.header.proofs.ChainFacts.{upper-layer, headers-none, headers-later}
 use Rattle.header.proofs.DrawsLaws.{decides-harmless, decides-draws}
 
+-- the tests of a packet with payload, joined in two ways
+joined : (a next kind : Bool) → (not a && not (next && (false || kind))) ≡ not (a || (next && true && kind))
+joined true next kind = refl
+joined false true kind = refl
+joined false false kind = refl
+
 module _ (p : List ℕ) where
   -- a chain that draws none
   silent : chainMayDraw (getD p 6 0) (drop innerHeader p) ≡ false → mayDrawError p ≡ false
@@ -47,11 +53,6 @@ module _ (p : List ℕ) where
   -- no chain, since it runs past the packet
   pub past-silent : ((hs : List (List ℕ)) (upper at : ℕ) → Chain p hs upper at → ⊥) → mayDrawError p ≡ false
   past-silent none = refutes _ (decides-draws p) (λ d. none (d .headers) (d .upper) (d .at) (d .chain))
-
-  joined : (a next kind : Bool) → (not a && not (next && (false || kind))) ≡ not (a || (next && true && kind))
-  joined true next kind = refl
-  joined false true kind = refl
-  joined false false kind = refl
 
   -- no extension header, and some payload
   pub draws-by-first : UpperLayer (getD p 6 0) → 40 < length p

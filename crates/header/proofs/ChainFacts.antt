@@ -2,14 +2,14 @@
 use Prim.Native.Nat.{ℕ, _/_, _≤_, _<_}
 use mathlib.Core.Path.{_≡_, refl, sym, _∙_}
 use mathlib.Core.Logic.{_⊎_, ⊎-elim, inl, inr}
-use mathlib.Core.Bool.{Bool, true, false, not, true≢false}
+use mathlib.Core.Bool.{Bool, true, false, not}
 use mathlib.Core.List.{List, [], _∷_, _++_, flatten, append-assoc}
 use native.Mathlib.Decide.{ℕ-discrete}
 use native.Mathlib.Omega.{arith}
 use lib.ListN.{getD, length, length-append, List·getD-append}
 use lib.Seq.{drop-append-seam}
 use lib.Dec.{eqb}
-use borrow.Author.Tests.{eq-eqb, ne-eqb}
+use borrow.Author.Tests.{eq-eqb, ne-eqb, not-true}
 use Rattle.lists.proofs.Decides.{Decides, fails, refutes, decides-eq, decides-or, decides-as}
 use Rattle.header.specs.Fields.{wordAt}
 use Rattle.header.specs.Chain.{hopByHop, routing, fragment, destinationOptions, isExtension, extensionLength, isLaterFragment, chainMayDraw}
@@ -43,10 +43,6 @@ decides-zero h = decides-as _ (decides-eq (wordAt h 2 / 8) 0) to from
 
     from : OffsetZero h → wordAt h 2 / 8 ≡ 0
     from f = omega (arith, f .0, f .1)
-
-pub not-true : (t : Bool) → not t ≡ true → t ≡ false
-not-true true e = absurd (true≢false (sym e))
-not-true false e = refl
 
 twice : (t : Bool) {F : Type 0} → Decides t F → Decides (not (not t)) F
 twice true d = d
@@ -86,12 +82,12 @@ module _ (next : ℕ) (h bs : List ℕ) (x : Extension next h) where
   later-of = rw (byte-of 2 (omega arith), byte-of 3 (omega arith))
 
   -- the chain goes on behind it, unless it is a later fragment
-  pub header-on : isLaterFragment next h ≡ false → chainMayDraw next (h ++ bs) ≡ chainMayDraw (getD h 0 0) bs
+  header-on : isLaterFragment next h ≡ false → chainMayDraw next (h ++ bs) ≡ chainMayDraw (getD h 0 0) bs
   header-on l =
       chain-on next (h ++ bs) number (later-of ∙ l) (omega (arith, length-of, length-append h bs))
       ∙ rw (byte-of 0 (omega arith), length-of, drop-append-seam h bs)
 
-  pub header-later : isLaterFragment next h ≡ true → chainMayDraw next (h ++ bs) ≡ false
+  header-later : isLaterFragment next h ≡ true → chainMayDraw next (h ++ bs) ≡ false
   header-later l = chain-later next (h ++ bs) number (later-of ∙ l)
 
 -- extension headers one behind another, and then what stands behind them

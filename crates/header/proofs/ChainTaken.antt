@@ -8,14 +8,14 @@ use native.Mathlib.Decide.{ℕ-discrete}
 use native.Mathlib.Omega.{arith}
 use lib.ListN.{getD, length, take, drop, length-take, length-drop, take-append-drop}
 use lib.Seq.{getD-take}
-use borrow.Author.Tests.{eq-eqb, ne-eqb}
+use borrow.Author.Tests.{eq-eqb, ne-eqb, not-true}
 use Rattle.lists.proofs.Tests.{or-left, or-right}
 use Rattle.header.specs.Fields.{wordAt}
 use Rattle.header.specs.Chain.{fragment, isExtension, extensionLength, isQuiet, chainMayDraw}
 use Rattle.header.specs.Walks.{passedLength}
 use Rattle.header.specs.Draws.{TellsLength, Extension, Extensions, UpperLayer, OffsetZero, OffsetsZero}
 use Rattle.header.proofs.ChainLaws.{extension-least, chain-on, is-passed, passed-fits, passed-least, passed-none}
-use Rattle.header.proofs.ChainFacts.{decides-extension, is-upper, not-true, decides-first}
+use Rattle.header.proofs.ChainFacts.{decides-extension, is-upper, decides-first}
 
 -- what stands behind a packet's IPv6 header where its chain draws a message
 pub record Behind (next : ℕ) (bs : List ℕ) : Type 0 where
@@ -24,8 +24,8 @@ pub record Behind (next : ℕ) (bs : List ℕ) : Type 0 where
   pub rest : List ℕ
   pub headers : Extensions next hs upper
   pub ends : UpperLayer upper
-  pub first : OffsetsZero next hs
-  pub loud : isQuiet upper rest ≡ false
+  pub offsets : OffsetsZero next hs
+  pub drawn : isQuiet upper rest ≡ false
   pub bytes : bs ≡ flatten hs ++ rest
 
 -- the first header, where it is passed
@@ -60,8 +60,8 @@ module _ (next : ℕ) (bs : List ℕ) (good : passedLength next bs ≡ 0 → ⊥
     rest = b .rest;
     headers = (is-header, rw (byte-in 0 (omega arith)) (b .headers));
     ends = b .ends;
-    first = (is-first, rw (byte-in 0 (omega arith)) (b .first));
-    loud = b .loud;
+    offsets = (is-first, rw (byte-in 0 (omega arith)) (b .offsets));
+    drawn = b .drawn;
     bytes = sym (take-append-drop size bs) ∙ rw (b .bytes, append-assoc (take size bs) (flatten (b .hs)) (b .rest));
   }
 
@@ -74,8 +74,8 @@ only-upper next bs e = record {
   rest = bs;
   headers = refl;
   ends = is-upper next (or-left _ _ (not-true _ e));
-  first = tt;
-  loud = or-right (isExtension next) _ (not-true _ e);
+  offsets = tt;
+  drawn = or-right (isExtension next) _ (not-true _ e);
   bytes = refl;
 }
 

@@ -1,7 +1,7 @@
 -- The test passes exactly for the packets that draw a message. Assumes nothing.
 use Prim.Native.Nat.{ℕ, _+_, _<_}
 use mathlib.Core.Path.{_≡_, refl, sym, _∙_}
-use mathlib.Core.Logic.{⊎-elim, inl, inr}
+use mathlib.Core.Logic.{_⊎_, ⊎-elim, inl, inr}
 use mathlib.Core.Bool.{true, not, _&&_}
 use mathlib.Core.List.{List, flatten}
 use native.Mathlib.Decide.{ℕ-discrete}
@@ -18,14 +18,14 @@ use Rattle.header.specs.Numbers.{innerHeader, icmpv6}
 use Rattle.header.specs.Fields.{addressAt}
 use Rattle.header.specs.Chain.{isErrorOrRedirect, isQuiet, chainMayDraw}
 use Rattle.header.specs.Inner.{mayDrawError}
-use Rattle.header.specs.Draws.{Chain, OffsetsZero, ErrorOrRedirect, Harmless, Answerable, DrawsMessage}
+use Rattle.header.specs.Draws.{Chain, OffsetsZero, Harmless, Answerable, DrawsMessage}
 use Rattle.header.proofs.ChainLaws.{chain-upper}
 use Rattle.header.proofs.ChainFacts.{upper-layer, headers-on}
 use Rattle.header.proofs.ChainTaken.{Behind, behind}
 
 -- an upper layer at an offset of the packet
 module _ (p : List ℕ) (upper at : ℕ) where
-  decides-kind : Decides (isErrorOrRedirect (getD (drop at p) 0 0)) (ErrorOrRedirect p at)
+  decides-kind : Decides (isErrorOrRedirect (getD (drop at p) 0 0)) ((getD p at 0 < 128) ⊎ (getD p at 0 ≡ 137))
   decides-kind = rw (getD-drop at p 0 0, add-zero at) (decides-or _ _ (decides-lt (getD p at 0) 128) (decides-eq (getD p at 0) 137))
 
   pub decides-harmless : Decides (not (isQuiet upper (drop at p))) (Harmless p upper at)
@@ -34,8 +34,8 @@ module _ (p : List ℕ) (upper at : ℕ) where
       go : Dec (upper ≡ 58) → Decides (not (isQuiet upper (drop at p))) (Harmless p upper at)
       go (yes e) = rw (eq-eqb upper icmpv6 e)
           (decides-as _ (decides-not _ (decides-or _ _ (decides-eq (length (drop at p)) 0) decides-kind))
-          (λ n f. (more (λ z. n (inl z)), λ k. n (inr k)))
-          (λ h. ⊎-elim (λ z. omega (arith, z, h e .0, length-drop at p)) (h e .1)))
+          (λ n f. (more (λ z. n (inl z)), λ k. n (inr (k .1))))
+          (λ h. ⊎-elim (λ z. omega (arith, z, h e .0, length-drop at p)) (λ k. h e .1 (h e .0, k))))
         where
           more : (length (drop at p) ≡ 0 → ⊥) → at < length p
           more n = omega (arith, n, length-drop at p)
@@ -43,7 +43,7 @@ module _ (p : List ℕ) (upper at : ℕ) where
 
 module _ (p : List ℕ) where
   -- without a later fragment, a chain draws what its upper layer draws
-  pub chain-draws : (hs : List (List ℕ)) (upper at : ℕ) → Chain p hs upper at → OffsetsZero (getD p 6 0) hs
+  chain-draws : (hs : List (List ℕ)) (upper at : ℕ) → Chain p hs upper at → OffsetsZero (getD p 6 0) hs
       → chainMayDraw (getD p 6 0) (drop innerHeader p) ≡ not (isQuiet upper (drop at p))
   chain-draws hs upper at c z =
       rw (c .bytes)
@@ -61,7 +61,7 @@ module _ (p : List ℕ) where
     chain-at = record { headers = b .headers; ends = b .ends; offset = refl; bytes = b .bytes ∙ rw rest-at }
 
     harmless-at : Harmless p (b .upper) at
-    harmless-at = decides-harmless p (b .upper) at .holds (rw (rest-at, b .loud))
+    harmless-at = decides-harmless p (b .upper) at .holds (rw (rest-at, b .drawn))
 
   decides-answerable : Decides (not (isMulticastOrUnspecified (addressAt p 8))) (Answerable p)
   decides-answerable =
@@ -80,11 +80,11 @@ module _ (p : List ℕ) where
             upper = b .upper;
             at = 40 + length (flatten (b .hs));
             chain = chain-at b;
-            first = b .first;
+            offsets = b .offsets;
             harmless = harmless-at b;
           }
 
       passes : DrawsMessage p → (not (isMulticastOrUnspecified (addressAt p 8)) && chainMayDraw (getD p 6 0) (drop innerHeader p)) ≡ true
       passes d =
           rw (decides-answerable .passes (d .source))
-          (chain-draws (d .headers) (d .upper) (d .at) (d .chain) (d .first) ∙ decides-harmless p (d .upper) (d .at) .passes (d .harmless))
+          (chain-draws (d .headers) (d .upper) (d .at) (d .chain) (d .offsets) ∙ decides-harmless p (d .upper) (d .at) .passes (d .harmless))

@@ -1,4 +1,5 @@
--- A packet with one header of each kind, whose chain is what `Chain` says, and what it draws by the type behind them. Assumes nothing.
+-- A packet with one header of each kind, whose chain is what `Chain` says; and packets that draw a message, and that draw none.
+-- Assumes nothing.
 use Prim.Native.Nat.{ℕ}
 use mathlib.Core.Path.{_≡_, refl}
 use mathlib.Core.Logic.{inl, inr, ⊎-elim}
@@ -39,15 +40,37 @@ chain kind = record {
   bytes = refl;
 }
 
--- an echo request, an error and a redirect
-echo : mayDrawError (packet 128) ≡ true
-unfolding mayDrawError mayDrawFrom isMulticastOrUnspecified addressAt wordAt flatten
-echo = refl
+-- eight bytes: the number of what stands behind them, the second, third and fourth, and four zeros
+abbrev eight : ℕ → ℕ → ℕ → ℕ → List ℕ
+eight next second third fourth = next ∷ (second ∷ (third ∷ (fourth ∷ (0 ∷ (0 ∷ (0 ∷ (0 ∷ [])))))))
 
-error : mayDrawError (packet 127) ≡ false
-unfolding mayDrawError mayDrawFrom isMulticastOrUnspecified addressAt wordAt flatten
-error = refl
+record Worked : Type 0 where
+  -- behind the four an echo request, an error and a redirect
+  echo : mayDrawError (packet 128) ≡ true
+  error : mayDrawError (packet 127) ≡ false
+  redirect : mayDrawError (packet 137) ≡ false
+  -- the three bits below a fragment's offset, its lowest bit, and one of its third byte
+  below : mayDrawError (front 44 ++ eight 58 0 0 7 ++ (128 ∷ [])) ≡ true
+  lowest : mayDrawError (front 44 ++ eight 58 0 0 8 ++ (128 ∷ [])) ≡ false
+  third : mayDrawError (front 44 ++ eight 58 0 1 0 ++ (128 ∷ [])) ≡ false
+  -- 51 is an upper layer, whatever stands in it
+  authentication : mayDrawError (front 51 ++ eight 58 0 0 0 ++ (1 ∷ [])) ≡ true
+  -- all bytes of a header, and half of them; behind it no byte of TCP, and none of ICMPv6
+  whole : mayDrawError (front 60 ++ eight 6 0 0 0) ≡ true
+  half : mayDrawError (front 60 ++ eight 6 1 0 0) ≡ false
+  empty : mayDrawError (front 60 ++ eight 58 0 0 0) ≡ false
 
-redirect : mayDrawError (packet 137) ≡ false
+worked : Worked
 unfolding mayDrawError mayDrawFrom isMulticastOrUnspecified addressAt wordAt flatten
-redirect = refl
+worked = record {
+  echo = refl;
+  error = refl;
+  redirect = refl;
+  below = refl;
+  lowest = refl;
+  third = refl;
+  authentication = refl;
+  whole = refl;
+  half = refl;
+  empty = refl;
+}

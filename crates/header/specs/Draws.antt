@@ -41,9 +41,9 @@ unfoldable pub OffsetsZero : ℕ → List (List ℕ) → Type 0
 OffsetsZero next [] = Unit {0}
 OffsetsZero next (h ∷ hs) = (next ≡ 44 → OffsetZero h) × OffsetsZero (getD h 0 0) hs
 
--- the byte at that offset, the type of an ICMPv6 message, is below 128 or is 137
+-- there is a byte at that offset, and as the type of an ICMPv6 message it is that of an error, below 128, or of a redirect, 137
 abbrev pub ErrorOrRedirect : List ℕ → ℕ → Type 0
-ErrorOrRedirect p at = (getD p at 0 < 128) ⊎ (getD p at 0 ≡ 137)
+ErrorOrRedirect p at = (at < length p) × ((getD p at 0 < 128) ⊎ (getD p at 0 ≡ 137))
 
 -- the upper layer is not ICMPv6 (58), or there is a type, and it is that of no error and no redirect
 abbrev pub Harmless : List ℕ → ℕ → ℕ → Type 0
@@ -60,5 +60,5 @@ pub record DrawsMessage (p : List ℕ) : Type 0 where
   pub upper : ℕ
   pub at : ℕ
   pub chain : Chain p headers upper at
-  pub first : OffsetsZero (getD p 6 0) headers
+  pub offsets : OffsetsZero (getD p 6 0) headers
   pub harmless : Harmless p upper at

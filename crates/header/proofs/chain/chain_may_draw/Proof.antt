@@ -3,7 +3,7 @@
 -- Assumes nothing.
 use borrow.Author.Needs.{needs}
 use native.Mathlib.Omega.{arith}
-use Prim.Native.Nat.{ℕ, _-_, _≤_, _<_}
+use Prim.Native.Nat.{ℕ, suc, _-_, _≤_, _<_}
 use mathlib.Core.List.{List}
 use mathlib.Core.Path.{_≡_, sym, ap, _∙_}
 use lib.ListN.{length, take, drop}
@@ -24,20 +24,20 @@ Inv-loop first payload next₀ at₀ size₀ next at size =
 abbrev μ-loop : tie.MeasureT-loop
 μ-loop first payload next₀ at₀ size₀ next at size = length payload - at
 
--- a turn: a walk over what follows `at`, where twelve headers are passed at most
-module _ (at next : ℕ) (bs : List ℕ) (r : Walked) (is : r ≡ walkedOf 12 next (take (length bs - at) (drop at bs))) where
-  came : (r .next, r .left) ≡ walked passedLength nextIn 12 next (take (length bs - at) (drop at bs))
+-- a turn: a walk over what follows `at`, where at least one header can be passed
+module _ (most at next : ℕ) (bs : List ℕ) (r : Walked) (is : r ≡ walkedOf (suc most) next (take (length bs - at) (drop at bs))) where
+  came : (r .next, r .left) ≡ walked passedLength nextIn (suc most) next (take (length bs - at) (drop at bs))
   unfolding walkedOf
   came = ap (λ (w : Walked). (w .next, w .left)) is
 
   left : r .left ≤ length bs - at
-  left = turn-left passedLength nextIn passed-fits 11 at bs next (r .next, r .left) came
+  left = turn-left passedLength nextIn passed-fits most at bs next (r .next, r .left) came
 
   falls : (passedLength next (drop at bs) ≡ 0 → ⊥) → r .left < length bs - at
-  falls = turn-falls passedLength nextIn passed-fits 11 at bs next (r .next, r .left) came
+  falls = turn-falls passedLength nextIn passed-fits most at bs next (r .next, r .left) came
 
   on : at ≤ length bs → chainMayDraw next (drop at bs) ≡ chainMayDraw (r .next) (drop (length bs - r .left) bs)
-  on within = turn-on passedLength nextIn passed-fits chainMayDraw passed-on 11 at bs next within (r .next, r .left) came
+  on within = turn-on passedLength nextIn passed-fits chainMayDraw passed-on most at bs next within (r .next, r .left) came
 
 loop-holds : tie.Need-loop-holds Inv-loop μ-loop
 loop-holds c = (omega arith, c .passed-length .ensures, cc)
@@ -46,7 +46,7 @@ sub-at : tie.Need-sub-at Inv-loop μ-loop
 sub-at c =
     let l = c .before .before .before .before in
     let bs = l .before .before .before .args .payload .now in
-    let few = left (l .loop .at) (l .loop .next) bs (c .before .walk .result) (c .before .walk .ensures) in
+    let few = left _ (l .loop .at) (l .loop .next) bs (c .before .walk .result) (c .before .walk .ensures) in
     omega arith
 
 loop-less : tie.Need-loop-less Inv-loop μ-loop
@@ -55,7 +55,7 @@ loop-less c =
     let l = w .before .before .before in
     let bs = l .before .before .before .args .payload .now in
     let size = l .loop .inv .1 in
-    let less = falls (l .loop .at) (l .loop .next) bs (w .walk .result) (w .walk .ensures) (λ z. omega arith) in
+    let less = falls _ (l .loop .at) (l .loop .next) bs (w .walk .result) (w .walk .ensures) (λ z. omega arith) in
     omega arith
 
 loop-again : tie.Need-loop-again Inv-loop μ-loop
@@ -63,7 +63,7 @@ loop-again c =
     let w = c .before .before .before in
     let l = w .before .before .before in
     let bs = l .before .before .before .args .payload .now in
-    let again = on (l .loop .at) (l .loop .next) bs (w .walk .result) (w .walk .ensures) (l .loop .inv .0) in
+    let again = on _ (l .loop .at) (l .loop .next) bs (w .walk .result) (w .walk .ensures) (l .loop .inv .0) in
     (omega arith, c .passed-length2 .ensures ∙ rw (rest-from _ bs), l .loop .inv .2 ∙ again)
 
 returns : tie.Need-returns Inv-loop μ-loop
