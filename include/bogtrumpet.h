@@ -343,8 +343,9 @@ BOGTRUMPET_CHECKED struct bogtrumpet_received bogtrumpet_receive(struct bogtrump
 
 /* Wraps an IPv6 packet for the next hop, from the numbered locator (from 0) (R7). A packet above the size that passes gets 14, and an
    ICMPv6 Packet Too Big of 1,280 bytes in the output (R8). None is written, whatever the room, where the packet's source is multicast or
-   ::; where behind its extension headers (hop-by-hop options, routing, fragment, destination options) an ICMPv6 error or redirect stands,
-   or ICMPv6 with no byte left; where these headers run past the packet; or where one is of a fragment whose offset is not 0 (R8.2, R25).
+   ::; where it is an ICMPv6 error or redirect, or ICMPv6 with no byte left, also behind extension headers (hop-by-hop options, routing,
+   fragment, destination options); where these headers run past the packet; or where one is of a fragment whose offset is not 0 (R8.2,
+   R25).
    Numbers, in this order: 8 (also where the length is not 40 + payload length), 11, 12, 13, 14, 23, 15; 15 in the place of 14
    where the message does not fit. 23 does not come on a node made from accepted settings. */
 BOGTRUMPET_CHECKED struct bogtrumpet_sent bogtrumpet_send(struct bogtrumpet_node *node, const uint8_t *packet,

@@ -44,8 +44,8 @@ pub enum Sent<'o> {
         size: u16,
         /// An ICMPv6 Packet Too Big, an IPv6 packet for the sender of the packet, as the part of the output that was written.
         ///
-        /// `None` where none may be sent: where the packet's source is multicast or `::`; where behind its extension headers (hop-by-hop
-        /// options, routing, fragment, destination options) an ICMPv6 error or redirect stands, or ICMPv6 with no byte left; where these
+        /// `None` where none may be sent: where the packet's source is multicast or `::`; where it is an ICMPv6 error or redirect, or ICMPv6
+        /// with no byte left, also behind extension headers (hop-by-hop options, routing, fragment, destination options); where these
         /// headers run past the packet; or where one is of a fragment whose offset is not 0.
         message: Option<&'o [u8]>,
     },
