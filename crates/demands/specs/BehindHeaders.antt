@@ -59,7 +59,7 @@ module _ (n : Node) (packet hop : List ℕ) (k time : ℕ) (out : List ℕ) wher
 
   -- what is written about a packet that is too big, by its chain of headers
   pub record BehindHeaders : Type 0 where
-    -- where an ICMPv6 error or a redirect stands behind headers, however many, nothing is written about it, whatever the room
+    -- where an ICMPv6 error or a redirect stands behind headers, however many or none, nothing is written about it, whatever the room
     pub error : (M : ℕ) (hs : List (List ℕ)) (at : ℕ) → Due M → Chain packet hs 58 at → ErrorOrRedirect packet at → Tells M 0 out
     -- nor is it about a chain of which ICMPv6 is the end and no byte is left
     pub empty : (M : ℕ) (hs : List (List ℕ)) (at : ℕ) → Due M → Chain packet hs 58 at → length packet ≤ at → Tells M 0 out

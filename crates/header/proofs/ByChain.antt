@@ -17,7 +17,7 @@ use Rattle.header.specs.Chain.{isErrorOrRedirect, isQuiet, chainMayDraw}
 use Rattle.header.specs.Inner.{mayDrawError}
 use Rattle.header.specs.Draws.{UpperLayer, Chain, OffsetsZero, ErrorOrRedirect}
 use Rattle.header.proofs.ChainLaws.{chain-upper}
-use Rattle.header.proofs.ChainFacts.{upper-layer, headers-none, headers-later}
+use Rattle.header.proofs.ChainFacts.{upper-layer, headers-silent}
 use Rattle.header.proofs.DrawsLaws.{decides-harmless, decides-draws}
 
 -- the tests of a packet with payload, joined in two ways
@@ -36,7 +36,7 @@ module _ (p : List ℕ) where
   quiet-end : (hs : List (List ℕ)) (upper at : ℕ) → Chain p hs upper at → not (isQuiet upper (drop at p)) ≡ false → mayDrawError p ≡ false
   quiet-end hs upper at c e =
       silent
-      (rw (c .bytes) (headers-none (drop at p) (getD p 6 0) hs upper (c .headers) (chain-upper upper (drop at p) (upper-layer upper (c .ends)) ∙ e)))
+      (rw (c .bytes) (headers-silent (drop at p) (getD p 6 0) hs upper (c .headers) (λ z. chain-upper upper (drop at p) (upper-layer upper (c .ends)) ∙ e)))
 
   -- ICMPv6 behind the headers, an error or a redirect
   pub error-silent : (hs : List (List ℕ)) (at : ℕ) → Chain p hs 58 at → ErrorOrRedirect p at → mayDrawError p ≡ false
@@ -48,7 +48,7 @@ module _ (p : List ℕ) where
 
   -- a later fragment among the headers
   pub later-silent : (hs : List (List ℕ)) (upper at : ℕ) → Chain p hs upper at → (OffsetsZero (getD p 6 0) hs → ⊥) → mayDrawError p ≡ false
-  later-silent hs upper at c later = silent (rw (c .bytes) (headers-later (drop at p) (getD p 6 0) hs upper (c .headers) later))
+  later-silent hs upper at c later = silent (rw (c .bytes) (headers-silent (drop at p) (getD p 6 0) hs upper (c .headers) (λ z. absurd (later z))))
 
   -- no chain, since it runs past the packet
   pub past-silent : ((hs : List (List ℕ)) (upper at : ℕ) → Chain p hs upper at → ⊥) → mayDrawError p ≡ false

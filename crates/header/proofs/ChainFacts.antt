@@ -21,9 +21,9 @@ pub decides-extension : (next : ℕ) → Decides (isExtension next) (TellsLength
 decides-extension next =
     let hop = decides-eq next hopByHop in
     let route = decides-eq next routing in
-    let piece = decides-eq next fragment in
+    let fragments = decides-eq next fragment in
     let options = decides-eq next destinationOptions in
-    decides-as _ (decides-or _ _ (decides-or _ _ (decides-or _ _ hop route) piece) options)
+    decides-as _ (decides-or _ _ (decides-or _ _ (decides-or _ _ hop route) fragments) options)
     (⊎-elim (⊎-elim (⊎-elim (λ h. inl (inl h)) (λ r. inl (inr (inl r)))) (λ f. inr f)) (λ o. inl (inr (inr o))))
     (⊎-elim (⊎-elim (λ h. inl (inl (inl h))) (⊎-elim (λ r. inl (inl (inr r))) (λ o. inr o))) (λ f. inl (inr f)))
 
@@ -49,8 +49,8 @@ twice true d = d
 twice false d = d
 
 -- no later fragment
-pub decides-first : (next : ℕ) (h : List ℕ) → Decides (not (isLaterFragment next h)) (next ≡ 44 → OffsetZero h)
-decides-first next h = go (ℕ-discrete next fragment)
+pub decides-not-later : (next : ℕ) (h : List ℕ) → Decides (not (isLaterFragment next h)) (next ≡ 44 → OffsetZero h)
+decides-not-later next h = go (ℕ-discrete next fragment)
   where
     go : Dec (next ≡ 44) → Decides (not (isLaterFragment next h)) (next ≡ 44 → OffsetZero h)
     go (yes e) = rw (eq-eqb next fragment e) (decides-as _ (twice _ (decides-zero h)) (λ z f. z) (λ f. f e))
@@ -99,31 +99,20 @@ module _ (rest : List ℕ) where
   headers-on next [] upper x z = rw x
   headers-on next (h ∷ hs) upper x z =
       rw (append-assoc h (flatten hs) rest)
-      (header-on next h (flatten hs ++ rest) (x .0) (not-true (isLaterFragment next h) (decides-first next h .passes (z .0)))
+      (header-on next h (flatten hs ++ rest) (x .0) (not-true (isLaterFragment next h) (decides-not-later next h .passes (z .0)))
       ∙ headers-on (getD h 0 0) hs upper (x .1) (z .1))
 
-  -- where its upper layer draws none, neither does the chain
-  pub headers-none : (next : ℕ) (hs : List (List ℕ)) (upper : ℕ) → Extensions next hs upper → chainMayDraw upper rest ≡ false
-      → chainMayDraw next (flatten hs ++ rest) ≡ false
-  unfolding Extensions flatten
-  headers-none next [] upper x none = rw x none
-  headers-none next (h ∷ hs) upper x none =
-      rw (append-assoc h (flatten hs) rest) (go (isLaterFragment next h) refl (headers-none (getD h 0 0) hs upper (x .1) none))
-    where
-      go : (l : Bool) → isLaterFragment next h ≡ l → chainMayDraw (getD h 0 0) (flatten hs ++ rest) ≡ false → chainMayDraw next (h ++ (flatten hs ++ rest)) ≡ false
-      go true e later = header-later next h (flatten hs ++ rest) (x .0) e
-      go false e later = header-on next h (flatten hs ++ rest) (x .0) e ∙ later
-
-  -- with a later fragment it draws none
-  pub headers-later : (next : ℕ) (hs : List (List ℕ)) (upper : ℕ) → Extensions next hs upper → (OffsetsZero next hs → ⊥)
+  -- the chain draws none where its upper layer draws none, or where a later fragment is among the headers
+  pub headers-silent : (next : ℕ) (hs : List (List ℕ)) (upper : ℕ) → Extensions next hs upper → (OffsetsZero next hs → chainMayDraw upper rest ≡ false)
       → chainMayDraw next (flatten hs ++ rest) ≡ false
   unfolding Extensions OffsetsZero flatten
-  headers-later next [] upper x n = absurd (n tt)
-  headers-later next (h ∷ hs) upper x n =
-      rw (append-assoc h (flatten hs) rest) (go (isLaterFragment next h) refl (headers-later (getD h 0 0) hs upper (x .1)))
+  headers-silent next [] upper x none = rw x (none tt)
+  headers-silent next (h ∷ hs) upper x none =
+      rw (append-assoc h (flatten hs) rest) (go (isLaterFragment next h) refl (headers-silent (getD h 0 0) hs upper (x .1)))
     where
-      go : (l : Bool) → isLaterFragment next h ≡ l → ((OffsetsZero (getD h 0 0) hs → ⊥) → chainMayDraw (getD h 0 0) (flatten hs ++ rest) ≡ false)
+      go : (l : Bool) → isLaterFragment next h ≡ l
+          → ((OffsetsZero (getD h 0 0) hs → chainMayDraw upper rest ≡ false) → chainMayDraw (getD h 0 0) (flatten hs ++ rest) ≡ false)
           → chainMayDraw next (h ++ (flatten hs ++ rest)) ≡ false
       go true e others = header-later next h (flatten hs ++ rest) (x .0) e
       go false e others =
-          header-on next h (flatten hs ++ rest) (x .0) e ∙ others (λ z. n (decides-first next h .holds (rw e), z))
+          header-on next h (flatten hs ++ rest) (x .0) e ∙ others (λ z. none (decides-not-later next h .holds (rw e), z))

@@ -67,7 +67,7 @@ chain-on next (b ∷ bs) e l h = rw (e, l) (behind (extensionLength next (b ∷ 
 -- a header that is passed
 pub record Passed (next : ℕ) (bs : List ℕ) : Type 0 where
   pub extension : isExtension next ≡ true
-  pub first : isLaterFragment next bs ≡ false
+  pub notLater : isLaterFragment next bs ≡ false
   pub there : extensionLength next bs ≤ length bs
   pub size : passedLength next bs ≡ extensionLength next bs
 
@@ -78,7 +78,7 @@ module _ (next : ℕ) (bs : List ℕ) where
     where
       go : (x l f : Bool) → isExtension next ≡ x → isLaterFragment next bs ≡ l → leb (extensionLength next bs) (length bs) ≡ f
           → (cond (x && not l && f) (extensionLength next bs) 0 ≡ 0 → ⊥) → Passed next bs
-      go true false true ex el ef good = record { extension = ex; first = el; there = leb-true _ _ ef; size = rw (ex, el, ef) }
+      go true false true ex el ef good = record { extension = ex; notLater = el; there = leb-true _ _ ef; size = rw (ex, el, ef) }
       go true false false ex el ef good = absurd (good refl)
       go true true f ex el ef good = absurd (good refl)
       go false l f ex el ef good = absurd (good refl)
@@ -95,7 +95,7 @@ module _ (next : ℕ) (bs : List ℕ) where
   passed-least good = rw (is-passed good .size) (extension-least next bs)
 
   pub passed-on : (passedLength next bs ≡ 0 → ⊥) → chainMayDraw next bs ≡ chainMayDraw (getD bs 0 0) (drop (passedLength next bs) bs)
-  passed-on good = let p = is-passed good in rw (p .size) (chain-on next bs (p .extension) (p .first) (p .there))
+  passed-on good = let p = is-passed good in rw (p .size) (chain-on next bs (p .extension) (p .notLater) (p .there))
 
   pub passed-fits : passedLength next bs ≤ length bs
   passed-fits = go (ℕ-discrete (passedLength next bs) 0)

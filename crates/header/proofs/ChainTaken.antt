@@ -1,5 +1,5 @@
 -- A chain that draws a message, taken apart into its headers and its upper layer. Assumes nothing.
-use Prim.Native.Nat.{ℕ, zero, suc, _≤_, _<_}
+use Prim.Native.Nat.{ℕ, zero, suc, _<_}
 use mathlib.Core.Path.{_≡_, refl, sym, _∙_}
 use mathlib.Core.Logic.{_⊎_, inl, inr}
 use mathlib.Core.Bool.{true, false, not, _||_}
@@ -14,8 +14,8 @@ use Rattle.header.specs.Fields.{wordAt}
 use Rattle.header.specs.Chain.{fragment, isExtension, extensionLength, isQuiet, chainMayDraw}
 use Rattle.header.specs.Walks.{passedLength}
 use Rattle.header.specs.Draws.{TellsLength, Extension, Extensions, UpperLayer, OffsetZero, OffsetsZero}
-use Rattle.header.proofs.ChainLaws.{extension-least, chain-on, is-passed, passed-fits, passed-least, passed-none}
-use Rattle.header.proofs.ChainFacts.{decides-extension, is-upper, decides-first}
+use Rattle.header.proofs.ChainLaws.{extension-least, chain-on, is-passed, passed-none}
+use Rattle.header.proofs.ChainFacts.{decides-extension, is-upper, decides-not-later}
 
 -- what stands behind a packet's IPv6 header where its chain draws a message
 pub record Behind (next : ℕ) (bs : List ℕ) : Type 0 where
@@ -47,9 +47,9 @@ module _ (next : ℕ) (bs : List ℕ) (good : passedLength next bs ≡ 0 → ⊥
       go (no n) (inl t) = inl (t, long ∙ rw (byte-in 1 (omega arith), ne-eqb next fragment n))
       go (no n) (inr e) = absurd (n e)
 
-  is-first : next ≡ 44 → OffsetZero (take size bs)
+  offset-zero : next ≡ 44 → OffsetZero (take size bs)
   unfolding wordAt
-  is-first = decides-first next (take size bs) .holds (rw (byte-in 2 (omega arith), byte-in 3 (omega arith), is-passed next bs good .first))
+  offset-zero = decides-not-later next (take size bs) .holds (rw (byte-in 2 (omega arith), byte-in 3 (omega arith), is-passed next bs good .notLater))
 
   -- it, and then the others
   with-first : Behind (getD bs 0 0) (drop size bs) → Behind next bs
@@ -60,7 +60,7 @@ module _ (next : ℕ) (bs : List ℕ) (good : passedLength next bs ≡ 0 → ⊥
     rest = b .rest;
     headers = (is-header, rw (byte-in 0 (omega arith)) (b .headers));
     ends = b .ends;
-    offsets = (is-first, rw (byte-in 0 (omega arith)) (b .offsets));
+    offsets = (offset-zero, rw (byte-in 0 (omega arith)) (b .offsets));
     drawn = b .drawn;
     bytes = sym (take-append-drop size bs) ∙ rw (b .bytes, append-assoc (take size bs) (flatten (b .hs)) (b .rest));
   }
@@ -79,23 +79,19 @@ only-upper next bs e = record {
   bytes = refl;
 }
 
--- a chain that draws a message stands there, in at most so many bytes
-pub behind : (most next : ℕ) (bs : List ℕ) → length bs ≤ most → chainMayDraw next bs ≡ true → Behind next bs
-behind zero next bs few draws = go (ℕ-discrete (passedLength next bs) 0)
-  where
-    go : Dec (passedLength next bs ≡ 0) → Behind next bs
-    go (yes none) = only-upper next bs (sym (passed-none next bs none) ∙ draws)
-    go (no good) = absurd (omega (arith, passed-least next bs good, passed-fits next bs))
+-- a chain that draws a message stands there, in fewer bytes than so many
+pub behind : (most next : ℕ) (bs : List ℕ) → length bs < most → chainMayDraw next bs ≡ true → Behind next bs
+behind zero next bs few draws = absurd (omega (arith, few))
 behind (suc most) next bs few draws =
     go (ℕ-discrete (passedLength next bs) 0) (behind most (getD bs 0 0) (drop (extensionLength next bs) bs))
   where
     go : Dec (passedLength next bs ≡ 0)
-        → (length (drop (extensionLength next bs) bs) ≤ most → chainMayDraw (getD bs 0 0) (drop (extensionLength next bs) bs) ≡ true
+        → (length (drop (extensionLength next bs) bs) < most → chainMayDraw (getD bs 0 0) (drop (extensionLength next bs) bs) ≡ true
         → Behind (getD bs 0 0) (drop (extensionLength next bs) bs))
         → Behind next bs
     go (yes none) others = only-upper next bs (sym (passed-none next bs none) ∙ draws)
     go (no good) others =
         let p = is-passed next bs good in
         with-first next bs good
-        (others (omega (arith, few, extension-least next bs, length-drop (extensionLength next bs) bs))
-        (sym (chain-on next bs (p .extension) (p .first) (p .there)) ∙ draws))
+        (others (omega (arith, few, extension-least next bs, p .there, length-drop (extensionLength next bs) bs))
+        (sym (chain-on next bs (p .extension) (p .notLater) (p .there)) ∙ draws))

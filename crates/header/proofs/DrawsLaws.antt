@@ -1,5 +1,5 @@
 -- The test passes exactly for the packets that draw a message. Assumes nothing.
-use Prim.Native.Nat.{ℕ, _+_, _<_}
+use Prim.Native.Nat.{ℕ, suc, _+_, _<_}
 use mathlib.Core.Path.{_≡_, refl, sym, _∙_}
 use mathlib.Core.Logic.{_⊎_, ⊎-elim, inl, inr}
 use mathlib.Core.Bool.{true, not, _&&_}
@@ -73,7 +73,7 @@ module _ (p : List ℕ) where
     where
       holds : (not (isMulticastOrUnspecified (addressAt p 8)) && chainMayDraw (getD p 6 0) (drop innerHeader p)) ≡ true → DrawsMessage p
       holds t =
-          let b = behind (length (drop innerHeader p)) (getD p 6 0) (drop innerHeader p) (omega arith) (and-right (not (isMulticastOrUnspecified (addressAt p 8))) _ t) in
+          let b = behind (suc (length (drop innerHeader p))) (getD p 6 0) (drop innerHeader p) (omega arith) (and-right (not (isMulticastOrUnspecified (addressAt p 8))) _ t) in
           record {
             source = decides-answerable .holds (and-left _ _ t);
             headers = b .hs;
