@@ -1,4 +1,5 @@
 pub mod Node
+pub mod Size
 pub mod Receive
 pub mod Report
 pub mod RouterList

@@ -1,7 +1,9 @@
 // The call with a router solicitation: it is answered with an advertisement.
 use super::Node;
+use super::ServiceName;
 use advertisements::Advertisement;
 use header::wrap::Written;
+use refusals::Refusal;
 ghost use mathlib.Core.Path.{_≡_};
 ghost use lib.ListN.{length};
 ghost use Rattle.node.specs.Advertise.{advertiseOf, advertiseOutput};
@@ -10,17 +12,22 @@ impl Node {
     // The answer alone: the node stays as it is.
     pub fn advertise(
         self,
+        name: ServiceName,
         packet: &[u8],
         locator: usize,
         advertisement: Advertisement,
         out: &mut [u8],
     ) -> Written
-        ensures { λ r. ⌜ r ≡ advertiseOf self (now (packet .entry)) locator advertisement (length (now (out .entry))) ⌝ }
-        ensures { λ _. ⌜ now (out .exit) ≡ advertiseOutput self (now (packet .entry)) locator advertisement (now (out .entry)) ⌝ }
+        ensures { λ r. ⌜ r ≡ advertiseOf self name (now (packet .entry)) locator advertisement (length (now (out .entry))) ⌝ }
+        ensures { λ _. ⌜ now (out .exit) ≡ advertiseOutput self name (now (packet .entry)) locator advertisement (now (out .entry)) ⌝ }
     {
-        let service = self.service;
+        let service = self.service(name);
         let settings = service.settings;
-        let found = settings.locator(locator);
-        advertising::advertise(found, packet, advertisement, out)
+        if self.has(name) {
+            let found = settings.locator(locator);
+            advertising::advertise(found, packet, advertisement, out)
+        } else {
+            Written::Refused(Refusal::NoLocator)
+        }
     }
 }

@@ -1,30 +1,59 @@
 // The call of asking: a router solicitation to the next router.
 use super::Node;
+use super::Service;
+use super::ServiceName;
 use super::later;
 use asking::AskAnswer;
+use refusals::Refusal;
 ghost use mathlib.Core.Path.{_≡_};
 ghost use lib.ListN.{length};
-ghost use Rattle.node.specs.Ask.{askOf, askOutput};
+ghost use Rattle.node.specs.Ask.{askedBy, askedThrough, askOf, askOutput};
 
 pub struct Asked {
     pub answer: AskAnswer,
     pub node: Node,
 }
 
-impl Node {
-    pub fn ask(self, locator: usize, time: u32, out: &mut [u8]) -> Asked
-        ensures { λ r. ⌜ r ≡ askOf self locator time (length (now (out .entry))) ⌝ }
-        ensures { λ _. ⌜ now (out .exit) ≡ askOutput self locator time (now (out .entry)) ⌝ }
-    {
-        let now = later(self.latest, time);
-        let mut service = self.service;
+// What a service makes of it at the latest time; 11 where the node has none such.
+pub fn asked_by(
+    there: bool,
+    service: Service,
+    latest: u32,
+    locator: usize,
+    out: &mut [u8],
+) -> asking::Asked
+    ensures { λ r. ⌜ r ≡ askedBy there service latest locator (length (now (out .entry))) ⌝ }
+    ensures { λ _. ⌜ now (out .exit) ≡ askedThrough there service latest locator (now (out .entry)) ⌝ }
+{
+    let routers = service.routers;
+    if there {
         let settings = service.settings;
-        let old = service.routers;
-        let asked = asking::ask(settings, old, now, locator, out);
+        asking::ask(settings, routers, latest, locator, out)
+    } else {
+        asking::Asked {
+            answer: AskAnswer::Refused(Refusal::NoLocator),
+            routers,
+        }
+    }
+}
+
+impl Node {
+    pub fn ask(self, name: ServiceName, locator: usize, time: u32, out: &mut [u8]) -> Asked
+        ensures { λ r. ⌜ r ≡ askOf self name locator time (length (now (out .entry))) ⌝ }
+        ensures { λ _. ⌜ now (out .exit) ≡ askOutput self name locator time (now (out .entry)) ⌝ }
+    {
+        let mut service = self.service(name);
+        let asked = asked_by(
+            self.has(name),
+            service,
+            later(self.latest, time),
+            locator,
+            out,
+        );
         let routers = asked.routers;
         service.routers = routers;
         let answer = asked.answer;
-        let node = self.put_back(service, time);
+        let node = self.put_back(name, service, time);
         Asked { answer, node }
     }
 }

@@ -22,20 +22,20 @@ same-remembered es now notBelow = refl
 same-remembered es now (tooBig s) = refl
 same-remembered es now other = refl
 
-module _ (limit : ℕ → ℕ) (link : ℕ) where
-  same-answer : (es : List Report) (now : ℕ) (x : PathCall) → answer table limit link (tableOf es) now x ≡ answer plain limit link es now x
+module _ (limit : ℕ → ℕ) (links : ℕ → ℕ) where
+  same-answer : (es : List Report) (now : ℕ) (x : PathCall) → answer table limit links (tableOf es) now x ≡ answer plain limit links es now x
   same-answer es now (clock t) = refl
-  same-answer es now (report v c) = rw (same-kept es v now)
-  same-answer es now (send mine v n fits) = rw (same-kept es v now)
+  same-answer es now (report i v c) = rw (same-kept es v now)
+  same-answer es now (send mine i v n fits) = rw (same-kept es v now)
 
-  pub same-history : (es : List Report) (now : ℕ) (xs : List PathCall) → history table limit link (tableOf es) now xs ≡ history plain limit link es now xs
+  pub same-history : (es : List Report) (now : ℕ) (xs : List PathCall) → history table limit links (tableOf es) now xs ≡ history plain limit links es now xs
   same-history es now [] = refl
   same-history es now (x ∷ xs) =
-      let a : Answer = answer plain limit link es now x in
+      let a : Answer = answer plain limit links es now x in
       cc (same-answer es now x, same-remembered es now a, same-history (remembered plain es now a) (latest now x) xs)
 
-  pub same-after : (es : List Report) (now : ℕ) (xs : List PathCall) (v : ℕ) → keptAfter table limit link (tableOf es) now xs v ≡ keptAfter plain limit link es now xs v
+  pub same-after : (es : List Report) (now : ℕ) (xs : List PathCall) (v : ℕ) → keptAfter table limit links (tableOf es) now xs v ≡ keptAfter plain limit links es now xs v
   same-after es now [] v = same-kept es v now
   same-after es now (x ∷ xs) v =
-      let a : Answer = answer plain limit link es now x in
+      let a : Answer = answer plain limit links es now x in
       cc (same-answer es now x, same-remembered es now a, same-after (remembered plain es now a) (latest now x) xs v)

@@ -1,5 +1,5 @@
 -- A sender's Too Big answers over the plain record: after each one it fits, until an accepted report of its neighbour lowers the size.
-use mathlib.Core.Path.{_≡_, refl, ap}
+use mathlib.Core.Path.{_≡_, refl, ap, _∙_}
 use mathlib.Core.Logic.{⊎-elim}
 use mathlib.Core.Bool.{Bool, true, false, cond, _&&_, false≢true}
 use mathlib.Core.List.{List, [], _∷_}
@@ -15,7 +15,7 @@ use Rattle.paths.specs.Sender.{Event, told, passed, lowered, nothing, At
 use Rattle.paths.proofs.Events.{packetEvent, eventOf, eventsOf}
 use Rattle.paths.proofs.Claim.{Grows}
 use Rattle.paths.proofs.Reports.{tested}
-use Rattle.paths.proofs.Rise.{Small, size-small, size-later, size-others}
+use Rattle.paths.proofs.Rise.{size-later, size-others}
 
 and-left : (a b : Bool) → (a && b) ≡ true → a ≡ true
 and-left true b h = refl
@@ -63,54 +63,47 @@ module _ (limit : ℕ → ℕ) (grows : Grows limit) where
     sent true false n M same over b heeds = b ms (heeds .1)
     sent false big n M same over b heeds = b ms heeds
 
-  module _ (link : ℕ) where
-    abbrev size : List Report → ℕ → ℕ → ℕ
-    size es now w = sizeToward plain link es now w
-
-    -- what is accepted is below the link's size
-    small-report : (es : List Report) → Small link es → (now w c : ℕ) (b : Bool) → isBelow c (size es now w) ≡ b
-        → Small link (remembered plain es now (cond b (accepted w c) notBelow))
-    small-report es small now w c true h = (omega (arith, ltb-true c (size es now w) h, size-small link es small w now), small)
-    small-report es small now w c false h = small
-
+  module _ (links : ℕ → ℕ) where
     -- a sending leaves the record as it was
     unsent : (es : List Report) (now m : ℕ) (b : Bool) → remembered plain es now (cond b (tooBig m) other) ≡ es
     unsent es now m true = refl
     unsent es now m false = refl
 
-    small-after : (es : List Report) → Small link es → (now : ℕ) (x : PathCall) → Small link (remembered plain es now (answer plain limit link es now x))
-    small-after es small now (clock t) = small
-    small-after es small now (report w c) = small-report es small now w c (isBelow c (size es now w)) refl
-    small-after es small now (send mine w n fits) = let M : ℕ = limit (size es now w) in rw (unsent es now M (ltb M n && fits)) small
+    -- the sender's service, and its neighbour
+    module _ (j v : ℕ) where
+      abbrev size : List Report → ℕ → ℕ
+      size es now = sizeToward plain (links j) es now v
 
-    module _ (v : ℕ) where
       -- what the sender meets from then on
       abbrev met : List Report → ℕ → List PathCall → List Event
-      met es now xs = eventsOf v (history plain limit link es now xs)
+      met es now xs = eventsOf j v (history plain limit links es now xs)
 
-      bounded : (xs : List PathCall) (es : List Report) → Small link es → (now : ℕ) (ms : List ℕ) → Bounded ms (size es now v) (met es now xs)
-      bounded [] es small now ms = λ heeds. (omega arith, λ f. omega arith)
-      bounded (clock t ∷ xs) es small now ms =
-          raised (met es (max now t) xs) ms (size es now v) (size es (max now t) v) (size-later link es small v now (max now t) (omega arith))
-          (bounded xs es small (max now t) ms)
-      bounded (report w c ∷ xs) es small now ms =
+      bounded : (xs : List PathCall) (es : List Report) (now : ℕ) (ms : List ℕ) → Bounded ms (size es now) (met es now xs)
+      bounded [] es now ms = λ heeds. (omega arith, λ f. omega arith)
+      bounded (clock t ∷ xs) es now ms =
+          raised (met es (max now t) xs) ms (size es now) (size es (max now t)) (size-later (links j) es v now (max now t) (omega arith))
+          (bounded xs es (max now t) ms)
+      bounded (report i w c ∷ xs) es now ms =
           let e : Report = record { neighbour = w; size = c; time = now } in
           ⊎-elim
-          (λ h. rw h (reported (met (e ∷ es) now xs) ms (size es now v) (eqb w v) (size (e ∷ es) now v) (size-others link es small v now e)
-          (bounded xs (e ∷ es) (rw h at (small-after es small now (report w c))) now ms)))
-          (λ h. rw h (bounded xs es small now ms))
-          (tested (isBelow c (size es now w)))
-      bounded (send mine w n fits ∷ xs) es small now ms =
-          let M : ℕ = limit (size es now w) in
+          (λ h. rw h (reported (met (e ∷ es) now xs) ms (size es now) (eqb w v) (size (e ∷ es) now) (size-others (links j) es v now e)
+          (bounded xs (e ∷ es) now ms)))
+          (λ h. rw h (bounded xs es now ms))
+          (tested (isBelow c (sizeToward plain (links i) es now w)))
+      bounded (send mine i w n fits ∷ xs) es now ms =
+          let M : ℕ = limit (sizeToward plain (links i) es now w) in
           rw (unsent es now M (ltb M n && fits))
-          (sent (met es now xs) ms (size es now v) (mine && eqb w v) (ltb M n && fits) n M
-          (λ own. ap (λ (u : ℕ). limit (size es now u)) (eqb-true w v (and-right mine (eqb w v) own)))
+          (sent (met es now xs) ms (size es now) (mine && eqb i j && eqb w v) (ltb M n && fits) n M
+          (λ own.
+          let through = eqb-true i j (and-right mine (eqb i j) (and-left (mine && eqb i j) (eqb w v) own)) in
+          let toward = eqb-true w v (and-right (mine && eqb i j) (eqb w v) own) in
+          ap (λ (k : ℕ). limit (sizeToward plain (links k) es now w)) through ∙ ap (λ (u : ℕ). limit (sizeToward plain (links j) es now u)) toward)
           (λ big. ltb-true M n (and-left (ltb M n) fits big))
-          (bounded xs es small now))
+          (bounded xs es now))
 
-      pub from-first : (xs : List PathCall) (es : List Report) → Small link es → (now : ℕ) → Bound (met es now xs)
-      from-first [] es small now = λ heeds. omega arith
-      from-first (x ∷ xs) es small now =
-          let a : Answer = answer plain limit link es now x in
-          started (eventOf v x a) (met (remembered plain es now a) (latest now x) xs) (λ heeds. bounded (x ∷ xs) es small now [] heeds .0)
-          (from-first xs (remembered plain es now a) (small-after es small now x) (latest now x))
+      pub from-first : (xs : List PathCall) (es : List Report) (now : ℕ) → Bound (met es now xs)
+      from-first [] es now = λ heeds. omega arith
+      from-first (x ∷ xs) es now =
+          let a : Answer = answer plain limit links es now x in
+          started (eventOf j v x a) (met (remembered plain es now a) (latest now x) xs) (λ heeds. bounded (x ∷ xs) es now [] heeds .0)
+          (from-first xs (remembered plain es now a) (latest now x))

@@ -1,5 +1,5 @@
 -- A list of calls on one node, as far as the path sizes go, and their answers. What remembers the reports is a parameter,
--- the table or the plain record, and so is the rule that says what a path of a given size lets through.
+-- the table or the plain record, and so are the links of its services, which are numbered, and the rule that says what a path of a given size lets through.
 use Prim.Native.Nat.{ℕ, max}
 use mathlib.Core.Bool.{Bool, cond, _&&_}
 use mathlib.Core.List.{List, [], _∷_}
@@ -14,11 +14,11 @@ use Rattle.paths.specs.declared.PathTable.{PathTable}
 pub data PathCall : Type 0 where
   -- a call's time
   clock : ℕ → PathCall
-  -- a size report that passed 16, 17 and 18: neighbour and candidate
-  report : ℕ → ℕ → PathCall
-  -- a sending that came to 14: neighbour, length, and whether the output takes the message of 14 (else 15 is given);
+  -- a size report that passed 16, 17 and 18: its service, neighbour and candidate
+  report : ℕ → ℕ → ℕ → PathCall
+  -- a sending that came to 14: its service, neighbour, length, and whether the output takes the message of 14 (else 15 is given);
   -- first, whether it is one of the watched sender's, on which no answer depends
-  send : Bool → ℕ → ℕ → Bool → PathCall
+  send : Bool → ℕ → ℕ → ℕ → Bool → PathCall
 
 pub data Answer : Type 0 where
   -- a report was accepted: neighbour and size
@@ -45,8 +45,8 @@ plain = record { fresh = []; kept = recordKept; after = recordAfter }
 -- the latest time after a call: an earlier one is read as the latest
 abbrev pub latest : ℕ → PathCall → ℕ
 latest now (clock t) = max now t
-latest now (report v c) = now
-latest now (send mine v n fits) = now
+latest now (report i v c) = now
+latest now (send mine i v n fits) = now
 
 module _ {M : Type 0} (K : Memory M) where
   -- the size in force toward v over a link
@@ -68,12 +68,12 @@ reportAnswer P v c = cond (isBelow c P) (accepted v c) notBelow
 abbrev pub sendAnswer : ℕ → ℕ → Bool → Answer
 sendAnswer M n fits = cond (ltb M n && fits) (tooBig M) other
 
-module _ {M : Type 0} (K : Memory M) (limit : ℕ → ℕ) (link : ℕ) where
+module _ {M : Type 0} (K : Memory M) (limit : ℕ → ℕ) (links : ℕ → ℕ) where
   -- the answer to a call, by what is remembered and the latest time
   abbrev pub answer : M → ℕ → PathCall → Answer
   answer m now (clock t) = other
-  answer m now (report v c) = reportAnswer (sizeToward K link m now v) v c
-  answer m now (send mine v n fits) = sendAnswer (limit (sizeToward K link m now v)) n fits
+  answer m now (report i v c) = reportAnswer (sizeToward K (links i) m now v) v c
+  answer m now (send mine i v n fits) = sendAnswer (limit (sizeToward K (links i) m now v)) n fits
 
   -- each call with its answer
   abbrev pub history : M → ℕ → List PathCall → List (PathCall × Answer)

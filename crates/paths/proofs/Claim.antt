@@ -24,14 +24,15 @@ SameKept = (es : List Report) (v now : ℕ) → keptIn (tableOf es) v now ≡ re
 abbrev pub Grows : (ℕ → ℕ) → Type 0
 Grows limit = (P Q : ℕ) → P ≤ Q → limit P ≤ limit Q
 
-pub record PathsHold (limit : ℕ → ℕ) (link : ℕ) (calls : List PathCall) : Type 0 where
+pub record PathsHold (limit : ℕ → ℕ) (links : ℕ → ℕ) (calls : List PathCall) : Type 0 where
   -- every call gets the answer that the plain record gives
-  pub answers : historyOf table limit link calls ≡ historyOf plain limit link calls
+  pub answers : historyOf table limit links calls ≡ historyOf plain limit links calls
   -- the size kept toward any neighbour is the record's, after any number of the calls
-  pub sizes : (k v : ℕ) → keptOf table limit link (take k calls) v ≡ keptOf plain limit link (take k calls) v
-  -- a sender to v that heeds the sizes named to it gets at most one Too Big more than v has accepted reports since its first packet
-  pub senders : (v : ℕ) → Bound (eventsOf v (historyOf table limit link calls))
+  pub sizes : (k v : ℕ) → keptOf table limit links (take k calls) v ≡ keptOf plain limit links (take k calls) v
+  -- a sender through one service to v that heeds the sizes named to it gets at most one Too Big more than v has accepted reports, of whichever
+  -- service, since its first packet
+  pub senders : (j v : ℕ) → Bound (eventsOf j v (historyOf table limit links calls))
 
 -- demand 3 of the path sizes, as one statement about a whole list of calls
 abbrev pub AllPathsHold : Type 0
-AllPathsHold = (limit : ℕ → ℕ) → Grows limit → (link : ℕ) (calls : List PathCall) → PathsHold limit link calls
+AllPathsHold = (limit : ℕ → ℕ) → Grows limit → (links : ℕ → ℕ) (calls : List PathCall) → PathsHold limit links calls

@@ -20,13 +20,13 @@ reportEvent v (tooBig m) = nothing
 reportEvent v notBelow = nothing
 reportEvent v other = nothing
 
--- a call and its answer, to the sender with neighbour v whose packets are marked
-abbrev pub eventOf : ℕ → PathCall → Answer → Event
-eventOf v (clock t) a = nothing
-eventOf v (report w c) a = reportEvent v a
-eventOf v (send mine w n fits) a = cond (mine && eqb w v) (packetEvent n a) nothing
+-- a call and its answer, to the sender through the service j with neighbour v whose packets are marked; a report counts whichever service it is of
+abbrev pub eventOf : ℕ → ℕ → PathCall → Answer → Event
+eventOf j v (clock t) a = nothing
+eventOf j v (report i w c) a = reportEvent v a
+eventOf j v (send mine i w n fits) a = cond (mine && eqb i j && eqb w v) (packetEvent n a) nothing
 
 -- a list of calls with their answers, to that sender
-abbrev pub eventsOf : ℕ → List (PathCall × Answer) → List Event
-eventsOf v [] = []
-eventsOf v (x ∷ h) = eventOf v (x .0) (x .1) ∷ eventsOf v h
+abbrev pub eventsOf : ℕ → ℕ → List (PathCall × Answer) → List Event
+eventsOf j v [] = []
+eventsOf j v (x ∷ h) = eventOf j v (x .0) (x .1) ∷ eventsOf j v h

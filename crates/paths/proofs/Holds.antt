@@ -12,11 +12,11 @@ use Rattle.paths.proofs.Answers.{same-history, same-after}
 use Rattle.paths.proofs.Bound.{from-first}
 
 pub all-paths-hold : AllPathsHold
-all-paths-hold limit grows link calls =
+all-paths-hold limit grows links calls =
     record {
-      answers = same-history limit link [] 0 calls;
-      sizes = λ k v. same-after limit link [] 0 (take k calls) v;
-      senders = λ v. rw (same-history limit link [] 0 calls) (from-first limit grows link v calls [] tt 0);
+      answers = same-history limit links [] 0 calls;
+      sizes = λ k v. same-after limit links [] 0 (take k calls) v;
+      senders = λ j v. rw (same-history limit links [] 0 calls) (from-first limit grows links j v calls [] 0);
     }
 
 -- M grows with the path size, so that the bound of demand 3 holds for it

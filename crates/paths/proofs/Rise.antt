@@ -71,34 +71,17 @@ module _ (es : List Report) (v now : ℕ) where
 -- ---- so the size over a link only rises
 
 module _ (link : ℕ) where
-  -- no accepted size is above the link's
-  abbrev pub Small : List Report → Type 0
-  Small [] = Unit {0}
-  Small (e ∷ es) = (e .size ≤ link) × Small es
-
-  small-cond : (b : Bool) (k : Kept) → inForce link k ≤ link → inForce link (cond b k Nothing) ≤ link
+  rises : (k l : Kept) → Fades k l → inForce link k ≤ inForce link l
   unfolding inForce
-  small-cond true k s = s
-  small-cond false k s = le-refl link
+  rises k l f = ⊎-elim (λ e. rw e (le-refl _)) (λ e. rw e (small k)) f
+    where
+      small : (k : Kept) → inForce link k ≤ link
+      small (Size s) = omega arith
+      small Nothing = le-refl link
 
-  small-last : (v now : ℕ) (es : List Report) → Small es → inForce link (keptFrom (lastOf v es) now) ≤ link
-  unfolding inForce whileYoung
-  small-last v now [] s = le-refl link
-  small-last v now (e ∷ es) s =
-      ⊎-elim (λ h. rw h (small-cond (ltb now (e .time + lifetime)) (Size (e .size)) (s .0))) (λ h. rw h (small-last v now es (s .1)))
-      (tested (eqb (e .neighbour) v))
-
-  rises : (k l : Kept) → inForce link k ≤ link → Fades k l → inForce link k ≤ inForce link l
-  unfolding inForce
-  rises k l s f = ⊎-elim (λ e. rw e (le-refl _)) (λ e. rw e s) f
-
-  module _ (es : List Report) (small : Small es) (v now : ℕ) where
-    pub size-small : sizeToward plain link es now v ≤ link
-    unfolding recordKept
-    size-small = small-cond (ltb (othersSince v es) mostNeighbours) (keptFrom (lastOf v es) now) (small-last v now es small)
-
+  module _ (es : List Report) (v now : ℕ) where
     pub size-later : (then : ℕ) → now ≤ then → sizeToward plain link es now v ≤ sizeToward plain link es then v
-    size-later then l = rises (recordKept es v now) (recordKept es v then) size-small (kept-later es v now then l)
+    size-later then l = rises (recordKept es v now) (recordKept es v then) (kept-later es v now then l)
 
     pub size-others : (e : Report) → eqb (e .neighbour) v ≡ false → sizeToward plain link es now v ≤ sizeToward plain link (e ∷ es) now v
-    size-others e other = rises (recordKept es v now) (recordKept (e ∷ es) v now) size-small (kept-others es v now e other)
+    size-others e other = rises (recordKept es v now) (recordKept (e ∷ es) v now) (kept-others es v now e other)

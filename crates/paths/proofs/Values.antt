@@ -10,29 +10,29 @@ use Rattle.paths.specs.Sender.{Event, Heeds, tooBigs, reports, fromFirst
 use Rattle.paths.proofs.Events.{eventsOf}
 
 abbrev answersTo : List PathCall → List Answer
-answersTo calls = map (λ (x : PathCall × Answer). x .1) (historyOf table largestPacket 1500 calls)
+answersTo calls = map (λ (x : PathCall × Answer). x .1) (historyOf table largestPacket (λ i. 1500) calls)
 
 abbrev sizeToward7 : List PathCall → ℕ
-sizeToward7 calls = inForce 1500 (keptOf table largestPacket 1500 calls 7)
+sizeToward7 calls = inForce 1500 (keptOf table largestPacket (λ i. 1500) calls 7)
 
 -- a report of each of n other neighbours
 abbrev others : ℕ → List PathCall
 others zero = []
-others (suc n) = report (100 + n) 1400 ∷ others n
+others (suc n) = report 0 (100 + n) 1400 ∷ others n
 
 -- a sender that heeds what it is told, and is told once more than the one report that is accepted
 abbrev toldTwice : List Event
 toldTwice =
-    eventsOf 7
-    (historyOf table largestPacket 1500
-    (report 7 1499 ∷ send true 7 1480 true ∷ report 7 1400 ∷ send true 7 1479 true ∷ send true 7 1380 true ∷ []))
+    eventsOf 0 7
+    (historyOf table largestPacket (λ i. 1500)
+    (report 0 7 1499 ∷ send true 0 7 1480 true ∷ report 1 7 1400 ∷ send true 0 7 1479 true ∷ send true 0 7 1380 true ∷ []))
 
 pub record Values : Type 0 where
   -- a later, larger report does not raise the size; an equal one does not renew its age
-  pub larger : answersTo (report 7 1300 ∷ report 7 1300 ∷ report 7 1400 ∷ report 7 1299 ∷ [])
+  pub larger : answersTo (report 0 7 1300 ∷ report 0 7 1300 ∷ report 0 7 1400 ∷ report 0 7 1299 ∷ [])
       ≡ accepted 7 1300 ∷ notBelow ∷ notBelow ∷ accepted 7 1299 ∷ []
-  pub equal : sizeToward7 (clock 1000 ∷ report 7 1300 ∷ clock 1500 ∷ report 7 1300 ∷ clock 1600 ∷ []) ≡ 1500
+  pub equal : sizeToward7 (clock 1000 ∷ report 0 7 1300 ∷ clock 1500 ∷ report 0 7 1300 ∷ clock 1600 ∷ []) ≡ 1500
   -- the 63rd other neighbour leaves a size, the 64th removes it
-  pub neighbours : (sizeToward7 (report 7 1300 ∷ others 63) ≡ 1300) × (sizeToward7 (report 7 1300 ∷ others 64) ≡ 1500)
+  pub neighbours : (sizeToward7 (report 0 7 1300 ∷ others 63) ≡ 1300) × (sizeToward7 (report 0 7 1300 ∷ others 64) ≡ 1500)
   -- the bound of demand 3 is reached: two Too Big answers, one accepted report
   pub reached : (Heeds [] toldTwice) × (tooBigs toldTwice ≡ 2) × (reports (fromFirst toldTwice) ≡ 1)

@@ -1,5 +1,5 @@
 -- R10: the size that is kept of a report, and the size in force. Table and record share these words.
-use Prim.Native.Nat.{ℕ, _+_}
+use Prim.Native.Nat.{ℕ, _+_, min}
 use mathlib.Core.Bool.{cond}
 use mathlib.Core.List.{List, [], _∷_}
 use mathlib.Core.Option.{Option, none, some}
@@ -35,7 +35,7 @@ abbrev pub keptFrom : Option Report → ℕ → Kept
 keptFrom none now = Nothing
 keptFrom (some e) now = whileYoung (e .size) (e .time) now
 
--- the size in force: the kept one, otherwise L
+-- the size in force over a link: the smaller of L and the kept one, otherwise L
 unfoldable pub inForce : ℕ → Kept → ℕ
-inForce link (Size size) = size
+inForce link (Size size) = min link size
 inForce link Nothing = link

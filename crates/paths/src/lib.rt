@@ -8,7 +8,7 @@ use rows::push_size;
 use rows::row_in_lent;
 use rows::row_of;
 ghost use mathlib.Core.Path.{_≡_};
-ghost use Prim.Native.Nat.{max};
+ghost use Prim.Native.Nat.{min, max};
 ghost use Rattle.paths.specs.Kept.{whileYoung, inForce};
 ghost use Rattle.paths.specs.Table.{noReports, keptAmong, keptIn, tableAfter};
 
@@ -85,14 +85,20 @@ impl PathTable {
     }
 }
 
-// The size in force over a link: the kept one, otherwise the link's.
+// The size in force over a link: the smaller of the link's and the kept one, otherwise the link's.
 pub fn in_force(link: u16, kept: Kept) -> u16
     ensures { λ r. ⌜ r ≡ inForce link kept ⌝ }
 {
     match kept {
-        Kept::Size(size) => size,
+        Kept::Size(size) => smaller(link, size),
         Kept::Nothing => link,
     }
+}
+
+fn smaller(a: u16, b: u16) -> u16
+    ensures { λ r. ⌜ r ≡ min a b ⌝ }
+{
+    if a < b { a } else { b }
 }
 
 // The size in force over a link toward a neighbour at a time, of a table whose rows are lent: one pass over those in use, and

@@ -91,3 +91,11 @@ isAccepted s =
     && areRoutersRight s (s .routers) (s .«router_count»)
     && areNumbersRight s
     && not (isMulticastOrUnspecified (s .reporting))
+
+-- a locator of the one has the address of a locator of the other, on whatever interfaces
+unfoldable pub shareAddress : Settings → Settings → Bool
+shareAddress a b = anyOf (λ (l : Locator). isOurs b (l .address)) (locatorsOf a)
+
+-- R26.2: the settings of two services keep the rules, and share no locator address
+unfoldable pub arePairAccepted : Settings → Settings → Bool
+arePairAccepted a b = isAccepted a && isAccepted b && not (shareAddress a b)

@@ -6,7 +6,7 @@ use locators::Locator;
 ghost use mathlib.Core.Path.{_≡_};
 ghost use lib.ListN.{take};
 ghost use Rattle.lists.specs.Any.{anyOf};
-ghost use Rattle.settings.specs.Settings.{defaultsFor, locatorOf, forbiddenTo, isOurs, isOurLocator, isBadEnd, areLocatorsRight, areNumbersRight, areRoutersRight, isAccepted, isForbiddenLocator};
+ghost use Rattle.settings.specs.Settings.{defaultsFor, locatorOf, forbiddenTo, isOurs, isOurLocator, isBadEnd, areLocatorsRight, areNumbersRight, areRoutersRight, isAccepted, isForbiddenLocator, shareAddress, arePairAccepted};
 
 // Laid out as in C, as all that a node holds is.
 #[repr(C)]
@@ -159,6 +159,21 @@ impl Settings {
             & (self.interval <= 3600)
     }
 
+    // Whether a locator of the one has the address of a locator of the other, on whatever interfaces.
+    fn shares_address(self, other: Settings) -> bool
+        ensures { λ r. ⌜ r ≡ shareAddress self other ⌝ }
+    {
+        let n = lists::least(self.locator_count, 8);
+        let mut found = false;
+        let mut i: usize = 0;
+        while i < n {
+            let l = self.locators[i];
+            found = found | other.ours(l.address);
+            i += 1;
+        }
+        found
+    }
+
     // Whether the settings keep the rules.
     pub fn accepted(self) -> bool
         ensures { λ r. ⌜ r ≡ isAccepted self ⌝ }
@@ -169,5 +184,12 @@ impl Settings {
             & self.routers_right(routers, self.router_count)
             & self.numbers_right()
             & !address::multicast_or_unspecified(reporting)
+    }
+
+    // Whether the settings of two services of one node keep the rules.
+    pub fn accepted_with(self, other: Settings) -> bool
+        ensures { λ r. ⌜ r ≡ arePairAccepted self other ⌝ }
+    {
+        self.accepted() & other.accepted() & !self.shares_address(other)
     }
 }

@@ -6,9 +6,9 @@ use Rattle.node.proofs.Node.of.Tie as tie
 
 returns : tie.Need-returns
 unfolding nodeOf
-returns c = rw (c .new3 .ensures, c .before .new2 .ensures, c .before .before .new .ensures)
+returns c = rw (c .new .ensures, c .before .of2 .ensures, c .before .before .no-settings .ensures, c .before .before .before .of .ensures)
 
 pub of-spec : {M : Type 1} → statement M
 of-spec =
     tie.close
-    (tie.spec (omega arith) (omega arith) (omega arith) returns)
+    (tie.spec (omega arith) (omega arith) (omega arith) (omega arith) returns)
