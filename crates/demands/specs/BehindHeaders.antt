@@ -23,7 +23,9 @@ use Rattle.sending.specs.declared.judging.Plan.the-variants.{Wrap, Tell, Silent
 use Rattle.sending.specs.declared.SendAnswer.{SendAnswer}
 use Rattle.sending.specs.declared.SendAnswer.the-variants.{TooBig}
 use Rattle.node.specs.Send.{pathSizeToward, sendOf, sendOutput}
+use Rattle.node.specs.Node.{serviceOf}
 use Rattle.node.specs.declared.Node.{Node}
+use Rattle.node.specs.declared.ServiceName.{ServiceName}
 
 -- whether a message may be drawn, where the first next header alone is looked at: not if the source is multicast or `::`, or if that header is 58
 -- with payload and the type is below 128 or is 137
@@ -38,24 +40,24 @@ planByFirst s P packet hop k =
     stopOr Refuse (sendCheck s packet hop k)
     (cond (ltb size (length packet)) (cond (mayDrawByFirst packet) (Tell size) (Silent size)) (Wrap (addressOf (locatorOf s k))))
 
-module _ (n : Node) (packet hop : List ℕ) (k time : ℕ) (out : List ℕ) where
+module _ (n : Node) (w : ServiceName) (packet hop : List ℕ) (k time : ℕ) (out : List ℕ) where
   -- 14 is to be given, and to name M
   abbrev pub Due : ℕ → Type 0
-  Due M = Exceeds (n .service .settings) (pathSizeToward n hop time) packet hop k M
+  Due M = Exceeds (serviceOf n w .settings) (pathSizeToward n w hop time) packet hop k M
 
   -- 14 is given with M and that length of a message, and those bytes stand in the output
   abbrev pub Tells : ℕ → ℕ → List ℕ → Type 0
-  Tells M len bytes = (sendOf n packet hop k time (length out) .answer ≡ TooBig M len) × (sendOutput n packet hop k time out ≡ bytes)
+  Tells M len bytes = (sendOf n w packet hop k time (length out) .answer ≡ TooBig M len) × (sendOutput n w packet hop k time out ≡ bytes)
 
   -- the answer by the first next header alone
   abbrev pub answerByFirst : SendAnswer
-  answerByFirst = planAnswer (planByFirst (n .service .settings) (pathSizeToward n hop time) packet hop k) (length packet) (length out)
+  answerByFirst = planAnswer (planByFirst (serviceOf n w .settings) (pathSizeToward n w hop time) packet hop k) (length packet) (length out)
 
   -- and the output
   abbrev pub outputByFirst : List ℕ
   outputByFirst =
-      planOutput (planByFirst (n .service .settings) (pathSizeToward n hop time) packet hop k) (n .service .settings) (n .service .identification)
-      (pathSizeToward n hop time) packet hop out
+      planOutput (planByFirst (serviceOf n w .settings) (pathSizeToward n w hop time) packet hop k) (serviceOf n w .settings) (serviceOf n w .identification)
+      (pathSizeToward n w hop time) packet hop out
 
   -- what is written about a packet that is too big, by its chain of headers
   pub record BehindHeaders : Type 0 where
@@ -70,9 +72,9 @@ module _ (n : Node) (packet hop : List ℕ) (k time : ℕ) (out : List ℕ) wher
     -- about a chain that ends otherwise the message is written, where a message can go to the source and the room takes it
     pub other : (M : ℕ) (hs : List (List ℕ)) (upper at : ℕ) → Due M → Chain packet hs upper at → OffsetsZero (getD packet 6 0) hs
         → Harmless packet upper at → Answerable packet → messageLength packet ≤ length out
-        → Tells M (messageLength packet) (written (tooBigBytes (n .service .settings .reporting) M packet) out)
+        → Tells M (messageLength packet) (written (tooBigBytes (serviceOf n w .settings .reporting) M packet) out)
     -- where the first next header is none of the four, a sending is what it is by that header alone
     pub byFirst : UpperLayer (getD packet 6 0)
-        → (sendOf n packet hop k time (length out) .answer ≡ answerByFirst)
-        × (sendOf n packet hop k time (length out) .node .service .identification ≡ identificationAfter answerByFirst (n .service .identification))
-        × (sendOutput n packet hop k time out ≡ outputByFirst)
+        → (sendOf n w packet hop k time (length out) .answer ≡ answerByFirst)
+        × (serviceOf (sendOf n w packet hop k time (length out) .node) w .identification ≡ identificationAfter answerByFirst (serviceOf n w .identification))
+        × (sendOutput n w packet hop k time out ≡ outputByFirst)

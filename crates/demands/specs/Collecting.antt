@@ -10,11 +10,11 @@ use Rattle.pieces.specs.Places.{Part}
 use Rattle.pieces.specs.History.{Handed, nothing, grown}
 use Rattle.pieces.specs.declared.Key.{Key}
 use Rattle.receiving.specs.Facts.{encapsulated}
-use Rattle.settings.specs.Settings.{isAccepted}
-use Rattle.settings.specs.declared.Settings.{Settings}
-use Rattle.node.specs.Node.{setupOf}
+use Rattle.node.specs.Node.{serviceOf}
 use Rattle.node.specs.declared.Node.{Node}
-use Rattle.demands.specs.Calls.{NodeCall, receiving, receivingPart, sending, reporting, relisting, asking, hearing, advertising, outcomeOf, isPiece, nodeAfter}
+use Rattle.node.specs.declared.ServiceName.{ServiceName}
+use Rattle.demands.specs.Starts.{Start, isRight, startOf}
+use Rattle.demands.specs.Calls.{NodeCall, outcomeOf, OfPieces, aDatagram, noDatagram, piecesOf, isPiece, nodeAfter}
 
 -- R23.5: the key that a datagram's bytes say
 abbrev pub keyOf : List ℕ → Key
@@ -24,30 +24,28 @@ keyOf e = record { source = quadAt e 12; destination = quadAt e 16; identificati
 abbrev pub partIn : List ℕ → Part
 partIn e = record { offset = wordAt e 6 % 0x4000 % 0x2000; more = leb 0x2000 (wordAt e 6 % 0x4000); payload = encapsulated e }
 
--- R23.1: a piece with one of 15, 2, 3, 4, 6, 7 does not come to be collected
+-- R23.1, R26.4: a piece with one of 11, 15, 2, 3, 4, 6, 7 does not come to be collected
 abbrev pub isTurnedAway : ℕ → Bool
-isTurnedAway number = eqb number 15 || eqb number 2 || eqb number 3 || eqb number 4 || eqb number 6 || eqb number 7
+isTurnedAway number = eqb number 11 || eqb number 15 || eqb number 2 || eqb number 3 || eqb number 4 || eqb number 6 || eqb number 7
 
--- the piece that a call hands in, on the node n
-abbrev pub handedBy : Node → NodeCall → List Handed
-handedBy n (receiving e interface time memory) =
-    cond (isPiece e && not (isTurnedAway (outcomeOf n (receiving e interface time memory) .given .number)))
+-- the piece that a call hands in, on the node n: by what it is to a collection, and by the number that it gets
+abbrev pub handedWith : Node → ℕ → OfPieces → List Handed
+handedWith n number (aDatagram e interface time memory) =
+    cond (isPiece e && not (isTurnedAway number))
     (record { key = keyOf e; piece = partIn e; time = max (n .latest) time; memory = memory } ∷ []) []
-handedBy n (receivingPart e interface) = []
-handedBy n (sending packet hop k time out) = []
-handedBy n (reporting m time) = []
-handedBy n (relisting addresses count time) = []
-handedBy n (asking k time out) = []
-handedBy n (hearing packet time) = []
-handedBy n (advertising packet k a out) = []
+handedWith n number noDatagram = []
 
--- the pieces that a list of calls hands in
-abbrev pub handedIn : Node → List NodeCall → List Handed
-handedIn n [] = []
-handedIn n (x ∷ xs) = handedBy n x ++ handedIn (outcomeOf n x .node) xs
+-- the piece that a call hands in to the service w
+abbrev pub handedBy : ServiceName → Node → NodeCall → List Handed
+handedBy w n x = handedWith n (outcomeOf n x .given .number) (piecesOf w x)
 
--- for all accepted settings and all lists of calls
+-- the pieces that a list of calls hands in to it
+abbrev pub handedIn : ServiceName → Node → List NodeCall → List Handed
+handedIn w n [] = []
+handedIn w n (x ∷ xs) = handedBy w n x ++ handedIn w (outcomeOf n x .node) xs
+
+-- for all accepted settings, both services and all lists of calls
 unfoldable pub CollectedByHistory : Type 0
 CollectedByHistory =
-    (s : Settings) → isAccepted s ≡ true
-    → (calls : List NodeCall) → nodeAfter (setupOf s .node) calls .service .pieces ≡ grown nothing (handedIn (setupOf s .node) calls) .collection
+    (s : Start) → isRight s ≡ true
+    → (w : ServiceName) (calls : List NodeCall) → serviceOf (nodeAfter (startOf s) calls) w .pieces ≡ grown nothing (handedIn w (startOf s) calls) .collection

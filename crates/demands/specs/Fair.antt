@@ -8,11 +8,11 @@ use lib.ListN.{length, take}
 use Rattle.refusals.specs.Given.{Given, answered}
 use Rattle.routers.specs.Routers.{live}
 use Rattle.routers.specs.declared.Router.{Router}
-use Rattle.settings.specs.Settings.{isAccepted}
-use Rattle.settings.specs.declared.Settings.{Settings}
-use Rattle.node.specs.Node.{setupOf}
+use Rattle.node.specs.Node.{serviceOf}
 use Rattle.node.specs.declared.Node.{Node}
-use Rattle.demands.specs.Calls.{NodeCall, outcomeOf, OfRouters, anAsking, anAdvertisement, aList, notOfRouters, viewOf, nodeAfter}
+use Rattle.node.specs.declared.ServiceName.{ServiceName}
+use Rattle.demands.specs.Starts.{Start, isRight, startOf}
+use Rattle.demands.specs.Calls.{NodeCall, outcomeOf, OfRouters, anAsking, anAdvertisement, aList, notOfRouters, routersOf, viewOf, nodeAfter}
 
 -- the router that an answered asking names; a refused one names none, and no other call serves one
 abbrev pub serves : OfRouters → Given → List ℕ
@@ -21,10 +21,10 @@ serves anAdvertisement g = []
 serves aList g = []
 serves notOfRouters g = []
 
--- the routers that a list of calls serves, one for each answered asking
-abbrev pub servedBy : Node → List NodeCall → List ℕ
-servedBy n [] = []
-servedBy n (x ∷ xs) = serves (viewOf x .routers) (outcomeOf n x .given) ++ servedBy (outcomeOf n x .node) xs
+-- the routers of the service w that a list of calls serves, one for each answered asking
+abbrev pub servedBy : ServiceName → Node → List NodeCall → List ℕ
+servedBy w n [] = []
+servedBy w n (x ∷ xs) = serves (routersOf w x) (outcomeOf n x .given) ++ servedBy w (outcomeOf n x .node) xs
 
 -- the call takes no new router list, and accepts no advertisement of the router of address a
 abbrev pub Quiet : ℕ → OfRouters → Given → Type 0
@@ -33,23 +33,23 @@ Quiet a anAdvertisement g = g ≡ answered (a ∷ []) → ⊥
 Quiet a aList g = g .number ≡ 0 → ⊥
 Quiet a notOfRouters g = Unit {0}
 
--- each call of a list is quiet
-abbrev pub AllQuiet : ℕ → Node → List NodeCall → Type 0
-AllQuiet a n [] = Unit {0}
-AllQuiet a n (x ∷ xs) = Quiet a (viewOf x .routers) (outcomeOf n x .given) × AllQuiet a (outcomeOf n x .node) xs
+-- each call of a list is quiet, to the service w
+abbrev pub AllQuiet : ServiceName → ℕ → Node → List NodeCall → Type 0
+AllQuiet w a n [] = Unit {0}
+AllQuiet w a n (x ∷ xs) = Quiet a (routersOf w x) (outcomeOf n x .given) × AllQuiet w a (outcomeOf n x .node) xs
 
--- a router r of the node n that is due by the time of the call x is served by x and the calls after it, within as many answered askings
--- as there are routers
-abbrev pub ServedSoon : Node → Router → NodeCall → List NodeCall → Type 0
-ServedSoon n r x xs =
-    List·Memᴰ r (live (n .service .routers))
+-- a router r of the service w of the node n that is due by the time of the call x is served by x and the calls after it, within as many
+-- answered askings of the service as it has routers
+abbrev pub ServedSoon : ServiceName → Node → Router → NodeCall → List NodeCall → Type 0
+ServedSoon w n r x xs =
+    List·Memᴰ r (live (serviceOf n w .routers))
     → r .due ≤ max (n .latest) (viewOf x .time)
-    → AllQuiet (r .address) n (x ∷ xs)
-    → length (live (n .service .routers)) ≤ length (servedBy n (x ∷ xs))
-    → List·Memᴰ (r .address) (take (length (live (n .service .routers))) (servedBy n (x ∷ xs)))
+    → AllQuiet w (r .address) n (x ∷ xs)
+    → length (live (serviceOf n w .routers)) ≤ length (servedBy w n (x ∷ xs))
+    → List·Memᴰ (r .address) (take (length (live (serviceOf n w .routers))) (servedBy w n (x ∷ xs)))
 
--- for all accepted settings and all lists of calls, those before the router is due and those from then on
+-- for all accepted settings, both services and all lists of calls, those before the router is due and those from then on
 unfoldable pub FairNode : Type 0
 FairNode =
-    (s : Settings) → isAccepted s ≡ true
-    → (before : List NodeCall) (r : Router) (x : NodeCall) (xs : List NodeCall) → ServedSoon (nodeAfter (setupOf s .node) before) r x xs
+    (s : Start) → isRight s ≡ true
+    → (w : ServiceName) (before : List NodeCall) (r : Router) (x : NodeCall) (xs : List NodeCall) → ServedSoon w (nodeAfter (startOf s) before) r x xs

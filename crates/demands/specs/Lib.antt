@@ -1,4 +1,5 @@
 pub mod Calls
+pub mod Starts
 pub mod One
 pub mod Readings
 pub mod Two

@@ -5,12 +5,14 @@ use Prim.Native.Nat.{ℕ}
 use mathlib.Core.Path.{_≡_}
 use mathlib.Core.Bool.{Bool, cond, _||_}
 use mathlib.Core.List.{List, [], _∷_}
+use mathlib.Core.Option.{Option, none, some}
 use lib.Dec.{eqb}
 use lib.ListN.{length}
 use Rattle.lent.specs.Written.{written}
-use Rattle.node.specs.Node.{nodeWith, raisedTo}
+use Rattle.node.specs.Node.{serviceOf, nodeWith, raisedTo}
 use Rattle.node.specs.Receive.{withPieces}
 use Rattle.node.specs.declared.Node.{Node}
+use Rattle.node.specs.declared.ServiceName.{ServiceName}
 use Rattle.demands.specs.Calls.{NodeCall, Outcome, outcomeOf, View, viewOf}
 
 -- what 14 may write into an output d: a message of the length that it names, behind which d stays
@@ -35,11 +37,16 @@ changedBy piece number =
     (cond (eqb number 29) collection (cond (eqb number 27 || eqb number 8 || eqb number 9 || eqb number 10) memoryToo nothing))
     nothing
 
+-- of the service that a call names no more than the collection changes, and of the other nothing; a report names none
+abbrev pub OnlyCollected : Option ServiceName → Node → ℕ → Node → Type 0
+OnlyCollected none n time next = next ≡ raisedTo n time
+OnlyCollected (some w) n time next = next ≡ nodeWith n w (withPieces (serviceOf n w) (serviceOf next w .pieces)) time
+
 -- a refusal of a call that is seen so changes nothing of the node n but its latest time, and writes nothing, but for the message of 14, and
 -- but for what its number may change of what is collected
 pub record Refusing (n : Node) (v : View) (o : Outcome) : Type 0 where
   pub state : (o .given .number ≡ 0 → ⊥) → changedBy (v .piece) (o .given .number) ≡ nothing → o .node ≡ raisedTo n (v .time)
-  pub collected : (o .given .number ≡ 0 → ⊥) → o .node ≡ nodeWith n (withPieces (n .service) (o .node .service .pieces)) (n .paths) (v .time)
+  pub collected : (o .given .number ≡ 0 → ⊥) → OnlyCollected (v .service) n (v .time) (o .node)
   pub output : (o .given .number ≡ 0 → ⊥) → (o .given .number ≡ 14 → ⊥) → (changedBy (v .piece) (o .given .number) ≡ memoryToo → ⊥)
       → o .output ≡ v .lent
   pub tooBig : (size len : ℕ) → o .given ≡ record { number = 14; values = size ∷ len ∷ [] } → Message (v .lent) (o .output) len
@@ -48,4 +55,4 @@ pub record Refusing (n : Node) (v : View) (o : Outcome) : Type 0 where
 -- it of every node
 unfoldable pub DemandOne : Type 0
 DemandOne =
-    (n : Node) → length (n .service .settings .reporting) ≡ 16 → (x : NodeCall) → Refusing n (viewOf x) (outcomeOf n x)
+    (n : Node) → ((w : ServiceName) → length (serviceOf n w .settings .reporting) ≡ 16) → (x : NodeCall) → Refusing n (viewOf x) (outcomeOf n x)

@@ -1,4 +1,4 @@
--- A sender of demand 3: any choice of the list's sending calls with one neighbour, and what each call is to it.
+-- A sender of demand 3: any choice of the list's sending calls through one service with one neighbour, and what each call is to it.
 use Prim.Native.Nat.{ℕ, suc}
 use mathlib.Core.Bool.{Bool, cond, _&&_}
 use mathlib.Core.List.{List, [], _∷_}
@@ -13,7 +13,8 @@ use Rattle.reports.specs.declared.ReportAnswer.the-variants as report
 use Rattle.node.specs.Send.{sendOf}
 use Rattle.node.specs.Report.{reportOf}
 use Rattle.node.specs.declared.Node.{Node}
-use Rattle.demands.specs.Calls.{NodeCall, outcomeOf, OfSizes, aSending, aReport, noSize, viewOf}
+use Rattle.node.specs.declared.ServiceName.{ServiceName}
+use Rattle.demands.specs.Calls.{NodeCall, outcomeOf, isSame, OfSizes, aSending, aReport, noSize, viewOf}
 
 -- each offers n bytes; its Too Big answers are its 14s, with a message or without (R12.6)
 abbrev pub sentEvent : ℕ → SendAnswer → Event
@@ -26,16 +27,17 @@ abbrev pub reportedEvent : ℕ → ReportAnswer → Event
 reportedEvent v (report.Accepted w c) = cond (eqb w v) lowered nothing
 reportedEvent v (report.Refused r) = nothing
 
--- a call with that time and room to the sender with neighbour v, where `mine` says whether it is one of the sender's
-abbrev pub eventIn : Bool → ℕ → Node → ℕ → ℕ → OfSizes → Event
-eventIn mine v n time room (aSending packet hop k) =
-    cond (mine && eqb (lastQuad hop) v) (sentEvent (length packet) (sendOf n packet hop k time room .answer)) nothing
-eventIn mine v n time room (aReport m) = reportedEvent v (reportOf n m time .answer)
-eventIn mine v n time room noSize = nothing
+-- a call with that time and room to the sender through the service w with neighbour v, where `mine` says whether it is one of the sender's; a
+-- report counts whichever service it belongs to
+abbrev pub eventIn : ServiceName → Bool → ℕ → Node → ℕ → ℕ → OfSizes → Event
+eventIn w mine v n time room (aSending u packet hop k) =
+    cond (mine && isSame u w && eqb (lastQuad hop) v) (sentEvent (length packet) (sendOf n u packet hop k time room .answer)) nothing
+eventIn w mine v n time room (aReport m) = reportedEvent v (reportOf n m time .answer)
+eventIn w mine v n time room noSize = nothing
 
 -- the calls of a list, of which `choice` picks the sender's by their place
-abbrev pub nodeEvents : (ℕ → Bool) → ℕ → Node → List NodeCall → List Event
-nodeEvents choice v n [] = []
-nodeEvents choice v n (x ∷ xs) =
-    eventIn (choice 0) v n (viewOf x .time) (length (viewOf x .lent)) (viewOf x .sizes)
-    ∷ nodeEvents (λ k. choice (suc k)) v (outcomeOf n x .node) xs
+abbrev pub nodeEvents : ServiceName → (ℕ → Bool) → ℕ → Node → List NodeCall → List Event
+nodeEvents w choice v n [] = []
+nodeEvents w choice v n (x ∷ xs) =
+    eventIn w (choice 0) v n (viewOf x .time) (length (viewOf x .lent)) (viewOf x .sizes)
+    ∷ nodeEvents w (λ k. choice (suc k)) v (outcomeOf n x .node) xs

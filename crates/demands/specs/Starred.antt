@@ -13,8 +13,11 @@ use Rattle.header.specs.Wrap.{be16, be32, outerBytes}
 use Rattle.settings.specs.Locators.{noLocator}
 use Rattle.settings.specs.Settings.{defaultsFor, isAccepted}
 use Rattle.settings.specs.declared.Settings.{Settings}
-use Rattle.node.specs.Node.{setupOf, pathSize}
+use Rattle.node.specs.Node.{setupOf}
+use Rattle.node.specs.Size.{pathSizeOf}
 use Rattle.node.specs.declared.Node.{Node}
+use Rattle.node.specs.declared.ServiceName.the-variants.{First}
+use Rattle.node.specs.declared.size.SizeAnswer.the-variants.{Size}
 use Rattle.demands.specs.Calls.{NodeCall, receiving, sending, reporting, asking, outcomeOf, nodeAfter}
 
 -- our locator
@@ -45,7 +48,7 @@ packet n = 0x60 ∷ 0 ∷ 0 ∷ 0 ∷ be16 (n - 40) (59 ∷ 64 ∷ linkLocalOf u
 
 -- the sending of such a packet, into an output of 2,000 bytes
 abbrev offered : ℕ → NodeCall
-offered n = sending (packet n) (linkLocalOf neighbour) 0 0 (replicate 2000 0)
+offered n = sending First (packet n) (linkLocalOf neighbour) 0 0 (replicate 2000 0)
 
 -- an inner packet from the neighbour, whose source's identifier begins with a byte b
 abbrev pub inner : ℕ → List ℕ
@@ -107,12 +110,12 @@ pub record Starred : Type 0 where
       × (givenLast node [] (sizeReport 67 1500) ≡ refused SizeUnusable)
       × (givenLast node [] (sizeReport 1500 1500) ≡ refused SizeNotBelow)
   -- accepted at 1,000: in force at 1,599, gone at 1,600
-  pub ages : (pathSize (nodeAfter node (asking 0 1000 [] ∷ sizeReport 1300 1500 ∷ asking 0 1599 [] ∷ [])) neighbour ≡ 1300)
-      × (pathSize (nodeAfter node (asking 0 1000 [] ∷ sizeReport 1300 1500 ∷ asking 0 1600 [] ∷ [])) neighbour ≡ 1500)
+  pub ages : (pathSizeOf (nodeAfter node (asking First 0 1000 [] ∷ sizeReport 1300 1500 ∷ asking First 0 1599 [] ∷ [])) First neighbour ≡ Size 1300)
+      × (pathSizeOf (nodeAfter node (asking First 0 1000 [] ∷ sizeReport 1300 1500 ∷ asking First 0 1600 [] ∷ [])) First neighbour ≡ Size 1500)
   -- the header of the program's example gets checksum 6696
   pub checksum : outerBytes 60 (record { identification = 1; «dont_fragment» = false; ttl = 64; protocol = 41; source = neighbour; destination = us })
       ≡ 0x45 ∷ 0x00 ∷ 0x00 ∷ 0x3C ∷ 0x00 ∷ 0x01 ∷ 0x00 ∷ 0x00 ∷ 0x40 ∷ 0x29 ∷ 0x66 ∷ 0x96 ∷ be32 neighbour (be32 us [])
   -- first identifier byte 02 admitted, 01 and 03 not
-  pub identifiers : (givenLast node [] (receiving (datagram 2) 0 0 memory) ≡ answered (0 ∷ 20 ∷ 40 ∷ []))
-      × (givenLast node [] (receiving (datagram 1) 0 0 memory) ≡ refused OuterSourceWrong)
-      × (givenLast node [] (receiving (datagram 3) 0 0 memory) ≡ refused OuterSourceWrong)
+  pub identifiers : (givenLast node [] (receiving First (datagram 2) 0 0 memory) ≡ answered (0 ∷ 20 ∷ 40 ∷ []))
+      × (givenLast node [] (receiving First (datagram 1) 0 0 memory) ≡ refused OuterSourceWrong)
+      × (givenLast node [] (receiving First (datagram 3) 0 0 memory) ≡ refused OuterSourceWrong)

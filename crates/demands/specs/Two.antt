@@ -18,24 +18,33 @@ use Rattle.routers.specs.Routers.{live, replacedOf}
 use Rattle.routers.specs.Facts.{Listed, noRouter}
 use Rattle.routers.specs.declared.Router.{Router}
 use Rattle.routers.specs.declared.RouterList.{RouterList}
-use Rattle.settings.specs.Facts.{ForbiddenTo, BadEnd}
+use Rattle.settings.specs.Facts.{ForbiddenTo, Ours, BadEnd}
 use Rattle.settings.specs.Settings.{defaultsFor, locatorsOf}
 use Rattle.settings.specs.declared.locators.Locator.{Locator}
 use Rattle.settings.specs.declared.Settings.{Settings}
-use Rattle.reports.specs.Accepts.{ReportedExactly}
+use Rattle.header.specs.Fields.{quadAt}
+use Rattle.header.specs.Outer.{quoteOf}
+use Rattle.header.specs.declared.wrap.Written.the-variants as written
+use Rattle.reports.specs.Accepts.{WellFormed, ReportedExactly}
+use Rattle.reports.specs.declared.ReportAnswer.the-variants as report
 use Rattle.sending.specs.Exactly.{SentExactly}
+use Rattle.sending.specs.declared.SendAnswer.the-variants as sent
 use Rattle.receiving.specs.Admitted.{DeliveredExactly}
 use Rattle.receiving.specs.Collect.{collectedOf, collectedMemory}
 use Rattle.receiving.specs.CollectFacts.{CollectedExactly}
 use Rattle.receiving.specs.Receive.{receivedOf, partOf}
+use Rattle.receiving.specs.declared.Received.the-variants as received
 use Rattle.asking.specs.Ask.{askedOf, askedOutput}
 use Rattle.asking.specs.Facts.{AskedExactly}
+use Rattle.asking.specs.declared.AskAnswer.the-variants as asked
 use Rattle.hearing.specs.Facts.{HeardExactly}
 use Rattle.hearing.specs.Heard.{heardOf}
+use Rattle.hearing.specs.declared.HeardAnswer.the-variants as heard
 use Rattle.advertisements.specs.Fits.{AdvertisementFits}
 use Rattle.advertisements.specs.declared.Advertisement.{Advertisement}
 use Rattle.advertising.specs.Facts.{AdvertisedExactly}
-use Rattle.node.specs.Node.{setupOf, nodeWith, raisedTo, pathSizeAt}
+use Rattle.node.specs.Node.{serviceOf, setupOf, setupPairOf, nodeWith, nodeKeeping, raisedTo, pathSizeAt}
+use Rattle.node.specs.Size.{pathSizeOf}
 use Rattle.node.specs.Receive.{withPieces, receiveOf, receiveMemory, partIn}
 use Rattle.node.specs.Send.{pathSizeToward, withIdentification, sendOf, sendOutput}
 use Rattle.node.specs.Report.{pathsAfter, reportOf}
@@ -44,6 +53,10 @@ use Rattle.node.specs.Ask.{askOf, askOutput}
 use Rattle.node.specs.Hear.{hearOf}
 use Rattle.node.specs.Advertise.{advertiseOf, advertiseOutput}
 use Rattle.node.specs.declared.Node.{Node}
+use Rattle.node.specs.declared.Service.{Service}
+use Rattle.node.specs.declared.ServiceName.{ServiceName}
+use Rattle.node.specs.declared.ServiceName.the-variants.{First, Second}
+use Rattle.node.specs.declared.size.SizeAnswer.the-variants as size
 use Rattle.node.specs.declared.SetupAnswer.the-variants as setup
 use Rattle.node.specs.declared.router_list.ListAnswer.the-variants as list
 use Rattle.demands.specs.Collecting.{CollectedByHistory}
@@ -81,6 +94,11 @@ abbrev pub DistinctPairs : List Locator → Type 0
 DistinctPairs [] = Unit {0}
 DistinctPairs (l ∷ ls) = (Some (λ (m : Locator). (m .address ≡ l .address) × (m .interface ≡ l .interface)) ls → ⊥) × DistinctPairs ls
 
+-- the node has the service: the first always, the second where it has both
+abbrev pub Has : Node → ServiceName → Type 0
+Has n First = Unit {0}
+Has n Second = n .both ≡ 0 → ⊥
+
 -- the settings keep the rules; that TTL and interfaces are at most 255, and the identification any number of 16 bits, is their type
 pub record RightSettings (s : Settings) : Type 0 where
   pub some : 1 ≤ s .«locator_count»
@@ -95,17 +113,40 @@ pub record RightSettings (s : Settings) : Type 0 where
   pub unicast : Multicast (s .reporting) → ⊥
   pub specified : Unspecified (s .reporting) → ⊥
 
--- settings make a node exactly when they keep the rules; otherwise 1 is given. The node has them and the first identification, latest time 0, no
--- report, nothing collected, and each router due at 0
+-- what a service is that settings have just made: it has them and the first identification, nothing collected, and each router due at 0
+pub record NewService (s : Settings) (service : Service) : Type 0 where
+  pub settings : service .settings ≡ s
+  pub identification : service .identification ≡ s .identification
+  pub noPiece : service .pieces .places ≡ replicate 8 noPlace
+  pub routers : NewList 0 [] (s .routers) (s .«router_count») (service .routers)
+
+-- what the services of a new node share: latest time 0, and no report
+pub record NewNode (n : Node) : Type 0 where
+  pub latest : n .latest ≡ 0
+  pub noReport : held (n .paths) ≡ []
+
+-- settings make a node of one service exactly when they keep the rules; otherwise 1 is given
 pub record Sets (s : Settings) : Type 0 where
   pub made : RightSettings s → setupOf s .answer ≡ setup.Made
   pub refused : (RightSettings s → ⊥) → setupOf s .answer ≡ setup.Refused refusal.Settings
-  pub settings : RightSettings s → setupOf s .node .service .settings ≡ s
-  pub identification : RightSettings s → setupOf s .node .service .identification ≡ s .identification
-  pub latest : RightSettings s → setupOf s .node .latest ≡ 0
-  pub noReport : RightSettings s → held (setupOf s .node .paths) ≡ []
-  pub noPiece : RightSettings s → setupOf s .node .service .pieces .places ≡ replicate 8 noPlace
-  pub routers : RightSettings s → NewList 0 [] (s .routers) (s .«router_count») (setupOf s .node .service .routers)
+  pub new : RightSettings s → NewNode (setupOf s .node)
+  pub first : RightSettings s → NewService s (setupOf s .node .first)
+  pub alone : RightSettings s → Has (setupOf s .node) Second → ⊥
+
+-- the settings of two services keep the rules, and no locator of the one has the address of a locator of the other
+pub record RightPair (a b : Settings) : Type 0 where
+  pub first : RightSettings a
+  pub second : RightSettings b
+  pub apart : Some (λ (l : Locator). Ours b (l .address)) (locatorsOf a) → ⊥
+
+-- they make a node of two services exactly then; otherwise 1 is given
+pub record SetsPair (a b : Settings) : Type 0 where
+  pub made : RightPair a b → setupPairOf a b .answer ≡ setup.Made
+  pub refused : (RightPair a b → ⊥) → setupPairOf a b .answer ≡ setup.Refused refusal.Settings
+  pub new : RightPair a b → NewNode (setupPairOf a b .node)
+  pub first : RightPair a b → NewService a (setupPairOf a b .node .first)
+  pub second : RightPair a b → NewService b (setupPairOf a b .node .second)
+  pub both : RightPair a b → Has (setupPairOf a b .node) Second
 
 -- settings of which locators, prefixes and routers alone are named have L 1,500, TTL 64, interval 120, identification 1, and for a reporting
 -- address the link-local address of locator 0
@@ -116,88 +157,127 @@ pub record Defaults (s : Settings) (first : Locator) : Type 0 where
   pub identification : s .identification ≡ 1
   pub reporting : s .reporting ≡ formed (first .address)
 
-module _ (n : Node) where
+-- the calls on a node that name its service w
+module _ (n : Node) (w : ServiceName) where
+  -- the settings of the service
+  abbrev its : Settings
+  its = serviceOf n w .settings
+
+  -- its routers
+  abbrev itsRouters : RouterList
+  itsRouters = serviceOf n w .routers
+
   -- the part of a datagram is given exactly when the rules of 2 to 10 admit it by itself, and then it is the inner packet, unchanged
   pub record GivesPart (d : List ℕ) (interface : ℕ) : Type 0 where
-    pub part : partIn n d interface ≡ partOf (receivedOf (n .service .settings) (live (n .service .routers)) d interface) d
-    pub exactly : DeliveredExactly (n .service .settings) (live (n .service .routers)) d interface
+    pub part : partIn n w d interface ≡ partOf (receivedOf its (live itsRouters) d interface) d
+    pub exactly : DeliveredExactly its (live itsRouters) d interface
 
   -- a whole datagram, and what a piece completes, is delivered exactly when the rules admit it; otherwise the first of the numbers is given
-  -- whose fact holds. Of the node no more than the latest time changes, and what is collected
+  -- whose fact holds. Of the node no more than the latest time changes, and what the service collects
   pub record Receives (d : List ℕ) (interface time : ℕ) (memory : List ℕ) : Type 0 where
-    pub answer : receiveOf n d interface time memory .answer
-        ≡ collectedOf (n .service .settings) (live (n .service .routers)) (n .service .pieces) (max (n .latest) time) d interface memory .answer
-    pub node : receiveOf n d interface time memory .node
-        ≡ nodeWith n
-        (withPieces (n .service) (collectedOf (n .service .settings) (live (n .service .routers)) (n .service .pieces) (max (n .latest) time) d interface memory .pieces))
-        (n .paths) time
-    pub lent : receiveMemory n d interface time memory
-        ≡ collectedMemory (n .service .settings) (n .service .pieces) (max (n .latest) time) d interface memory
-    pub exactly : CollectedExactly (n .service .settings) (live (n .service .routers)) (n .service .pieces) (max (n .latest) time) d interface memory
+    pub answer : receiveOf n w d interface time memory .answer
+        ≡ collectedOf its (live itsRouters) (serviceOf n w .pieces) (max (n .latest) time) d interface memory .answer
+    pub node : receiveOf n w d interface time memory .node
+        ≡ nodeWith n w
+        (withPieces (serviceOf n w) (collectedOf its (live itsRouters) (serviceOf n w .pieces) (max (n .latest) time) d interface memory .pieces)) time
+    pub lent : receiveMemory n w d interface time memory ≡ collectedMemory its (serviceOf n w .pieces) (max (n .latest) time) d interface memory
+    pub exactly : CollectedExactly its (live itsRouters) (serviceOf n w .pieces) (max (n .latest) time) d interface memory
 
   -- a packet is wrapped, answered by 14 or refused exactly when the rules say so of the path size in force toward the tunnel end, and those
-  -- bytes are written; of the node no more than identification and latest time change
+  -- bytes are written; of the node no more than the service's identification and the latest time change
   pub record Sends (packet hop : List ℕ) (k time : ℕ) (out : List ℕ) : Type 0 where
-    pub exactly : SentExactly (n .service .settings) (n .service .identification) (pathSizeToward n hop time) packet hop k out
-        (sendOf n packet hop k time (length out) .answer) (sendOf n packet hop k time (length out) .node .service .identification)
-        (sendOutput n packet hop k time out)
-    pub node : sendOf n packet hop k time (length out) .node
-        ≡ nodeWith n (withIdentification (n .service) (sendOf n packet hop k time (length out) .node .service .identification)) (n .paths) time
-
-  -- a report is accepted exactly when 16 to 19 do not hold, at the size in force toward its neighbour; otherwise the first of them is given.
-  -- Then it is that neighbour's last
-  pub record Reports (m : List ℕ) (time : ℕ) : Type 0 where
-    pub exactly : ReportedExactly (n .service .settings) m (λ v. pathSizeAt n v (max (n .latest) time)) (reportOf n m time .answer)
-    pub node : reportOf n m time .node ≡ nodeWith n (n .service) (pathsAfter (reportOf n m time .answer) (n .paths) (max (n .latest) time)) time
+    pub exactly : SentExactly its (serviceOf n w .identification) (pathSizeToward n w hop time) packet hop k out
+        (sendOf n w packet hop k time (length out) .answer) (serviceOf (sendOf n w packet hop k time (length out) .node) w .identification)
+        (sendOutput n w packet hop k time out)
+    pub node : sendOf n w packet hop k time (length out) .node
+        ≡ nodeWith n w (withIdentification (serviceOf n w) (serviceOf (sendOf n w packet hop k time (length out) .node) w .identification)) time
 
   -- an asking is answered exactly when a router may be asked at the latest time; then the solicitation is written, and that router alone is
   -- due after the interval
   pub record Asks (k time : ℕ) (out : List ℕ) : Type 0 where
-    pub answer : askOf n k time (length out) .answer
-        ≡ askedOf (n .service .settings) (n .service .routers) (max (n .latest) time) k (length out) .answer
-    pub node : askOf n k time (length out) .node
-        ≡ nodeWith n
-        (withRouters (n .service) (askedOf (n .service .settings) (n .service .routers) (max (n .latest) time) k (length out) .routers)) (n .paths) time
-    pub output : askOutput n k time out ≡ askedOutput (n .service .settings) (n .service .routers) (max (n .latest) time) k out
-    pub exactly : AskedExactly (n .service .settings) (n .service .routers) (max (n .latest) time) k out
+    pub answer : askOf n w k time (length out) .answer ≡ askedOf its itsRouters (max (n .latest) time) k (length out) .answer
+    pub node : askOf n w k time (length out) .node
+        ≡ nodeWith n w (withRouters (serviceOf n w) (askedOf its itsRouters (max (n .latest) time) k (length out) .routers)) time
+    pub output : askOutput n w k time out ≡ askedOutput its itsRouters (max (n .latest) time) k out
+    pub exactly : AskedExactly its itsRouters (max (n .latest) time) k out
 
   -- an advertisement is accepted exactly when it is valid and its source embeds a listed router; then that router alone is due when the
   -- lifetimes say
   pub record Hears (packet : List ℕ) (time : ℕ) : Type 0 where
-    pub answer : hearOf n packet time .answer ≡ heardOf (n .service .settings) (n .service .routers) (max (n .latest) time) packet .answer
-    pub node : hearOf n packet time .node
-        ≡ nodeWith n (withRouters (n .service) (heardOf (n .service .settings) (n .service .routers) (max (n .latest) time) packet .routers)) (n .paths) time
-    pub exactly : HeardExactly (n .service .settings) (n .service .routers) (max (n .latest) time) packet
+    pub answer : hearOf n w packet time .answer ≡ heardOf its itsRouters (max (n .latest) time) packet .answer
+    pub node : hearOf n w packet time .node ≡ nodeWith n w (withRouters (serviceOf n w) (heardOf its itsRouters (max (n .latest) time) packet .routers)) time
+    pub exactly : HeardExactly its itsRouters (max (n .latest) time) packet
 
   -- a solicitation is answered with an advertisement exactly when the rules hold, and that advertisement is written; otherwise the first of the
   -- numbers is given whose fact holds. That the operator's numbers fit is their type
   pub record Advertises (packet : List ℕ) (k : ℕ) (a : Advertisement) (out : List ℕ) : Type 0 where
     pub exactly : AdvertisementFits a
-        → AdvertisedExactly (n .service .settings) packet k a out (advertiseOf n packet k a (length out)) (advertiseOutput n packet k a out)
+        → AdvertisedExactly its packet k a out (advertiseOf n w packet k a (length out)) (advertiseOutput n w packet k a out)
 
   -- a new router list is taken exactly when it keeps the rules; otherwise 1 is given
   pub record Relists (addresses : List ℕ) (count time : ℕ) : Type 0 where
-    pub taken : RightList (n .service .settings) addresses count
-        → replaceOf n addresses count time
+    pub taken : RightList its addresses count
+        → replaceOf n w addresses count time
         ≡ record {
           answer = list.Replaced;
-          node = nodeWith n (withRouters (n .service) (replacedOf addresses count (max (n .latest) time) (n .service .routers))) (n .paths) time;
+          node = nodeWith n w (withRouters (serviceOf n w) (replacedOf addresses count (max (n .latest) time) itsRouters)) time;
         }
-    pub replaced : RightList (n .service .settings) addresses count
-        → NewList (max (n .latest) time) (live (n .service .routers)) addresses count (replaceOf n addresses count time .node .service .routers)
-    pub refused : (RightList (n .service .settings) addresses count → ⊥)
-        → replaceOf n addresses count time ≡ record { answer = list.Refused refusal.Settings; node = raisedTo n time }
+    pub replaced : RightList its addresses count
+        → NewList (max (n .latest) time) (live itsRouters) addresses count (serviceOf (replaceOf n w addresses count time .node) w .routers)
+    pub refused : (RightList its addresses count → ⊥)
+        → replaceOf n w addresses count time ≡ record { answer = list.Refused refusal.Settings; node = raisedTo n time }
 
-  -- every call on the node
-  pub record Exactly : Type 0 where
+  -- every call on the node that names a service which it has
+  pub record Present : Type 0 where
     pub givesPart : (d : List ℕ) (interface : ℕ) → GivesPart d interface
     pub receives : (d : List ℕ) (interface time : ℕ) (memory : List ℕ) → Receives d interface time memory
     pub sends : (packet hop : List ℕ) (k time : ℕ) (out : List ℕ) → Sends packet hop k time out
-    pub reports : (m : List ℕ) (time : ℕ) → Reports m time
     pub relists : (addresses : List ℕ) (count time : ℕ) → Relists addresses count time
     pub asks : (k time : ℕ) (out : List ℕ) → Asks k time out
     pub hears : (packet : List ℕ) (time : ℕ) → Hears packet time
     pub advertises : (packet : List ℕ) (k : ℕ) (a : Advertisement) (out : List ℕ) → Advertises packet k a out
+    pub sizes : (v : ℕ) → pathSizeOf n w v ≡ size.Size (pathSizeAt n w v (n .latest))
+
+  -- a call that names a service which the node has not gets 11, whatever its arguments are: the latest time is raised, and nothing is written
+  pub record Absent : Type 0 where
+    pub givesPart : (d : List ℕ) (interface : ℕ) → partIn n w d interface ≡ []
+    pub receives : (d : List ℕ) (interface time : ℕ) (memory : List ℕ)
+        → (receiveOf n w d interface time memory ≡ record { answer = received.Refused refusal.NoLocator; node = raisedTo n time })
+        × (receiveMemory n w d interface time memory ≡ memory)
+    pub sends : (packet hop : List ℕ) (k time : ℕ) (out : List ℕ)
+        → (sendOf n w packet hop k time (length out) ≡ record { answer = sent.Refused refusal.NoLocator; node = raisedTo n time })
+        × (sendOutput n w packet hop k time out ≡ out)
+    pub relists : (addresses : List ℕ) (count time : ℕ)
+        → replaceOf n w addresses count time ≡ record { answer = list.Refused refusal.NoLocator; node = raisedTo n time }
+    pub asks : (k time : ℕ) (out : List ℕ)
+        → (askOf n w k time (length out) ≡ record { answer = asked.Refused refusal.NoLocator; node = raisedTo n time })
+        × (askOutput n w k time out ≡ out)
+    pub hears : (packet : List ℕ) (time : ℕ) → hearOf n w packet time ≡ record { answer = heard.Refused refusal.NoLocator; node = raisedTo n time }
+    pub advertises : (packet : List ℕ) (k : ℕ) (a : Advertisement) (out : List ℕ)
+        → (advertiseOf n w packet k a (length out) ≡ written.Refused refusal.NoLocator) × (advertiseOutput n w packet k a out ≡ out)
+    pub sizes : (v : ℕ) → pathSizeOf n w v ≡ size.Refused refusal.NoLocator
+
+module _ (n : Node) where
+  -- the quoted source is a locator address of the service, which the node has
+  abbrev pub Quotes : ServiceName → List ℕ → Type 0
+  Quotes w m = Has n w × Ours (serviceOf n w .settings) (quadAt (quoteOf m) 12)
+
+  -- a report is accepted exactly when 16 to 19 do not hold, by the settings of the service that has its quoted source for a locator address, the
+  -- first where both have it, and at that service's size in force toward its neighbour; otherwise the first of them is given. One that quotes a
+  -- locator address of neither gets 16 or 17. An accepted one is its neighbour's last
+  pub record Reports (m : List ℕ) (time : ℕ) : Type 0 where
+    pub first : Quotes First m → ReportedExactly (n .first .settings) m (λ v. pathSizeAt n First v (max (n .latest) time)) (reportOf n m time .answer)
+    pub second : (Quotes First m → ⊥) → Quotes Second m
+        → ReportedExactly (n .second .settings) m (λ v. pathSizeAt n Second v (max (n .latest) time)) (reportOf n m time .answer)
+    pub malformed : (WellFormed m → ⊥) → reportOf n m time .answer ≡ report.Refused refusal.ReportMalformed
+    pub neither : WellFormed m → (Quotes First m → ⊥) → (Quotes Second m → ⊥) → reportOf n m time .answer ≡ report.Refused refusal.QuoteNotOurs
+    pub node : reportOf n m time .node ≡ nodeKeeping n (pathsAfter (reportOf n m time .answer) (n .paths) (max (n .latest) time)) time
+
+  -- every call on the node
+  pub record Exactly : Type 0 where
+    pub present : (w : ServiceName) → Has n w → Present n w
+    pub absent : (w : ServiceName) → (Has n w → ⊥) → Absent n w
+    pub reports : (m : List ℕ) (time : ℕ) → Reports m time
 
 -- a piece gets its number exactly when the rules say so: of any collection as it stands, that it has 8 places being its type; and of any list of
 -- pieces that were handed in, by those of them that were taken. That list is what the calls on a node hand in
@@ -213,5 +293,6 @@ pub record DemandTwo : Type 0 where
   pub defaults : (first : Locator) (others : List Locator) (locators : ℕ) (prefixes : List ℕ) (onLink : ℕ) (routers : List ℕ) (listed : ℕ)
       → Defaults (defaultsFor (first ∷ others) locators prefixes onLink routers listed) first
   pub sets : (s : Settings) → Sets s
+  pub setsPair : (a b : Settings) → SetsPair a b
   pub calls : (n : Node) → Exactly n
   pub collects : Collects
