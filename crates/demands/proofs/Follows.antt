@@ -58,7 +58,7 @@ fresh-follows s h = made-follows (s .first) (s .second) h
 pub same-some : (a b : Settings) → some a ≡ some b → a ≡ b
 same-some a b e = cc
 
-no-some : (b : Settings) → none ≡ some b → ⊥
+pub no-some : (b : Settings) → none ≡ some b → ⊥
 no-some b e = let z : _≡_ {A = ℕ} 0 1 = ap marked e in omega arith
   where
     marked : Option Settings → ℕ
