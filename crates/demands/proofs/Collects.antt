@@ -29,10 +29,8 @@ use Rattle.receiving.specs.Collect.{isPiece, joinedBy}
 use Rattle.receiving.specs.Receive.{isSourceRight}
 use Rattle.receiving.specs.declared.Received.{Received}
 use Rattle.receiving.specs.declared.Received.the-variants.{Delivered, Joined, Refused}
-use Rattle.node.specs.Receive.{receiveOf}
-use Rattle.node.specs.declared.Node.{Node}
-use Rattle.demands.specs.Calls.{receiving, outcomeOf}
 use Rattle.demands.specs.One.{MayChange, nothing, collection, memoryToo, changedBy}
+use Rattle.demands.proofs.Seats.{Seat, collectedAt, memoryAt}
 use Rattle.demands.proofs.Steps.{arrival, stepAt, stepBy, stateOf, inward, answered-step, received}
 
 -- what is left of a state, where that much may change
@@ -98,7 +96,7 @@ changedIn Pass = memoryToo
 changedIn (Stop r) = changedBy true (numberOf r)
 
 -- 8, 9 and 10, of what a piece completes, may change the memory
-inward-changes : (n : Node) (source : ℕ) (p : List ℕ) → changedIn (inward n source p) ≡ memoryToo
+inward-changes : (n : Seat) (source : ℕ) (p : List ℕ) → changedIn (inward n source p) ≡ memoryToo
 inward-changes n source p =
     let s = n .service .settings in
     let i = innerOf p in
@@ -121,7 +119,7 @@ joined-refused o l r e = let z : _≡_ {A = ℕ} 0 1 = ap tagged e in omega arit
     tagged (Joined o l) = 0
     tagged (Refused r) = 1
 
-module _ (n : Node) (e : List ℕ) (j time : ℕ) (memory : List ℕ) (r : Refusal) (h : receiveOf n e j time memory .answer ≡ Refused r) where
+module _ (n : Seat) (e : List ℕ) (j time : ℕ) (memory : List ℕ) (r : Refusal) (h : collectedAt n e j time memory .answer ≡ Refused r) where
   abbrev y : Step
   y = stepAt (max (n .latest) time) e
 
@@ -142,7 +140,7 @@ module _ (n : Node) (e : List ℕ) (j time : ℕ) (memory : List ℕ) (r : Refus
 
   -- what a refused call for the number leaves
   pub received-leaves : Leaves (changedBy (isPiece (outerOf e)) (numberOf r)) (stateOf n memory)
-      (stateOf (outcomeOf n (receiving e j time memory) .node) (outcomeOf n (receiving e j time memory) .output))
+      (record { collection = collectedAt n e j time memory .pieces; memory = memoryAt n e j time memory })
   received-leaves =
       subst (λ (t : State). Leaves (changedBy (isPiece (outerOf e)) (numberOf r)) (stateOf n memory) t) (sym (received n e j time memory))
       (go (arrival n e j memory) refl (isPiece (outerOf e)) refl)

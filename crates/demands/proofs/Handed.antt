@@ -9,7 +9,7 @@ use lib.ListN.{length}
 use Rattle.lists.specs.Parts.{part}
 use Rattle.refusals.specs.Refusals.{numberOf, firstOf, stopOr}
 use Rattle.refusals.specs.declared.Refusal.{Refusal}
-use Rattle.refusals.specs.declared.Refusal.the-variants.{OutputShort, OuterMalformed, OuterChecksum, OtherProtocol, NotForUs, OuterSourceForbidden, InnerMalformed, InnerSourceBad, OuterSourceWrong, PieceWaits}
+use Rattle.refusals.specs.declared.Refusal.the-variants.{NoLocator, OutputShort, OuterMalformed, OuterChecksum, OtherProtocol, NotForUs, OuterSourceForbidden, InnerMalformed, InnerSourceBad, OuterSourceWrong, PieceWaits}
 use Rattle.refusals.specs.declared.Check.{Check}
 use Rattle.refusals.specs.declared.Check.the-variants.{Pass, Stop}
 use Rattle.address.specs.Address.{lastQuad, isBadSourceWith}
@@ -34,10 +34,10 @@ use Rattle.receiving.specs.Collect.{isPiece, joinedBy}
 use Rattle.receiving.specs.Receive.{isSourceRight, receivedGiven}
 use Rattle.receiving.specs.declared.Received.{Received}
 use Rattle.receiving.specs.declared.Received.the-variants.{Joined, Refused}
-use Rattle.node.specs.declared.Node.{Node}
-use Rattle.demands.specs.Calls.{receiving, outcomeOf}
+use Rattle.demands.specs.Calls.{OfPieces, aDatagram, noDatagram}
 use Rattle.demands.specs.Calls as calls
-use Rattle.demands.specs.Collecting.{keyOf, partIn, isTurnedAway, handedBy}
+use Rattle.demands.specs.Collecting.{keyOf, partIn, isTurnedAway}
+use Rattle.demands.proofs.Seats.{Seat, collectedAt}
 use Rattle.demands.proofs.Steps.{arrival, stepAt, stateOf, inward, stopped, answered-step}
 
 -- whether a check turns a piece away
@@ -52,24 +52,25 @@ pass-stop r e = let z : _≡_ {A = ℕ} 0 1 = ap marked e in omega arith
     marked Pass = 0
     marked (Stop q) = 1
 
--- 15, 2, 3, 4, 6, 7 do, 8, 9, 10 do not
-arrival-away : (n : Node) (e : List ℕ) (j : ℕ) (memory : List ℕ) (r : Refusal) → arrival n e j memory ≡ Stop r → isTurnedAway (numberOf r) ≡ true
+-- 11, 15, 2, 3, 4, 6, 7 do, 8, 9, 10 do not
+arrival-away : (n : Seat) (e : List ℕ) (j : ℕ) (memory : List ℕ) (r : Refusal) → arrival n e j memory ≡ Stop r → isTurnedAway (numberOf r) ≡ true
 arrival-away n e j memory r h =
     let o = outerOf e in
     let s = n .service .settings in
-    ap away (sym h) ∙ go (ltb (length memory) memoryRoom) (isOuterMalformed (length e) o) (isSumWrong e o) (not (eqb (o .protocol) ipv6)) (not (isOurLocator s (o .destination) j)) (forbiddenTo s (o .source)) h
+    ap away (sym h) ∙ go (not (n .there)) (ltb (length memory) memoryRoom) (isOuterMalformed (length e) o) (isSumWrong e o) (not (eqb (o .protocol) ipv6)) (not (isOurLocator s (o .destination) j)) (forbiddenTo s (o .source)) h
   where
-    go : (a b c d f g : Bool) → firstOf ((a, OutputShort) ∷ (b, OuterMalformed) ∷ (c, OuterChecksum) ∷ (d, OtherProtocol) ∷ (f, NotForUs) ∷ (g, OuterSourceForbidden) ∷ []) ≡ Stop r
-        → away (firstOf ((a, OutputShort) ∷ (b, OuterMalformed) ∷ (c, OuterChecksum) ∷ (d, OtherProtocol) ∷ (f, NotForUs) ∷ (g, OuterSourceForbidden) ∷ [])) ≡ true
-    go true b c d f g z = refl
-    go false true c d f g z = refl
-    go false false true d f g z = refl
-    go false false false true f g z = refl
-    go false false false false true g z = refl
-    go false false false false false true z = refl
-    go false false false false false false z = absurd (pass-stop r z)
+    go : (t a b c d f g : Bool) → firstOf ((t, NoLocator) ∷ (a, OutputShort) ∷ (b, OuterMalformed) ∷ (c, OuterChecksum) ∷ (d, OtherProtocol) ∷ (f, NotForUs) ∷ (g, OuterSourceForbidden) ∷ []) ≡ Stop r
+        → away (firstOf ((t, NoLocator) ∷ (a, OutputShort) ∷ (b, OuterMalformed) ∷ (c, OuterChecksum) ∷ (d, OtherProtocol) ∷ (f, NotForUs) ∷ (g, OuterSourceForbidden) ∷ [])) ≡ true
+    go true a b c d f g z = refl
+    go false true b c d f g z = refl
+    go false false true c d f g z = refl
+    go false false false true d f g z = refl
+    go false false false false true f g z = refl
+    go false false false false false true g z = refl
+    go false false false false false false true z = refl
+    go false false false false false false false z = absurd (pass-stop r z)
 
-inward-away : (n : Node) (source : ℕ) (p : List ℕ) → away (inward n source p) ≡ false
+inward-away : (n : Seat) (source : ℕ) (p : List ℕ) → away (inward n source p) ≡ false
 inward-away n source p =
     let s = n .service .settings in
     let i = innerOf p in
@@ -110,7 +111,7 @@ stop-away : (c : Check) (o l : ℕ) → away c ≡ false → isTurnedAway (recei
 stop-away Pass o l h = refl
 stop-away (Stop r) o l h = h
 
-joined-away : (n : Node) (source : ℕ) (a : Answer) (memory : List ℕ) → awayBy a ≡ false
+joined-away : (n : Seat) (source : ℕ) (a : Answer) (memory : List ℕ) → awayBy a ≡ false
     → isTurnedAway (receivedGiven (joinedBy (n .service .settings) (live (n .service .routers)) source a memory) .number) ≡ false
 joined-away n source (taken.Joined k l) memory h =
     let p : List ℕ = part (room * k) l memory in
@@ -123,11 +124,11 @@ handedAt Pass true h = h ∷ []
 handedAt Pass false h = []
 handedAt (Stop r) b h = []
 
-module _ (n : Node) (e : List ℕ) (j time : ℕ) (memory : List ℕ) where
+module _ (n : Seat) (e : List ℕ) (j time : ℕ) (memory : List ℕ) where
   abbrev pub number : ℕ
-  number = outcomeOf n (receiving e j time memory) .given .number
+  number = receivedGiven (collectedAt n e j time memory .answer) .number
 
-  -- the piece that the call would hand in
+  -- the piece that it would hand in
   abbrev pub here : Handed
   here = record { key = keyOf e; piece = partIn e; time = max (n .latest) time; memory = memory }
 
@@ -136,7 +137,7 @@ module _ (n : Node) (e : List ℕ) (j time : ℕ) (memory : List ℕ) where
   same-piece = refl
 
   -- it does so exactly where it is a step
-  pub handed-in : handedBy n (receiving e j time memory) ≡ handedAt (arrival n e j memory) (isPiece (outerOf e)) here
+  pub handed-in : cond (calls.isPiece e && not (isTurnedAway number)) (here ∷ []) [] ≡ handedAt (arrival n e j memory) (isPiece (outerOf e)) here
   handed-in =
       ap (λ (b : Bool). cond (b && not (isTurnedAway number)) (here ∷ []) []) same-piece
       ∙ go (arrival n e j memory) refl (isPiece (outerOf e)) refl
@@ -154,3 +155,8 @@ module _ (n : Node) (e : List ℕ) (j time : ℕ) (memory : List ℕ) where
       go (Stop r) a true b =
           turned true (ap (λ (x : Received). isTurnedAway (receivedGiven x .number)) (stopped n e j time memory r a) ∙ arrival-away n e j memory r a)
       go (Stop r) a false b = refl
+
+-- what a call hands in, by what it is to the collection
+abbrev pub handsAt : Seat → OfPieces → List Handed
+handsAt n (aDatagram e interface time memory) = handedAt (arrival n e interface memory) (isPiece (outerOf e)) (here n e interface time memory)
+handsAt n noDatagram = []
