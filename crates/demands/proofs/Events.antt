@@ -28,11 +28,14 @@ use Rattle.reports.specs.declared.Judged.{Judged}
 use Rattle.reports.specs.declared.Judged.the-variants as judged
 use Rattle.reports.specs.declared.ReportAnswer.{ReportAnswer}
 use Rattle.reports.specs.declared.ReportAnswer.the-variants as reported
-use Rattle.node.specs.Node.{pathSizeAt}
+use Rattle.node.specs.Node.{pick, serviceOf, hasService, pathSizeAt}
 use Rattle.node.specs.Send.{pathSizeToward, sentBy, sendOf}
-use Rattle.node.specs.Report.{pathsAfter, reportAnswerOf, reportOf}
+use Rattle.node.specs.Report.{quotesOther, reportedTo, pathsAfter, reportAnswerOf, reportOf}
 use Rattle.node.specs.declared.Node.{Node}
-use Rattle.demands.specs.Calls.{NodeCall, Outcome, outcomeOf, OfSizes, aSending, aReport, noSize, viewOf}
+use Rattle.node.specs.declared.Service.{Service}
+use Rattle.node.specs.declared.ServiceName.{ServiceName}
+use Rattle.node.specs.declared.ServiceName.the-variants.{First, Second}
+use Rattle.demands.specs.Calls.{NodeCall, Outcome, outcomeOf, isSame, OfSizes, aSending, aReport, noSize, viewOf}
 use Rattle.demands.specs.Sender.{sentEvent, reportedEvent, eventIn, nodeEvents}
 use Rattle.demands.proofs.Left.{Left, left}
 
@@ -40,22 +43,40 @@ abbrev passes : Check → Bool
 passes Pass = true
 passes (Stop r) = false
 
--- a report that 16, 17 or 18 refuses is none
-abbrev judgedCall : Judged → PathCall
-judgedCall (judged.Report v c) = report v c
-judgedCall (judged.Refused r) = clock 0
+-- the number of a service among the links, and its link's size
+abbrev pub placeOf : ServiceName → ℕ
+placeOf w = pick w 0 1
 
--- what is seen of a call, with that much room in the output
-abbrev callSeen : Settings → Bool → ℕ → OfSizes → PathCall
-callSeen s mine room (aSending packet hop k) =
-    send mine (lastQuad hop) (length packet) (passes (sendCheck s packet hop k) && takesMessage packet room)
-callSeen s mine room (aReport m) = judgedCall (judgedOf s m)
-callSeen s mine room noSize = clock 0
+abbrev pub linksOf : Settings → Settings → ℕ → ℕ
+linksOf a b i = cond (eqb i 0) (a .«link_size») (b .«link_size»)
 
-abbrev pub callsSeen : Settings → (ℕ → Bool) → List NodeCall → List PathCall
-callsSeen s choice [] = []
-callsSeen s choice (x ∷ xs) =
-    clock (viewOf x .time) ∷ (callSeen s (choice 0) (length (viewOf x .lent)) (viewOf x .sizes) ∷ callsSeen s (λ k. choice (suc k)) xs)
+-- a report of the service i that 16, 17 or 18 refuses is none
+abbrev judgedCall : ℕ → Judged → PathCall
+judgedCall i (judged.Report v c) = report i v c
+judgedCall i (judged.Refused r) = clock 0
+
+-- what a node's services see of a call, with that much room in the output
+module _ (a b : Settings) (both : ℕ) where
+  abbrev theirs : ServiceName → Settings
+  theirs w = pick w a b
+
+  abbrev isThere : ServiceName → Bool
+  isThere w = pick w true (ltb 0 both)
+
+  -- whose a report is
+  abbrev whose : List ℕ → ServiceName
+  whose m = cond (ltb 0 both && quotesOther a b m) Second First
+
+  abbrev callSeen : Bool → ℕ → OfSizes → PathCall
+  callSeen mine room (aSending w packet hop k) =
+      send mine (placeOf w) (lastQuad hop) (length packet) (isThere w && (passes (sendCheck (theirs w) packet hop k) && takesMessage packet room))
+  callSeen mine room (aReport m) = judgedCall (placeOf (whose m)) (judgedOf (theirs (whose m)) m)
+  callSeen mine room noSize = clock 0
+
+  abbrev pub callsSeen : (ℕ → Bool) → List NodeCall → List PathCall
+  callsSeen choice [] = []
+  callsSeen choice (x ∷ xs) =
+      clock (viewOf x .time) ∷ (callSeen (choice 0) (length (viewOf x .lent)) (viewOf x .sizes) ∷ callsSeen (λ k. choice (suc k)) xs)
 
 -- ---- answers
 
@@ -66,6 +87,15 @@ and-false false = refl
 send-seen : (check : Check) (M n : ℕ) (takes : Bool) → sendAnswer M n (passes check && takes) ≡ seenAfter check (sendAnswer M n takes)
 send-seen Pass M n takes = refl
 send-seen (Stop r) M n takes = rw (and-false (ltb M n))
+
+-- what is seen of a sending, by whether its service is there
+there-seen : (there : Bool) (service : Service) (P : ℕ) (packet hop : List ℕ) (k room : ℕ)
+    → sendAnswer (largestPacket P) (length packet) (there && (passes (sendCheck (service .settings) packet hop k) && takesMessage packet room)) ≡ tooBigSeen (sentBy there service P packet hop k room .answer)
+unfolding sentBy
+there-seen true service P packet hop k room =
+    send-seen (sendCheck (service .settings) packet hop k) (largestPacket P) (length packet) (takesMessage packet room)
+    ∙ sym (sent-seen (service .settings) (service .identification) P packet hop k room)
+there-seen false service P packet hop k room = rw (and-false (ltb (largestPacket P) (length packet)))
 
 abbrev reportSeen : ReportAnswer → Answer
 reportSeen (reported.Accepted v c) = accepted v c
@@ -80,12 +110,13 @@ below-seen : (b : Bool) (v c : ℕ) (r : ReportAnswer) → reportSeen r ≡ notB
 below-seen true v c r e = refl
 below-seen false v c r e = sym e
 
-module _ (link now : ℕ) (t : PathTable) where
-  report-seen : (j : Judged) → answer table largestPacket link t now (judgedCall j) ≡ judgedSeen j (answerAt j (inForce link (keptIn t (neighbourIn j) now)))
+module _ (links : ℕ → ℕ) (now : ℕ) (t : PathTable) where
+  report-seen : (i : ℕ) (j : Judged) → answer table largestPacket links t now (judgedCall i j) ≡ judgedSeen j (answerAt j (inForce (links i) (keptIn t (neighbourIn j) now)))
   unfolding acceptedBelow
-  report-seen (judged.Report v c) = below-seen (isBelow c (inForce link (keptIn t v now))) v c _ refl
-  report-seen (judged.Refused r) = refl
+  report-seen i (judged.Report v c) = below-seen (isBelow c (inForce (links i) (keptIn t v now))) v c _ refl
+  report-seen i (judged.Refused r) = refl
 
+module _ (now : ℕ) (t : PathTable) where
   sent-remembered : (a : SendAnswer) → remembered table t now (tooBigSeen a) ≡ t
   sent-remembered (sent.Wrapped n) = refl
   sent-remembered (sent.TooBig size n) = refl
@@ -99,9 +130,9 @@ module _ (link now : ℕ) (t : PathTable) where
   judged-remembered (judged.Report v c) P = report-remembered (answerAt (judged.Report v c) P)
   judged-remembered (judged.Refused r) P = refl
 
-judged-latest : (j : Judged) (now : ℕ) → latest now (judgedCall j) ≡ now
-judged-latest (judged.Report v c) now = refl
-judged-latest (judged.Refused r) now = omega arith
+judged-latest : (i : ℕ) (j : Judged) (now : ℕ) → latest now (judgedCall i j) ≡ now
+judged-latest i (judged.Report v c) now = refl
+judged-latest i (judged.Refused r) now = omega arith
 
 -- ---- events
 
@@ -110,13 +141,20 @@ sent-event (sent.Wrapped k) n = refl
 sent-event (sent.TooBig size k) n = refl
 sent-event (sent.Refused r) n = refl
 
-report-event : (a : ReportAnswer) (v w c : ℕ) → eventOf v (report w c) (reportSeen a) ≡ reportedEvent v a
-report-event (reported.Accepted u d) v w c = refl
-report-event (reported.Refused r) v w c = refl
+report-event : (a : ReportAnswer) (j v i w c : ℕ) → eventOf j v (report i w c) (reportSeen a) ≡ reportedEvent v a
+report-event (reported.Accepted u d) j v i w c = refl
+report-event (reported.Refused r) j v i w c = refl
 
-judged-event : (j : Judged) (v P : ℕ) → eventOf v (judgedCall j) (judgedSeen j (answerAt j P)) ≡ reportedEvent v (answerAt j P)
-judged-event (judged.Report w c) v P = report-event (answerAt (judged.Report w c) P) v w c
-judged-event (judged.Refused r) v P = refl
+judged-event : (i : ℕ) (q : Judged) (j v P : ℕ) → eventOf j v (judgedCall i q) (judgedSeen q (answerAt q P)) ≡ reportedEvent v (answerAt q P)
+judged-event i (judged.Report w c) j v P = report-event (answerAt (judged.Report w c) P) j v i w c
+judged-event i (judged.Refused r) j v P = refl
+
+-- services are the same where their numbers are
+same-place : (u w : ServiceName) → eqb (placeOf u) (placeOf w) ≡ isSame u w
+same-place First First = refl
+same-place First Second = refl
+same-place Second First = refl
+same-place Second Second = refl
 
 -- nothing before each event: the clock
 abbrev pub spaced : List Event → List Event
@@ -124,53 +162,76 @@ spaced [] = []
 spaced (e ∷ h) = nothing ∷ (e ∷ spaced h)
 
 -- one more call, whatever is known of its answer
-module _ (v link : ℕ) (t t₂ : PathTable) (now now₂ : ℕ) (x : PathCall) (a : Answer) (e : Event) (xs : List PathCall) (h : List Event) where
-  one-more : answer table largestPacket link t now x ≡ a → remembered table t now a ≡ t₂ → latest now x ≡ now₂ → eventOf v x a ≡ e
-      → eventsOf v (history table largestPacket link t₂ now₂ xs) ≡ h → eventsOf v (history table largestPacket link t now (x ∷ xs)) ≡ e ∷ h
+module _ (j v : ℕ) (links : ℕ → ℕ) (t t₂ : PathTable) (now now₂ : ℕ) (x : PathCall) (a : Answer) (e : Event) (xs : List PathCall) (h : List Event) where
+  one-more : answer table largestPacket links t now x ≡ a → remembered table t now a ≡ t₂ → latest now x ≡ now₂ → eventOf j v x a ≡ e
+      → eventsOf j v (history table largestPacket links t₂ now₂ xs) ≡ h → eventsOf j v (history table largestPacket links t now (x ∷ xs)) ≡ e ∷ h
   one-more p q l w i = cc
 
-module _ (v : ℕ) where
+-- the size in force for a service is that over its link
+own-link : (n : Node) (w : ServiceName) (v now : ℕ) → inForce (linksOf (n .first .settings) (n .second .settings) (placeOf w)) (keptIn (n .paths) v now) ≡ pathSizeAt n w v now
+unfolding pathSizeAt
+own-link n First v now = refl
+own-link n Second v now = refl
+
+own-settings : (n : Node) (w : ServiceName) → pick w (n .first .settings) (n .second .settings) ≡ serviceOf n w .settings
+own-settings n First = refl
+own-settings n Second = refl
+
+module _ (w : ServiceName) (v : ℕ) where
   -- the events of the calls xs on the node n, as `paths` has them
   abbrev Same : (ℕ → Bool) → Node → List NodeCall → Type 0
   Same choice n xs =
-      eventsOf v (history table largestPacket (n .service .settings .«link_size») (n .paths) (n .latest) (callsSeen (n .service .settings) choice xs))
-      ≡ spaced (nodeEvents choice v n xs)
+      eventsOf (placeOf w) v
+      (history table largestPacket (linksOf (n .first .settings) (n .second .settings)) (n .paths) (n .latest) (callsSeen (n .first .settings) (n .second .settings) (n .both) choice xs))
+      ≡ spaced (nodeEvents w choice v n xs)
 
   -- a call is its clock, which is nothing, and then what is seen of it
   module _ (mine : Bool) (choice : ℕ → Bool) (n : Node) (time room : ℕ) (o : Outcome) (xs : List NodeCall) (same : Same choice (o .node) xs) where
+    abbrev a : Settings
+    a = n .first .settings
+
+    abbrev b : Settings
+    b = n .second .settings
+
+    abbrev links : ℕ → ℕ
+    links = linksOf (n .first .settings) (n .second .settings)
+
+    abbrev now : ℕ
+    now = max (n .latest) time
+
+    abbrev rest : List PathCall
+    rest = callsSeen (n .first .settings) (n .second .settings) (n .both) choice xs
+
+    -- what comes after it, with the settings that it leaves
+    after : (c : OfSizes) → Left n time room c o → eventsOf (placeOf w) v (history table largestPacket links (o .node .paths) (o .node .latest) rest) ≡ spaced (nodeEvents w choice v (o .node) xs)
+    after c l = rw (← l .settings First, ← l .settings Second, ← l .both) same
+
     clocked : (c : OfSizes) → Left n time room c o
-        → eventsOf v
-        (history table largestPacket (n .service .settings .«link_size») (n .paths) (max (n .latest) time)
-        (callSeen (n .service .settings) mine room c ∷ callsSeen (n .service .settings) choice xs))
-        ≡ eventIn mine v n time room c ∷ spaced (nodeEvents choice v (o .node) xs)
-    unfolding sendOf sentBy reportOf reportAnswerOf pathSizeAt
-    clocked (aSending packet hop k) l =
-        let s : Settings = n .service .settings in
-        let now : ℕ = max (n .latest) time in
-        let a : SendAnswer = sendOf n packet hop k time room .answer in
-        one-more v (s .«link_size») (n .paths) (o .node .paths) now (o .node .latest) (callSeen s mine room (aSending packet hop k)) (tooBigSeen a)
-        (cond (mine && eqb (lastQuad hop) v) (sentEvent (length packet) a) nothing) (callsSeen s choice xs) (spaced (nodeEvents choice v (o .node) xs))
-        (send-seen (sendCheck s packet hop k) (largestPacket (pathSizeToward n hop time)) (length packet) (takesMessage packet room)
-        ∙ sym (sent-seen s (n .service .identification) (pathSizeToward n hop time) packet hop k room))
-        (sent-remembered (s .«link_size») now (n .paths) a ∙ sym (l .sizes .1)) (sym (l .latest))
-        (ap (λ (e : Event). cond (mine && eqb (lastQuad hop) v) e nothing) (sent-event a (length packet)))
-        (rw (← l .settings) same)
+        → eventsOf (placeOf w) v (history table largestPacket links (n .paths) now (callSeen a b (n .both) mine room c ∷ rest)) ≡ eventIn w mine v n time room c ∷ spaced (nodeEvents w choice v (o .node) xs)
+    unfolding sendOf reportOf reportAnswerOf reportedTo
+    clocked (aSending u packet hop k) l =
+        let x : SendAnswer = sendOf n u packet hop k time room .answer in
+        one-more (placeOf w) v links (n .paths) (o .node .paths) now (o .node .latest) (callSeen a b (n .both) mine room (aSending u packet hop k)) (tooBigSeen x)
+        (cond (mine && isSame u w && eqb (lastQuad hop) v) (sentEvent (length packet) x) nothing) rest (spaced (nodeEvents w choice v (o .node) xs))
+        (rw (own-link n u (lastQuad hop) now, own-settings n u) (there-seen (hasService n u) (serviceOf n u) (pathSizeToward n u hop time) packet hop k room))
+        (sent-remembered now (n .paths) x ∙ sym (l .sizes .1)) (sym (l .latest))
+        (rw (same-place u w) (ap (λ (e : Event). cond (mine && isSame u w && eqb (lastQuad hop) v) e nothing) (sent-event x (length packet))))
+        (after (aSending u packet hop k) l)
     clocked (aReport m) l =
-        let s : Settings = n .service .settings in
-        let now : ℕ = max (n .latest) time in
-        let j : Judged = judgedOf s m in
-        let P : ℕ = inForce (s .«link_size») (keptIn (n .paths) (neighbourIn j) now) in
-        let a : ReportAnswer = answerAt j P in
-        one-more v (s .«link_size») (n .paths) (o .node .paths) now (o .node .latest) (judgedCall j) (judgedSeen j a) (reportedEvent v a)
-        (callsSeen s choice xs) (spaced (nodeEvents choice v (o .node) xs))
-        (report-seen (s .«link_size») now (n .paths) j) (judged-remembered (s .«link_size») now (n .paths) j P ∙ sym (l .sizes .1))
-        (judged-latest j now ∙ sym (l .latest)) (judged-event j v P)
-        (rw (← l .settings) same)
+        let u : ServiceName = reportedTo n m in
+        let j : Judged = judgedOf (serviceOf n u .settings) m in
+        let P : ℕ = pathSizeAt n u (neighbourIn j) now in
+        let x : ReportAnswer = answerAt j P in
+        one-more (placeOf w) v links (n .paths) (o .node .paths) now (o .node .latest) (judgedCall (placeOf u) (judgedOf (pick u a b) m)) (judgedSeen j x) (reportedEvent v x)
+        rest (spaced (nodeEvents w choice v (o .node) xs))
+        (rw (own-settings n u) (report-seen links now (n .paths) (placeOf u) j ∙ ap (λ (p : ℕ). judgedSeen j (answerAt j p)) (own-link n u (neighbourIn j) now)))
+        (judged-remembered now (n .paths) j P ∙ sym (l .sizes .1))
+        (judged-latest (placeOf u) (judgedOf (pick u a b) m) now ∙ sym (l .latest)) (rw (own-settings n u) (judged-event (placeOf u) j (placeOf w) v P))
+        (after (aReport m) l)
     clocked noSize l =
-        let s : Settings = n .service .settings in
-        one-more v (s .«link_size») (n .paths) (o .node .paths) (max (n .latest) time) (o .node .latest) (clock 0) other nothing
-        (callsSeen s choice xs) (spaced (nodeEvents choice v (o .node) xs)) refl (sym (l .sizes)) (max-zero _ ∙ sym (l .latest)) refl
-        (rw (← l .settings) same)
+        one-more (placeOf w) v links (n .paths) (o .node .paths) now (o .node .latest) (clock 0) other nothing
+        rest (spaced (nodeEvents w choice v (o .node) xs)) refl (sym (l .sizes)) (max-zero _ ∙ sym (l .latest)) refl
+        (after noSize l)
 
   pub same-events : (choice : ℕ → Bool) (n : Node) (xs : List NodeCall) → Same choice n xs
   same-events choice n [] = refl

@@ -1,4 +1,5 @@
 pub mod Left
+pub mod Others
 pub mod Seats
 pub mod Follows
 pub mod Events

@@ -1,8 +1,9 @@
 -- Demand 1 holds of every call. Assumes nothing.
 use Prim.Native.Nat.{ℕ, max}
 use mathlib.Core.Path.{_≡_, refl, sym, ap, subst, _∙_}
-use mathlib.Core.Bool.{Bool, true, false, cond}
+use mathlib.Core.Bool.{Bool, true, false, cond, _&&_}
 use mathlib.Core.List.{List, [], _∷_}
+use mathlib.Core.Option.{Option, none, some}
 use native.Mathlib.Omega.{arith}
 use native.Mathlib.Nat.{max-zero}
 use lib.ListN.{length}
@@ -11,6 +12,7 @@ use Rattle.refusals.specs.Refusals.{numberOf}
 use Rattle.refusals.specs.declared.Refusal.{Refusal}
 use Rattle.refusals.specs.declared.Refusal.the-variants as refusal
 use Rattle.header.specs.Outer.{outerOf}
+use Rattle.header.specs.Wrap.{writtenGiven}
 use Rattle.header.specs.declared.wrap.Written.{Written}
 use Rattle.header.specs.declared.wrap.Written.the-variants as written
 use Rattle.settings.specs.Settings.{locatorOf, areRoutersRight}
@@ -21,32 +23,40 @@ use Rattle.receiving.specs.declared.Received.{Received}
 use Rattle.receiving.specs.declared.Received.the-variants as received
 use Rattle.routers.specs.declared.RouterList.{RouterList}
 use Rattle.sending.proofs.Leaves.{messageOf, refused-leaves, too-big-leaves}
+use Rattle.sending.specs.Sending.{sendGiven}
 use Rattle.sending.specs.declared.SendAnswer.{SendAnswer}
 use Rattle.sending.specs.declared.SendAnswer.the-variants as sent
 use Rattle.reports.specs.declared.ReportAnswer.{ReportAnswer}
 use Rattle.reports.specs.declared.ReportAnswer.the-variants as reported
+use Rattle.asking.specs.Ask.{askGiven}
 use Rattle.asking.proofs.Laws as asking
 use Rattle.asking.specs.declared.AskAnswer.{AskAnswer}
 use Rattle.asking.specs.declared.AskAnswer.the-variants as asked
+use Rattle.hearing.specs.Heard.{heardGiven}
 use Rattle.hearing.proofs.Laws as hearing
 use Rattle.hearing.specs.declared.HeardAnswer.{HeardAnswer}
 use Rattle.hearing.specs.declared.HeardAnswer.the-variants as heard
 use Rattle.advertisements.specs.declared.Advertisement.{Advertisement}
+use Rattle.advertising.specs.Advertise.{advertisedOf, advertisedOutput}
 use Rattle.advertising.proofs.Laws as advertising
-use Rattle.node.specs.Node.{nodeWith, raisedTo}
-use Rattle.node.specs.Receive.{withPieces, receiveOf, partIn}
-use Rattle.node.specs.Send.{pathSizeToward, sentBy, sendOf, sendOutput}
+use Rattle.node.specs.Node.{serviceOf, hasService, nodeWith, raisedTo}
+use Rattle.node.specs.Receive.{withPieces, receiveOf, receiveMemory, partIn}
+use Rattle.node.specs.Send.{pathSizeToward, withIdentification, sentBy, sentThrough, sendOf, sendOutput}
 use Rattle.node.specs.Report.{reportAnswerOf, reportOf}
-use Rattle.node.specs.RouterList.{withRouters, replaceOf}
-use Rattle.node.specs.Ask.{askedBy, askOf, askOutput}
+use Rattle.node.specs.RouterList.{withRouters, listRefusal, replaceOf}
+use Rattle.node.specs.Ask.{askedBy, askedThrough, askOf, askOutput}
 use Rattle.node.specs.Hear.{heardBy, hearOf}
 use Rattle.node.specs.Advertise.{advertiseOf, advertiseOutput}
 use Rattle.node.specs.declared.Node.{Node}
-use Rattle.node.specs.declared.router_list.Replaced.{Replaced}
+use Rattle.node.specs.declared.Service.{Service}
+use Rattle.node.specs.declared.ServiceName.{ServiceName}
+use Rattle.node.proofs.Services.{put-same, put-own}
 use Rattle.demands.specs.Calls.{NodeCall, receiving, receivingPart, sending, reporting, relisting, asking, hearing, advertising, Outcome, outcomeOf, View, viewOf}
-use Rattle.demands.specs.One.{Message, changedBy, Refusing, DemandOne}
+use Rattle.demands.specs.One.{Message, changedBy, OnlyCollected, Refusing, DemandOne}
 use Rattle.demands.proofs.Collects.{Leaves, received-leaves}
 use Rattle.demands.proofs.Steps.{stateOf}
+use Rattle.demands.proofs.Seats.{seatOf, collectedAt, memoryAt}
+use Rattle.demands.proofs.Others.{raised-service}
 
 -- a call that is not refused
 answers : (n : Node) (v : View) (o : Outcome) (values : List ℕ) → o .given ≡ answered values → Refusing n v o
@@ -69,16 +79,16 @@ never-tells r size len h =
     omega arith
 
 -- what leaves all but the latest time leaves what is collected
-raised-collected : (n : Node) (time : ℕ) (next : Node) → next ≡ raisedTo n time → next ≡ nodeWith n (withPieces (n .service) (next .service .pieces)) (n .paths) time
-unfolding raisedTo
-raised-collected n time next e = e ∙ ap (λ (k : Node). nodeWith n (withPieces (n .service) (k .service .pieces)) (n .paths) time) (sym e)
+raised-collected : (v : Option ServiceName) (n : Node) (time : ℕ) (next : Node) → next ≡ raisedTo n time → OnlyCollected v n time next
+raised-collected none n time next e = e
+raised-collected (some w) n time next e = e ∙ sym (put-own n w time) ∙ ap (λ (s : Service). nodeWith n w (withPieces (serviceOf n w) (s .pieces)) time) (sym (ap (λ (k : Node). serviceOf k w) e ∙ raised-service n time w))
 
 -- a refusal, which is not 14, and what it leaves
 refuses : (n : Node) (v : View) (o : Outcome) (r : Refusal) → o .given ≡ refused r → o .node ≡ raisedTo n (v .time) → o .output ≡ v .lent → Refusing n v o
 refuses n v o r e state output =
     record {
       state = λ h c. state;
-      collected = λ h. raised-collected n (v .time) (o .node) state;
+      collected = λ h. raised-collected (v .service) n (v .time) (o .node) state;
       output = λ h g c. output;
       tooBig = λ size len h. absurd (never-tells r size len (sym e ∙ h));
     }
@@ -89,7 +99,7 @@ tells : (n : Node) (v : View) (o : Outcome) (size len : ℕ) → o .given ≡ re
 tells n v o size len e state message =
     record {
       state = λ h c. state;
-      collected = λ h. raised-collected n (v .time) (o .node) state;
+      collected = λ h. raised-collected (v .service) n (v .time) (o .node) state;
       output = λ h g c. absurd (g (rw e));
       tooBig = λ m l h. record { message = message .message; size = message .size ∙ ends (o .given) m l e h; output = message .output };
     }
@@ -102,58 +112,107 @@ unfolding raisedTo
 raised-zero n = rw max-zero
 
 -- the call for the number: what it collects is its own
-module _ (n : Node) (d : List ℕ) (interface time : ℕ) (memory : List ℕ) where
+module _ (n : Node) (w : ServiceName) (d : List ℕ) (interface time : ℕ) (memory : List ℕ) where
   abbrev call : NodeCall
-  call = receiving d interface time memory
+  call = receiving w d interface time memory
 
   -- a piece by its bytes is a piece by its fields
-  piece-view : isPiece (outerOf d) ≡ viewOf (receiving d interface time memory) .piece
+  piece-view : isPiece (outerOf d) ≡ viewOf (receiving w d interface time memory) .piece
   unfolding outerOf
   piece-view = refl
 
-  own-collected : receiveOf n d interface time memory .node
-      ≡ nodeWith n (withPieces (n .service) (receiveOf n d interface time memory .node .service .pieces)) (n .paths) time
+  abbrev collected : Collection
+  collected = collectedAt (seatOf w n) d interface time memory .pieces
+
+  own-node : receiveOf n w d interface time memory .node ≡ nodeWith n w (withPieces (serviceOf n w) collected) time
   unfolding receiveOf
-  own-collected = refl
+  own-node = refl
 
-  same-pieces : (c : Collection) → c ≡ n .service .pieces → nodeWith n (withPieces (n .service) c) (n .paths) time ≡ raisedTo n time
-  unfolding raisedTo
-  same-pieces c e = rw e
+  own-collected : receiveOf n w d interface time memory .node
+      ≡ nodeWith n w (withPieces (serviceOf n w) (serviceOf (receiveOf n w d interface time memory .node) w .pieces)) time
+  own-collected =
+      own-node
+      ∙ ap (λ (c : Collection). nodeWith n w (withPieces (serviceOf n w) c) time)
+      (sym (ap (λ (k : Node). serviceOf k w .pieces) own-node ∙ ap (λ (s : Service). s .pieces) (put-same n w (withPieces (serviceOf n w) collected) time)))
 
-  receiving-refusing : (a : Received) → receiveOf n d interface time memory .answer ≡ a → Refusing n (viewOf call) (outcomeOf n call)
-  receiving-refusing (received.Delivered offset size) e = answers n (viewOf call) _ (0 ∷ offset ∷ size ∷ []) (rw e)
-  receiving-refusing (received.Joined offset size) e = answers n (viewOf call) _ (1 ∷ offset ∷ size ∷ []) (rw e)
+  same-pieces : (c : Collection) → c ≡ serviceOf n w .pieces → nodeWith n w (withPieces (serviceOf n w) c) time ≡ raisedTo n time
+  same-pieces c e = ap (λ (k : Collection). nodeWith n w (withPieces (serviceOf n w) k) time) e ∙ put-own n w time
+
+  own-answer : receiveOf n w d interface time memory .answer ≡ collectedAt (seatOf w n) d interface time memory .answer
+  unfolding receiveOf
+  own-answer = refl
+
+  own-memory : receiveMemory n w d interface time memory ≡ memoryAt (seatOf w n) d interface time memory
+  unfolding receiveMemory
+  own-memory = refl
+
+  receiving-refusing : (a : Received) → collectedAt (seatOf w n) d interface time memory .answer ≡ a → Refusing n (viewOf call) (outcomeOf n call)
+  receiving-refusing (received.Delivered offset size) e = answers n (viewOf call) _ (0 ∷ offset ∷ size ∷ []) (ap receivedGiven (own-answer ∙ e))
+  receiving-refusing (received.Joined offset size) e = answers n (viewOf call) _ (1 ∷ offset ∷ size ∷ []) (ap receivedGiven (own-answer ∙ e))
   receiving-refusing (received.Refused r) e =
-      let g : outcomeOf n call .given ≡ refused r = ap receivedGiven e in
-      let l = subst (λ (b : Bool). Leaves (changedBy b (numberOf r)) (stateOf n memory) (stateOf (outcomeOf n call .node) (outcomeOf n call .output))) piece-view
-      (received-leaves n d interface time memory r e) in
+      let g : outcomeOf n call .given ≡ refused r = ap receivedGiven (own-answer ∙ e) in
+      let l = subst
+      (λ (b : Bool). Leaves (changedBy b (numberOf r)) (stateOf (seatOf w n) memory) (record { collection = collected; memory = memoryAt (seatOf w n) d interface time memory }))
+      piece-view (received-leaves (seatOf w n) d interface time memory r e) in
       let number : outcomeOf n call .given .number ≡ numberOf r = ap (λ (x : Given). x .number) g in
       let changes : changedBy (viewOf call .piece) (outcomeOf n call .given .number) ≡ changedBy (viewOf call .piece) (numberOf r) = ap (changedBy (viewOf call .piece)) number in
       record {
-        state = λ h c. own-collected ∙ same-pieces (outcomeOf n call .node .service .pieces) (l .collected (sym changes ∙ c));
+        state = λ h c. own-node ∙ same-pieces collected (l .collected (sym changes ∙ c));
         collected = λ h. own-collected;
-        output = λ h q c. l .memory (λ z. c (changes ∙ z));
+        output = λ h q c. own-memory ∙ l .memory (λ z. c (changes ∙ z));
         tooBig = λ size len h. absurd (never-tells r size len (sym g ∙ h));
       }
 
-module _ (n : Node) (full : length (n .service .settings .reporting) ≡ 16) (packet hop : List ℕ) (k time : ℕ) (out : List ℕ) where
-  -- what leaves the identification leaves the service
-  same-service : sentBy (n .service) (pathSizeToward n hop time) packet hop k (length out) .identification ≡ n .service .identification
-      → sendOf n packet hop k time (length out) .node ≡ raisedTo n time
-  unfolding sendOf raisedTo
-  same-service e = rw e
+-- a service that is put back as it was
+module _ (n : Node) (w : ServiceName) (time : ℕ) where
+  same-identification : (i : ℕ) → i ≡ serviceOf n w .identification → nodeWith n w (withIdentification (serviceOf n w) i) time ≡ raisedTo n time
+  same-identification i e = ap (λ (k : ℕ). nodeWith n w (withIdentification (serviceOf n w) k) time) e ∙ put-own n w time
 
-  sending-refusing : (a : SendAnswer) → sentBy (n .service) (pathSizeToward n hop time) packet hop k (length out) .answer ≡ a
-      → Refusing n (viewOf (sending packet hop k time out)) (outcomeOf n (sending packet hop k time out))
-  unfolding sendOf sentBy sendOutput
-  sending-refusing (sent.Wrapped len) e = answers n (viewOf (sending packet hop k time out)) _ (len ∷ []) (rw e)
+  same-routers : (l : RouterList) → l ≡ serviceOf n w .routers → nodeWith n w (withRouters (serviceOf n w) l) time ≡ raisedTo n time
+  same-routers l e = ap (λ (k : RouterList). nodeWith n w (withRouters (serviceOf n w) k) time) e ∙ put-own n w time
+
+-- what a service makes of a sending, where it is there or not
+module _ (there : Bool) (q : Service) (full : length (q .settings .reporting) ≡ 16) (P : ℕ) (packet hop : List ℕ) (k : ℕ) (out : List ℕ) where
+  refused-sending : (r : Refusal) → sentBy there q P packet hop k (length out) .answer ≡ sent.Refused r
+      → (sentBy there q P packet hop k (length out) .identification ≡ q .identification) × (sentThrough there q P packet hop k out ≡ out)
+  unfolding sentBy sentThrough
+  refused-sending r e = go there e
+    where
+      go : (b : Bool) → sentBy b q P packet hop k (length out) .answer ≡ sent.Refused r
+          → (sentBy b q P packet hop k (length out) .identification ≡ q .identification) × (sentThrough b q P packet hop k out ≡ out)
+      go true e = refused-leaves (q .settings) (q .identification) P packet hop k out r e
+      go false e = (refl, refl)
+
+  told-sending : (size len : ℕ) → sentBy there q P packet hop k (length out) .answer ≡ sent.TooBig size len
+      → (sentBy there q P packet hop k (length out) .identification ≡ q .identification) × Message out (sentThrough there q P packet hop k out) len
+  unfolding sentBy sentThrough
+  told-sending size len e = go there e
+    where
+      go : (b : Bool) → sentBy b q P packet hop k (length out) .answer ≡ sent.TooBig size len
+          → (sentBy b q P packet hop k (length out) .identification ≡ q .identification) × Message out (sentThrough b q P packet hop k out) len
+      go true e =
+          let l = too-big-leaves (q .settings) (q .identification) P packet hop k out size len full e in
+          (l .0, record { message = messageOf (q .settings) size packet; size = l .2; output = l .1 })
+      go false e = let z : _≡_ {A = ℕ} 0 1 = ap marked e in absurd (omega arith)
+        where
+          marked : SendAnswer → ℕ
+          marked (sent.Refused r) = 0
+          marked (sent.TooBig s l) = 1
+          marked (sent.Wrapped l) = 2
+
+module _ (n : Node) (w : ServiceName) (full : length (serviceOf n w .settings .reporting) ≡ 16) (packet hop : List ℕ) (k time : ℕ) (out : List ℕ) where
+  abbrev asked-for : SendAnswer → Type 0
+  asked-for a = sentBy (hasService n w) (serviceOf n w) (pathSizeToward n w hop time) packet hop k (length out) .answer ≡ a
+
+  sending-refusing : (a : SendAnswer) → asked-for a → Refusing n (viewOf (sending w packet hop k time out)) (outcomeOf n (sending w packet hop k time out))
+  unfolding sendOf sendOutput
+  sending-refusing (sent.Wrapped len) e = answers n (viewOf (sending w packet hop k time out)) _ (len ∷ []) (ap sendGiven e)
   sending-refusing (sent.TooBig size len) e =
-      let s = n .service .settings in
-      let l = too-big-leaves s (n .service .identification) (pathSizeToward n hop time) packet hop k out size len full e in
-      tells n (viewOf (sending packet hop k time out)) _ size len (rw e) (same-service (l .0)) (record { message = messageOf s size packet; size = l .2; output = l .1 })
+      let l = told-sending (hasService n w) (serviceOf n w) full (pathSizeToward n w hop time) packet hop k out size len e in
+      tells n (viewOf (sending w packet hop k time out)) _ size len (ap sendGiven e) (same-identification n w time _ (l .0)) (l .1)
   sending-refusing (sent.Refused r) e =
-      let l = refused-leaves (n .service .settings) (n .service .identification) (pathSizeToward n hop time) packet hop k out r e in
-      refuses n (viewOf (sending packet hop k time out)) _ r (rw e) (same-service (l .0)) (l .1)
+      let l = refused-sending (hasService n w) (serviceOf n w) full (pathSizeToward n w hop time) packet hop k out r e in
+      refuses n (viewOf (sending w packet hop k time out)) _ r (ap sendGiven e) (same-identification n w time _ (l .0)) (l .1)
 
 reporting-refusing : (n : Node) (m : List ℕ) (time : ℕ) (a : ReportAnswer) → reportAnswerOf n m (max (n .latest) time) ≡ a
     → Refusing n (viewOf (reporting m time)) (outcomeOf n (reporting m time))
@@ -161,53 +220,64 @@ unfolding reportOf raisedTo
 reporting-refusing n m time (reported.Accepted v c) e = answers n (viewOf (reporting m time)) _ (v ∷ c ∷ []) (rw e)
 reporting-refusing n m time (reported.Refused r) e = refuses n (viewOf (reporting m time)) _ r (rw e) (rw e) refl
 
-pub unchosen : (b : Bool) (x y : Replaced) → b ≡ false → cond b x y .node ≡ y .node
-unchosen true x y e = cc
-unchosen false x y e = refl
-
-relisting-refusing : (n : Node) (addresses : List ℕ) (count time : ℕ) (b : Bool) → areRoutersRight (n .service .settings) addresses count ≡ b
-    → Refusing n (viewOf (relisting addresses count time)) (outcomeOf n (relisting addresses count time))
+relisting-refusing : (n : Node) (w : ServiceName) (addresses : List ℕ) (count time : ℕ) (b : Bool) → (hasService n w && areRoutersRight (serviceOf n w .settings) addresses count) ≡ b
+    → Refusing n (viewOf (relisting w addresses count time)) (outcomeOf n (relisting w addresses count time))
 unfolding replaceOf
-relisting-refusing n addresses count time true e = answers n (viewOf (relisting addresses count time)) _ [] (rw e)
-relisting-refusing n addresses count time false e =
-    refuses n (viewOf (relisting addresses count time)) _ refusal.Settings (rw e) (unchosen (areRoutersRight (n .service .settings) addresses count) _ _ e) refl
+relisting-refusing n w addresses count time true e = answers n (viewOf (relisting w addresses count time)) _ [] (rw e)
+relisting-refusing n w addresses count time false e =
+    refuses n (viewOf (relisting w addresses count time)) _ (listRefusal (hasService n w)) (rw e) (rw e) refl
 
--- the same routers make the same service
-same-routers : (n : Node) (time : ℕ) (routers : RouterList) → routers ≡ n .service .routers
-    → nodeWith n (withRouters (n .service) routers) (n .paths) time ≡ raisedTo n time
-unfolding raisedTo
-same-routers n time routers e = rw e
+-- what a service leaves of its routers, and of the output, where it is there or not
+module _ (q : Service) (now : ℕ) where
+  refused-asking : (there : Bool) (k : ℕ) (out : List ℕ) (r : Refusal) → askedBy there q now k (length out) .answer ≡ asked.Refused r
+      → (askedBy there q now k (length out) .routers ≡ q .routers) × (askedThrough there q now k out ≡ out)
+  unfolding askedBy askedThrough
+  refused-asking true k out r e = asking.refused-unchanged (q .settings) (q .routers) now k out r e
+  refused-asking false k out r e = (refl, refl)
 
-asking-refusing : (n : Node) (k time : ℕ) (out : List ℕ) (a : AskAnswer) → askedBy (n .service) (max (n .latest) time) k (length out) .answer ≡ a
-    → Refusing n (viewOf (asking k time out)) (outcomeOf n (asking k time out))
-unfolding askOf askedBy askOutput
-asking-refusing n k time out (asked.Router v) e = answers n (viewOf (asking k time out)) _ (v ∷ []) (rw e)
-asking-refusing n k time out (asked.Refused r) e =
-    let l = asking.refused-unchanged (n .service .settings) (n .service .routers) (max (n .latest) time) k out r e in
-    refuses n (viewOf (asking k time out)) _ r (rw e) (same-routers n time _ (l .0)) (l .1)
+  refused-hearing : (there : Bool) (packet : List ℕ) (r : Refusal) → heardBy there q now packet .answer ≡ heard.Refused r → heardBy there q now packet .routers ≡ q .routers
+  unfolding heardBy
+  refused-hearing true packet r e = hearing.refused-unchanged (q .settings) (q .routers) now packet r e
+  refused-hearing false packet r e = refl
 
-hearing-refusing : (n : Node) (packet : List ℕ) (time : ℕ) (a : HeardAnswer) → heardBy (n .service) (max (n .latest) time) packet .answer ≡ a
-    → Refusing n (viewOf (hearing packet time)) (outcomeOf n (hearing packet time))
-unfolding hearOf heardBy
-hearing-refusing n packet time (heard.Router v) e = answers n (viewOf (hearing packet time)) _ (v ∷ []) (rw e)
-hearing-refusing n packet time (heard.Refused r) e =
-    let l = hearing.refused-unchanged (n .service .settings) (n .service .routers) (max (n .latest) time) packet r e in
-    refuses n (viewOf (hearing packet time)) _ r (rw e) (same-routers n time _ l) refl
+asking-refusing : (n : Node) (w : ServiceName) (k time : ℕ) (out : List ℕ) (a : AskAnswer) → askedBy (hasService n w) (serviceOf n w) (max (n .latest) time) k (length out) .answer ≡ a
+    → Refusing n (viewOf (asking w k time out)) (outcomeOf n (asking w k time out))
+unfolding askOf askOutput
+asking-refusing n w k time out (asked.Router v) e = answers n (viewOf (asking w k time out)) _ (v ∷ []) (ap askGiven e)
+asking-refusing n w k time out (asked.Refused r) e =
+    let l = refused-asking (serviceOf n w) (max (n .latest) time) (hasService n w) k out r e in
+    refuses n (viewOf (asking w k time out)) _ r (ap askGiven e) (same-routers n w time _ (l .0)) (l .1)
 
-advertising-refusing : (n : Node) (packet : List ℕ) (k : ℕ) (a : Advertisement) (out : List ℕ) (w : Written) → advertiseOf n packet k a (length out) ≡ w
-    → Refusing n (viewOf (advertising packet k a out)) (outcomeOf n (advertising packet k a out))
+hearing-refusing : (n : Node) (w : ServiceName) (packet : List ℕ) (time : ℕ) (a : HeardAnswer) → heardBy (hasService n w) (serviceOf n w) (max (n .latest) time) packet .answer ≡ a
+    → Refusing n (viewOf (hearing w packet time)) (outcomeOf n (hearing w packet time))
+unfolding hearOf
+hearing-refusing n w packet time (heard.Router v) e = answers n (viewOf (hearing w packet time)) _ (v ∷ []) (ap heardGiven e)
+hearing-refusing n w packet time (heard.Refused r) e =
+    refuses n (viewOf (hearing w packet time)) _ r (ap heardGiven e) (same-routers n w time _ (refused-hearing (serviceOf n w) (max (n .latest) time) (hasService n w) packet r e)) refl
+
+refused-advertising : (n : Node) (w : ServiceName) (packet : List ℕ) (k : ℕ) (a : Advertisement) (out : List ℕ) (r : Refusal) → advertiseOf n w packet k a (length out) ≡ written.Refused r
+    → advertiseOutput n w packet k a out ≡ out
 unfolding advertiseOf advertiseOutput
-advertising-refusing n packet k a out (written.Length len) e = answers n (viewOf (advertising packet k a out)) _ (len ∷ []) (rw e)
-advertising-refusing n packet k a out (written.Refused r) e =
-    refuses n (viewOf (advertising packet k a out)) _ r (rw e) (raised-zero n) (advertising.refused-untouched (locatorOf (n .service .settings) k) packet a out r e)
+refused-advertising n w packet k a out r e = go (hasService n w) e
+  where
+    go : (b : Bool) → cond b (advertisedOf (locatorOf (serviceOf n w .settings) k) packet a (length out)) (written.Refused refusal.NoLocator) ≡ written.Refused r
+        → cond b (advertisedOutput (locatorOf (serviceOf n w .settings) k) packet a out) out ≡ out
+    go true h = advertising.refused-untouched (locatorOf (serviceOf n w .settings) k) packet a out r h
+    go false h = refl
+
+advertising-refusing : (n : Node) (w : ServiceName) (packet : List ℕ) (k : ℕ) (a : Advertisement) (out : List ℕ) (x : Written) → advertiseOf n w packet k a (length out) ≡ x
+    → Refusing n (viewOf (advertising w packet k a out)) (outcomeOf n (advertising w packet k a out))
+advertising-refusing n w packet k a out (written.Length len) e = answers n (viewOf (advertising w packet k a out)) _ (len ∷ []) (ap writtenGiven e)
+advertising-refusing n w packet k a out (written.Refused r) e =
+    refuses n (viewOf (advertising w packet k a out)) _ r (ap writtenGiven e) (raised-zero n) (refused-advertising n w packet k a out r e)
 
 pub demand-one : DemandOne
 unfolding DemandOne
-demand-one n full (receiving d interface time memory) = receiving-refusing n d interface time memory _ refl
-demand-one n full (receivingPart d interface) = answers n (viewOf (receivingPart d interface)) _ (partIn n d interface) refl
-demand-one n full (sending packet hop k time out) = sending-refusing n full packet hop k time out _ refl
+demand-one n full (receiving w d interface time memory) = receiving-refusing n w d interface time memory _ refl
+demand-one n full (receivingPart w d interface) = answers n (viewOf (receivingPart w d interface)) _ (partIn n w d interface) refl
+demand-one n full (sending w packet hop k time out) = sending-refusing n w (full w) packet hop k time out _ refl
 demand-one n full (reporting m time) = reporting-refusing n m time _ refl
-demand-one n full (relisting addresses count time) = relisting-refusing n addresses count time _ refl
-demand-one n full (asking k time out) = asking-refusing n k time out _ refl
-demand-one n full (hearing packet time) = hearing-refusing n packet time _ refl
-demand-one n full (advertising packet k a out) = advertising-refusing n packet k a out _ refl
+demand-one n full (relisting w addresses count time) = relisting-refusing n w addresses count time _ refl
+demand-one n full (asking w k time out) = asking-refusing n w k time out _ refl
+demand-one n full (hearing w packet time) = hearing-refusing n w packet time _ refl
+demand-one n full (advertising w packet k a out) = advertising-refusing n w packet k a out _ refl

@@ -13,13 +13,16 @@ use Rattle.address.specs.Address.{linkLocalOf}
 use Rattle.address.specs.Facts.{formed}
 use Rattle.lent.specs.Written.{written}
 use Rattle.header.specs.Fields.{bytesFrom, addressAt}
-use Rattle.header.specs.declared.wrap.Written.the-variants.{Length}
+use Rattle.refusals.specs.declared.Refusal.the-variants.{NoLocator}
+use Rattle.header.specs.declared.wrap.Written as wrap
+use Rattle.header.specs.declared.wrap.Written.the-variants.{Length, Refused}
 use Rattle.messages.specs.Icmp.{icmpMessage, icmpPacket}
 use Rattle.options.specs.Facts.{WholeOptions, IsLifetime, Counts, DueBy}
 use Rattle.options.proofs.Facts.{due-same}
 use Rattle.routers.specs.Routers.{live}
 use Rattle.routers.specs.Facts.{Listed, OnlyDue}
 use Rattle.settings.specs.Facts.{LocatorAt}
+use Rattle.settings.specs.Settings.{locatorOf}
 use Rattle.settings.specs.declared.Settings.{Settings}
 use Rattle.hearing.specs.Facts.{fieldsOf}
 use Rattle.hearing.specs.Heard.{heardOf}
@@ -33,11 +36,18 @@ use Rattle.advertisements.specs.declared.route.Route.{Route}
 use Rattle.advertisements.proofs.CheckLaws.{length-counted, length-most}
 use Rattle.advertisements.proofs.Laws.{length-advertisement}
 use Rattle.advertisements.proofs.ReadBack.{are-options, bytes-body, lifetime-told, lifetime-telling}
+use Rattle.advertising.specs.Advertise.{advertisedOf}
 use Rattle.advertising.specs.Facts.{MayAdvertise}
 use Rattle.advertising.proofs.Laws.{good, answered-written}
 use Rattle.node.specs.Advertise.{advertiseOf, advertiseOutput}
 use Rattle.node.specs.Hear.{heardBy, hearOf}
+use Rattle.node.specs.Node.{serviceOf, hasService}
+use Rattle.node.specs.RouterList.{withRouters}
 use Rattle.node.specs.declared.Node.{Node}
+use Rattle.node.specs.declared.ServiceName.{ServiceName}
+use Rattle.node.proofs.Services.{put-same}
+use Rattle.demands.specs.Two.{Has}
+use Rattle.demands.proofs.Two.{decides-has}
 use Rattle.demands.specs.RoundTrip.{lifetimesSet, routeBytes, Accepted, Returns, RoundTrip}
 
 -- the bytes of a route option are its length in units of eight
@@ -70,11 +80,11 @@ bytes-from (suc n) i d h = (bytes-at d i h, bytes-from n (suc i) d h)
 number : (x : ℕ) → x < 65536 → x / 256 * 256 + x % 256 ≡ x
 number x h = omega arith
 
-module _ (w : Node) (packet : List ℕ) (k : ℕ) (a : Advertisement) (out : List ℕ) (n v : ℕ) (bytes : (i : ℕ) → getD packet i 0 < 256)
-    (small : v < 4294967296) (fits : AdvertisementFits a) (located : LocatorAt (w .service .settings) k v)
-    (e : advertiseOf w packet k a (length out) ≡ Length n) where
+module _ (w : Node) (u : ServiceName) (packet : List ℕ) (k : ℕ) (a : Advertisement) (out : List ℕ) (n v : ℕ) (bytes : (i : ℕ) → getD packet i 0 < 256)
+    (small : v < 4294967296) (fits : AdvertisementFits a) (located : LocatorAt (serviceOf w u .settings) k v)
+    (e : advertiseOf w u packet k a (length out) ≡ Length n) where
   abbrev s : Settings
-  s = w .service .settings
+  s = serviceOf w u .settings
 
   abbrev asker : List ℕ
   asker = fieldsOf packet .source
@@ -83,9 +93,28 @@ module _ (w : Node) (packet : List ℕ) (k : ℕ) (a : Advertisement) (out : Lis
   abbrev packetOut : List ℕ
   packetOut = advertisementOf (formed v) asker a
 
-  wrote : (n ≡ advertisementLength a) × MayAdvertise s packet k a v × (advertiseOutput w packet k a out ≡ written packetOut out)
-  unfolding advertiseOf advertiseOutput
-  wrote = answered-written s packet k a out n v located e
+  -- an answered length says that the service is there
+  abbrev advertisedBy : Bool → wrap.Written
+  advertisedBy b = cond b (advertisedOf (locatorOf s k) packet a (length out)) (Refused NoLocator)
+
+  own : advertisedBy (hasService w u) ≡ Length n
+  unfolding advertiseOf
+  own = e
+
+  by-there : (b : Bool) → advertisedBy b ≡ Length n → (b ≡ true) × (advertisedOf (locatorOf s k) packet a (length out) ≡ Length n)
+  by-there true h = (refl, h)
+  by-there false h = absurd (never h)
+    where
+      never : Refused NoLocator ≡ Length n → ⊥
+      never q = let z : _≡_ {A = ℕ} 0 1 = ap marked q in omega arith
+        where
+          marked : wrap.Written → ℕ
+          marked (Refused r) = 0
+          marked (Length l) = 1
+
+  wrote : (n ≡ advertisementLength a) × MayAdvertise s packet k a v × (advertiseOutput w u packet k a out ≡ written packetOut out)
+  unfolding advertiseOutput
+  wrote = let h = by-there (hasService w u) own in rw (h .0) (answered-written s packet k a out n v located (h .1))
 
   right : areOptionsBad a ≡ false
   right = good s packet k a v (wrote .1)
@@ -101,7 +130,7 @@ module _ (w : Node) (packet : List ℕ) (k : ℕ) (a : Advertisement) (out : Lis
   long : length packetOut ≡ n
   long = length-advertisement (formed v) asker a fits right refl asker-long ∙ sym (wrote .0)
 
-  sent-is : take n (advertiseOutput w packet k a out) ≡ packetOut
+  sent-is : take n (advertiseOutput w u packet k a out) ≡ packetOut
   sent-is = ap (take n) (wrote .2) ∙ take-at packetOut (drop (length packetOut) out) n long
 
   -- the same as a message that is heard
@@ -123,30 +152,33 @@ module _ (w : Node) (packet : List ℕ) (k : ℕ) (a : Advertisement) (out : Lis
   lifetime : getD (advertisementBody a) 2 0 * 256 + getD (advertisementBody a) 3 0 ≡ a .lifetime
   lifetime = number (a .lifetime) (fits .lifetime)
 
-  module _ (r : Node) (time : ℕ) (listed : Listed v (live (r .service .routers))) where
+  module _ (r : Node) (q : ServiceName) (time : ℕ) (has : Has r q) (listed : Listed v (live (serviceOf r q .routers))) where
     abbrev now : ℕ
     now = max (r .latest) time
 
     abbrev interval : ℕ
-    interval = r .service .settings .interval
+    interval = serviceOf r q .settings .interval
 
-    heard : (heardOf (r .service .settings) (r .service .routers) now packetOut .answer ≡ Router v)
+    heard : (heardOf (serviceOf r q .settings) (serviceOf r q .routers) now packetOut .answer ≡ Router v)
         × ((due : ℕ)
         × DueBy now interval (a .lifetime) (writtenOptions a) due
-        × OnlyDue (r .service .routers) v due (heardOf (r .service .settings) (r .service .routers) now packetOut .routers))
+        × OnlyDue (serviceOf r q .routers) v due (heardOf (serviceOf r q .settings) (serviceOf r q .routers) now packetOut .routers))
     heard =
-        let h = heard-back (r .service .settings) (r .service .routers) v asker (advertisementBody a) (writtenOptions a) small asker-long
+        let h = heard-back (serviceOf r q .settings) (serviceOf r q .routers) v asker (advertisementBody a) (writtenOptions a) small asker-long
         (omega (arith, body-long, most)) (omega arith) asker-bytes (bytes-body a fits) whole-options listed now in
         rw as-message (h .0, (h .1 .0, subst (λ (l : ℕ). DueBy now interval l (writtenOptions a) (h .1 .0)) lifetime (h .1 .1), h .1 .2))
 
-    accepted : Accepted w packet k a out n v r time
+    there : hasService r q ≡ true
+    there = decides-has r q .passes has
+
+    accepted : Accepted w u packet k a out n v r q time
     unfolding hearOf heardBy
     accepted = record {
-      answer = rw sent-is (heard .0);
+      answer = rw (sent-is, there) (heard .0);
       due = (
         heard .1 .0,
         due-same (IsLifetime (a .lifetime) (writtenOptions a)) (λ (l : ℕ). List·Memᴰ l (lifetimesSet a)) (taken a fits) (set a fits) now interval (heard .1 .0) (heard .1 .1),
-        rw sent-is (heard .1 .2),
+        rw (sent-is, there, put-same r q (withRouters (serviceOf r q) (heardOf (serviceOf r q .settings) (serviceOf r q .routers) now packetOut .routers)) time) (heard .1 .2),
       );
     }
 
@@ -155,9 +187,9 @@ module _ (w : Node) (packet : List ℕ) (k : ℕ) (a : Advertisement) (out : Lis
       let routes = routes-bytes (take (a .«route_count») (a .routes)) in
       length-counted a right (fits .places) ∙ omega arith
 
-  returns : Returns w packet k a out n v
+  returns : Returns w u packet k a out n v
   returns = record { size = wrote .0 ∙ formula; most = most; all = ap length sent-is ∙ long; accepted = accepted }
 
 pub round-trip : RoundTrip
 unfolding RoundTrip
-round-trip w packet k a out n v bytes small fits located e = returns w packet k a out n v bytes small fits located e
+round-trip w u packet k a out n v bytes small fits located e = returns w u packet k a out n v bytes small fits located e

@@ -1,4 +1,4 @@
--- Errors behind extension headers (R25): what a packet's chain of headers means for a sending that comes to 14, on every node.
+-- Errors behind extension headers (R25): what a packet's chain of headers means for a sending that comes to 14, through every service of every node.
 use Prim.Native.Nat.{ℕ, _≤_}
 use mathlib.Core.Path.{_≡_}
 use mathlib.Core.Bool.{Bool, cond, not, _&&_, _||_}
@@ -26,6 +26,7 @@ use Rattle.node.specs.Send.{pathSizeToward, sendOf, sendOutput}
 use Rattle.node.specs.Node.{serviceOf}
 use Rattle.node.specs.declared.Node.{Node}
 use Rattle.node.specs.declared.ServiceName.{ServiceName}
+use Rattle.demands.specs.Two.{Has}
 
 -- whether a message may be drawn, where the first next header alone is looked at: not if the source is multicast or `::`, or if that header is 58
 -- with payload and the type is below 128 or is 137
@@ -43,7 +44,7 @@ planByFirst s P packet hop k =
 module _ (n : Node) (w : ServiceName) (packet hop : List ℕ) (k time : ℕ) (out : List ℕ) where
   -- 14 is to be given, and to name M
   abbrev pub Due : ℕ → Type 0
-  Due M = Exceeds (serviceOf n w .settings) (pathSizeToward n w hop time) packet hop k M
+  Due M = Has n w × Exceeds (serviceOf n w .settings) (pathSizeToward n w hop time) packet hop k M
 
   -- 14 is given with M and that length of a message, and those bytes stand in the output
   abbrev pub Tells : ℕ → ℕ → List ℕ → Type 0
@@ -74,7 +75,7 @@ module _ (n : Node) (w : ServiceName) (packet hop : List ℕ) (k time : ℕ) (ou
         → Harmless packet upper at → Answerable packet → messageLength packet ≤ length out
         → Tells M (messageLength packet) (written (tooBigBytes (serviceOf n w .settings .reporting) M packet) out)
     -- where the first next header is none of the four, a sending is what it is by that header alone
-    pub byFirst : UpperLayer (getD packet 6 0)
+    pub byFirst : Has n w → UpperLayer (getD packet 6 0)
         → (sendOf n w packet hop k time (length out) .answer ≡ answerByFirst)
         × (serviceOf (sendOf n w packet hop k time (length out) .node) w .identification ≡ identificationAfter answerByFirst (serviceOf n w .identification))
         × (sendOutput n w packet hop k time out ≡ outputByFirst)

@@ -4,14 +4,16 @@ use Prim.Native.Nat.{ℕ, _≤_, max}
 use mathlib.Core.Path.{_≡_}
 use mathlib.Core.Bool.{true}
 use mathlib.Core.List.{List, [], _∷_, _++_, List·Memᴰ}
+use mathlib.Core.Option.{some}
 use lib.ListN.{length, take}
 use Rattle.refusals.specs.Given.{Given, answered}
 use Rattle.routers.specs.Routers.{live}
 use Rattle.routers.specs.declared.Router.{Router}
+use Rattle.settings.specs.declared.Settings.{Settings}
 use Rattle.node.specs.Node.{serviceOf}
 use Rattle.node.specs.declared.Node.{Node}
 use Rattle.node.specs.declared.ServiceName.{ServiceName}
-use Rattle.demands.specs.Starts.{Start, isRight, startOf}
+use Rattle.demands.specs.Starts.{Start, isRight, startOf, settingsOf}
 use Rattle.demands.specs.Calls.{NodeCall, outcomeOf, OfRouters, anAsking, anAdvertisement, aList, notOfRouters, routersOf, viewOf, nodeAfter}
 
 -- the router that an answered asking names; a refused one names none, and no other call serves one
@@ -48,8 +50,9 @@ ServedSoon w n r x xs =
     → length (live (serviceOf n w .routers)) ≤ length (servedBy w n (x ∷ xs))
     → List·Memᴰ (r .address) (take (length (live (serviceOf n w .routers))) (servedBy w n (x ∷ xs)))
 
--- for all accepted settings, both services and all lists of calls, those before the router is due and those from then on
+-- for all accepted settings, each of their services and all lists of calls, those before the router is due and those from then on
 unfoldable pub FairNode : Type 0
 FairNode =
     (s : Start) → isRight s ≡ true
-    → (w : ServiceName) (before : List NodeCall) (r : Router) (x : NodeCall) (xs : List NodeCall) → ServedSoon w (nodeAfter (startOf s) before) r x xs
+    → (w : ServiceName) (t : Settings) → settingsOf s w ≡ some t
+    → (before : List NodeCall) (r : Router) (x : NodeCall) (xs : List NodeCall) → ServedSoon w (nodeAfter (startOf s) before) r x xs

@@ -1,0 +1,61 @@
+-- A call leaves the service that it does not name as it is. Assumes nothing.
+use Prim.Native.Nat.{ℕ}
+use mathlib.Core.Path.{_≡_, refl, ap}
+use mathlib.Core.Bool.{_&&_}
+use mathlib.Core.Option.{Option, none, some}
+use native.Mathlib.Omega.{arith}
+use Rattle.settings.specs.Settings.{areRoutersRight}
+use Rattle.node.specs.Node.{serviceOf, hasService, nodeWith, raisedTo}
+use Rattle.node.specs.Receive.{receiveOf}
+use Rattle.node.specs.Send.{sendOf}
+use Rattle.node.specs.Report.{reportOf}
+use Rattle.node.specs.RouterList.{replaceOf}
+use Rattle.node.specs.Ask.{askOf}
+use Rattle.node.specs.Hear.{hearOf}
+use Rattle.node.specs.declared.Node.{Node}
+use Rattle.node.specs.declared.Service.{Service}
+use Rattle.node.specs.declared.ServiceName.{ServiceName}
+use Rattle.node.specs.declared.ServiceName.the-variants.{First, Second}
+use Rattle.demands.specs.Calls.{NodeCall, receiving, receivingPart, sending, reporting, relisting, asking, hearing, advertising, outcomeOf, viewOf}
+use Rattle.demands.proofs.Left.{chosen}
+
+-- the two names differ
+pub not-same : some Second ≡ some First → ⊥
+not-same e = let z : _≡_ {A = ℕ} 1 0 = ap marked e in omega arith
+  where
+    marked : Option ServiceName → ℕ
+    marked none = 2
+    marked (some First) = 0
+    marked (some Second) = 1
+
+pub not-same-back : some First ≡ some Second → ⊥
+not-same-back e = let z : _≡_ {A = ℕ} 0 1 = ap marked e in omega arith
+  where
+    marked : Option ServiceName → ℕ
+    marked none = 2
+    marked (some First) = 0
+    marked (some Second) = 1
+
+pub raised-service : (n : Node) (time : ℕ) (w : ServiceName) → serviceOf (raisedTo n time) w ≡ serviceOf n w
+unfolding raisedTo
+raised-service n time First = refl
+raised-service n time Second = refl
+
+put-other : (n : Node) (v : ServiceName) (s : Service) (time : ℕ) (w : ServiceName) → (some v ≡ some w → ⊥) → serviceOf (nodeWith n v s time) w ≡ serviceOf n w
+put-other n First s time First h = absurd (h refl)
+put-other n First s time Second h = refl
+put-other n Second s time First h = refl
+put-other n Second s time Second h = absurd (h refl)
+
+pub others-left : (n : Node) (x : NodeCall) (w : ServiceName) → (viewOf x .service ≡ some w → ⊥) → serviceOf (outcomeOf n x .node) w ≡ serviceOf n w
+unfolding receiveOf sendOf reportOf replaceOf askOf hearOf
+others-left n (receiving v d interface time memory) w h = put-other n v _ time w h
+others-left n (receivingPart v d interface) w h = refl
+others-left n (sending v packet hop k time out) w h = put-other n v _ time w h
+others-left n (reporting m time) w h = refl
+others-left n (relisting v addresses count time) w h =
+    chosen (hasService n v && areRoutersRight (serviceOf n v .settings) addresses count) _ _ (λ m. serviceOf m w ≡ serviceOf n w)
+    (put-other n v _ time w h) (raised-service n time w)
+others-left n (asking v k time out) w h = put-other n v _ time w h
+others-left n (hearing v packet time) w h = put-other n v _ time w h
+others-left n (advertising v packet k a out) w h = refl
