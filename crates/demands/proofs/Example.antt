@@ -5,6 +5,7 @@ use mathlib.Core.Path.{_≡_, refl, sym, ap, subst, _∙_}
 use mathlib.Core.Logic.{⊎-elim}
 use mathlib.Core.Bool.{Bool, true, false, cond, not, _&&_}
 use mathlib.Core.List.{List, [], _∷_, List·Memᴰ, List·Memᴰ·head, List·Memᴰ·tail, List·Memᴰ·not-nil, List·Memᴰ·cases-cons}
+use mathlib.Core.Option.{none}
 use native.Mathlib.Omega.{arith}
 use borrow.Author.Tests.{ltb-true}
 use lib.Dec.{ltb}
@@ -34,6 +35,7 @@ use Rattle.node.specs.Ask as node-ask
 use Rattle.node.specs.Node as node-node
 use Rattle.node.specs.Receive as node-receive
 use Rattle.node.specs.declared.Node.{Node}
+use Rattle.node.specs.declared.ServiceName.the-variants.{First}
 use Rattle.demands.specs.Calls.{NodeCall, receiving, asking, outcomeOf, isPiece, nodeAfter}
 use Rattle.demands.specs.Collecting.{keyOf, partIn, isTurnedAway}
 use Rattle.demands.specs.Cuttings.{HeaderRight, SameKey, Cutting, Repeats}
@@ -132,17 +134,17 @@ two = refl
 -- ---- the calls: the last piece, an asking, the first piece
 
 abbrev pub first : NodeCall
-first = receiving back 0 0 memory
+first = receiving First back 0 0 memory
 
 abbrev pub other : NodeCall
-other = asking 0 15 (replicate 100 0)
+other = asking First 0 15 (replicate 100 0)
 
 -- what the first call leaves in the memory
 abbrev pub left : List ℕ
 left = outcomeOf node first .output
 
 abbrev pub last : NodeCall
-last = receiving front 0 29 left
+last = receiving First front 0 29 left
 
 -- the node at the last call
 abbrev pub then : Node
@@ -152,20 +154,20 @@ then = nodeAfter node (first ∷ other ∷ [])
 record Reckoned : Type 0 where
   -- the settings keep the rules; a new node's places are not in use, and its time is 0
   accepted : isAccepted settings ≡ true
-  places : node .service .pieces .places ≡ replicate 8 noPlace
+  places : node .first .pieces .places ≡ replicate 8 noPlace
   latest : node .latest ≡ 0
   -- the last piece waits, and what it leaves of the memory is lent onward
-  waits : numberBy node back 0 0 memory ≡ 27
-  writes : memoryAfter node memory first ≡ left
+  waits : numberBy First node back 0 0 memory ≡ 27
+  writes : memoryAfter First node memory first ≡ left
   -- the first one comes at 29, which is in time, and is not refused
   onward : then .latest ≡ 15
-  admits : numberBy then front 0 29 left ≡ 0
+  admits : numberBy First then front 0 29 left ≡ 0
   -- the whole datagram in its place would get 0, and the inner packet would be delivered
-  number : numberBy then whole 0 29 left ≡ 0
-  bytes : deliveredBy then whole 0 29 left ≡ inner 2
+  number : numberBy First then whole 0 29 left ≡ 0
+  bytes : deliveredBy First then whole 0 29 left ≡ inner 2
 
 reckoned : Reckoned
-unfolding header-fields.wordAt header-fields.quadAt header-fields.addressAt header-inner.innerOf header-inner.isInnerMalformed header-outer.outerOf header-outer.isOuterMalformed header-outer.isSumWrong header-outer.payloadOf checksum-sum.onesSumFrom checksum-sum.isRightFrom address-address.isForbidden address-address.lastQuad address-address.isUnder address-address.isOnLink address-address.isIdentifier address-address.embeddedIn address-address.linkLocalOf address-address.isMulticastOrUnspecified address-address.isBadSourceWith settings-settings.defaultsFor settings-settings.forbiddenTo settings-settings.isOurs settings-settings.isOurLocator settings-settings.isBadEnd settings-settings.areLocatorsRight settings-settings.areRoutersRight settings-settings.areNumbersRight settings-settings.isAccepted routers-routers.areDistinct settings-settings.embeddedTo node-node.setupOf node-node.nodeOf receiving-receive.embeds receiving-collect.wholeOf receiving-collect.pieceOf receiving-collect.takenPiece receiving-collect.takenMemory receiving-collect.fragmentOf receiving-collect.fragmentMemory receiving-collect.collectedOf receiving-collect.collectedMemory node-receive.collectedBy node-receive.receiveOf node-receive.receiveMemory node-ask.askOf pieces-places.unfit pieces-places.isSame pieces-places.isLive pieces-places.isFree pieces-places.isOf pieces-places.isWhole pieces-places.endsApart pieces-places.extendedTo units-held.marksIn units-held.heldOf units-held.anyHeld units-held.allHeld units-held.heldWith lent-written.writtenAt pieces-take.planHeld pieces-take.planIn pieces-take.planNew pieces-take.planOf pieces-take.settled pieces-take.takenOf pieces-take.memoryOf
+unfolding header-fields.wordAt header-fields.quadAt header-fields.addressAt header-inner.innerOf header-inner.isInnerMalformed header-outer.outerOf header-outer.isOuterMalformed header-outer.isSumWrong header-outer.payloadOf checksum-sum.onesSumFrom checksum-sum.isRightFrom address-address.isForbidden address-address.lastQuad address-address.isUnder address-address.isOnLink address-address.isIdentifier address-address.embeddedIn address-address.linkLocalOf address-address.isMulticastOrUnspecified address-address.isBadSourceWith settings-settings.defaultsFor settings-settings.forbiddenTo settings-settings.isOurs settings-settings.isOurLocator settings-settings.isBadEnd settings-settings.areLocatorsRight settings-settings.areRoutersRight settings-settings.areNumbersRight settings-settings.isAccepted routers-routers.areDistinct settings-settings.embeddedTo node-node.setupOf node-node.nodeOf node-node.serviceFrom receiving-receive.embeds receiving-collect.wholeOf receiving-collect.pieceOf receiving-collect.takenPiece receiving-collect.takenMemory receiving-collect.fragmentOf receiving-collect.fragmentMemory receiving-collect.collectedOf receiving-collect.collectedMemory node-receive.collectedBy node-receive.collectedThrough node-receive.receiveOf node-receive.receiveMemory node-ask.askOf node-ask.askedBy pieces-places.unfit pieces-places.isSame pieces-places.isLive pieces-places.isFree pieces-places.isOf pieces-places.isWhole pieces-places.endsApart pieces-places.extendedTo units-held.marksIn units-held.heldOf units-held.anyHeld units-held.allHeld units-held.heldWith lent-written.writtenAt pieces-take.planHeld pieces-take.planIn pieces-take.planNew pieces-take.planOf pieces-take.settled pieces-take.takenOf pieces-take.memoryOf
 reckoned = record {
   accepted = refl;
   places = refl;
@@ -194,14 +196,14 @@ apart : Repeats back front → ⊥
 unfolding header-fields.wordAt
 apart r = let z : _≡_ {A = ℕ} 3 0x2000 = r .fragment in omega (arith, z)
 
-not-handed : Some (HandsIn 0 front) (first ∷ other ∷ []) → ⊥
+not-handed : Some (HandsIn First 0 front) (first ∷ other ∷ []) → ⊥
 not-handed (x, i, h) =
-    ⊎-elim (λ (e : x ≡ first). apart (subst (HandsIn 0 front) e h .0))
-    (λ j. ⊎-elim (λ (e : x ≡ other). absurd (subst (HandsIn 0 front) e h)) (λ none. absurd (List·Memᴰ·not-nil none)) (List·Memᴰ·cases-cons j)) (List·Memᴰ·cases-cons i)
+    ⊎-elim (λ (e : x ≡ first). apart (subst (HandsIn First 0 front) e h .0))
+    (λ j. ⊎-elim (λ (e : x ≡ other). absurd (subst (HandsIn First 0 front) e h)) (λ none. absurd (List·Memᴰ·not-nil none)) (List·Memᴰ·cases-cons j)) (List·Memᴰ·cases-cons i)
 
-handed : (p : List ℕ) → List·Memᴰ p (front ∷ back ∷ []) → Some (HandsIn 0 p) (first ∷ other ∷ last ∷ [])
+handed : (p : List ℕ) → List·Memᴰ p (front ∷ back ∷ []) → Some (HandsIn First 0 p) (first ∷ other ∷ last ∷ [])
 handed =
-    of-both (λ (p : List ℕ). Some (HandsIn 0 p) (first ∷ other ∷ last ∷ []))
+    of-both (λ (p : List ℕ). Some (HandsIn First 0 p) (first ∷ other ∷ last ∷ []))
     (last, List·Memᴰ·tail (List·Memᴰ·tail (List·Memᴰ·head refl)), (itself front front-right, refl))
     (first, List·Memᴰ·head refl, (itself back back-right, refl))
 
@@ -215,12 +217,12 @@ lent : (b : Bool) (x h : Handed) → List·Memᴰ h (cond b (x ∷ []) []) → h
 lent true x h i = ⊎-elim (λ (e : h ≡ x). ap (λ (y : Handed). y .memory) e) (λ none. absurd (List·Memᴰ·not-nil none)) (List·Memᴰ·cases-cons i)
 lent false x h i = absurd (List·Memᴰ·not-nil i)
 
-is-lent : (n : Node) (e : List ℕ) (i t : ℕ) (m : List ℕ) → IsLent n m (receiving e i t m)
+is-lent : (n : Node) (e : List ℕ) (i t : ℕ) (m : List ℕ) → IsLent First n m (receiving First e i t m)
 is-lent n e i t m h here =
-    lent (isPiece e && not (isTurnedAway (outcomeOf n (receiving e i t m) .given .number)))
+    lent (isPiece e && not (isTurnedAway (outcomeOf n (receiving First e i t m) .given .number)))
     (record { key = keyOf e; piece = partIn e; time = max (n .latest) t; memory = m }) h here
 
-pub met : Arrive 0 whole (front ∷ back ∷ []) node back 0 memory (other ∷ []) front 29 left
+pub met : Arrive First 0 whole (front ∷ back ∷ []) node back 0 memory (other ∷ []) front 29 left
 met = record {
   cutting = cutting;
   starts = (back, List·Memᴰ·tail (List·Memᴰ·head refl), (itself back back-right, refl));
@@ -228,13 +230,13 @@ met = record {
   missing = (front, List·Memᴰ·head refl, (itself front front-right, not-handed));
   all = handed;
   new = λ c i key used now. used (unused 8 c (subst (λ (l : List Place). List·Memᴰ c l) (reckoned .places) i));
-  own = (λ r k u e f o. (back-one, refl), (tt, (λ r k u e f o. (front-one, refl), tt)));
+  own = (λ h r k u e f o. (back-one, refl), (tt, (λ h r k u e f o. (front-one, refl), tt)));
   inTime = omega (arith, reckoned .onward, reckoned .latest);
   untouched = (
     is-lent node back 0 0 memory,
     (
       λ h i. absurd (List·Memᴰ·not-nil i),
-      (subst (λ (m : List ℕ). IsLent then m last) (sym (reckoned .writes)) (is-lent then front 0 29 left), tt),
+      (subst (λ (m : List ℕ). IsLent First then m last) (sym (reckoned .writes)) (is-lent then front 0 29 left), tt),
     ),
   );
   admitted = (
@@ -248,13 +250,13 @@ met = record {
 
 -- ---- what the theorem says of them
 
-pub example : GetsTheWhole 0 whole (front ∷ back ∷ []) node back 0 memory (other ∷ []) front 29 left
+pub example : GetsTheWhole First 0 whole (front ∷ back ∷ []) node back 0 memory (other ∷ []) front 29 left
 unfolding PiecesJoin
-example = pieces-join-on-nodes settings (reckoned .accepted) [] 0 whole (front ∷ back ∷ []) back 0 memory (other ∷ []) front 29 left met
+example = pieces-join-on-nodes (record { first = settings; second = none }) (reckoned .accepted) First [] 0 whole (front ∷ back ∷ []) back 0 memory (other ∷ []) front 29 left met
 
 -- the last piece's number is 0, and the 40 inner bytes are delivered
-pub number : numberBy then front 0 29 left ≡ 0
+pub number : numberBy First then front 0 29 left ≡ 0
 number = example .number ∙ reckoned .number
 
-pub delivered : deliveredBy then front 0 29 left ≡ inner 2
+pub delivered : deliveredBy First then front 0 29 left ≡ inner 2
 delivered = example .bytes ∙ reckoned .bytes

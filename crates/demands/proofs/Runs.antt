@@ -1,44 +1,37 @@
--- A list of calls is a list of steps of the collection, each piece with the memory that the last one left. Assumes nothing.
+-- A list of calls is a list of steps of a service's collection, each piece with the memory that the last one left. Assumes nothing.
 use Prim.Native.Nat.{ℕ, max}
 use mathlib.Core.Path.{_≡_, refl, sym, ap, subst, _∙_}
-use mathlib.Core.Logic.{⊎-elim}
-use mathlib.Core.Bool.{Bool, true, false, cond}
-use mathlib.Core.List.{List, [], _∷_, _++_, List·Memᴰ, List·Memᴰ·head, List·Memᴰ·not-nil, List·Memᴰ·cases-cons}
+use mathlib.Core.Bool.{Bool, true, false}
+use mathlib.Core.List.{List, [], _∷_, _++_, List·Memᴰ, List·Memᴰ·head}
+use Rattle.refusals.specs.Given.{Given}
 use Rattle.refusals.specs.declared.Check.{Check}
 use Rattle.refusals.specs.declared.Check.the-variants.{Pass, Stop}
 use Rattle.header.specs.Outer.{outerOf}
-use Rattle.settings.specs.Settings.{areRoutersRight}
 use Rattle.pieces.specs.History.{Handed}
 use Rattle.pieces.specs.declared.Collection.{Collection}
 use Rattle.pieces.proofs.Joining.{Step, State, after, afterAll}
 use Rattle.receiving.specs.Collect.{isPiece}
-use Rattle.node.specs.Node.{raisedTo}
-use Rattle.node.specs.Receive.{receiveOf, receiveMemory}
-use Rattle.node.specs.Send.{sendOf}
-use Rattle.node.specs.Report.{reportOf}
-use Rattle.node.specs.RouterList.{replaceOf}
-use Rattle.node.specs.Ask.{askOf}
-use Rattle.node.specs.Hear.{hearOf}
 use Rattle.node.specs.declared.Node.{Node}
-use Rattle.node.specs.declared.router_list.Replaced.{Replaced}
-use Rattle.demands.specs.Calls.{NodeCall, receiving, receivingPart, sending, reporting, relisting, asking, hearing, advertising, outcomeOf, nodeAfter}
-use Rattle.demands.specs.Collecting.{handedBy}
+use Rattle.node.specs.declared.ServiceName.{ServiceName}
+use Rattle.demands.specs.Calls.{NodeCall, Outcome, outcomeOf, OfPieces, aDatagram, noDatagram, piecesOf, nodeAfter}
+use Rattle.demands.specs.Collecting.{handedWith, handedBy}
 use Rattle.demands.specs.Joining.{IsLent, memoryBy, memoryAfter, Untouched}
-use Rattle.demands.proofs.Steps.{arrival, stepAt, stepBy, stepsOf, stateOf, received}
-use Rattle.demands.proofs.Handed.{handedAt, here, handed-in}
+use Rattle.demands.proofs.Seats.{Seat, seatOf, collectedAt, memoryAt, PiecesLeft, pieces-left}
+use Rattle.demands.proofs.Steps.{arrival, stepAt, stepBy, stepsAt, stateOf, received}
+use Rattle.demands.proofs.Handed.{handedAt, here, handed-in, handsAt}
 
--- what holds of the collection of either of two answers holds of the chosen one
-chosen : (b : Bool) (x y : Replaced) (c : Collection) → x .node .service .pieces ≡ c → y .node .service .pieces ≡ c → cond b x y .node .service .pieces ≡ c
-chosen true x y c p q = p
-chosen false x y c p q = q
+-- ---- at a seat
 
--- a call for the number is its steps, with its own memory where it hands in a piece
-module _ (n : Node) (m : List ℕ) (e : List ℕ) (j time : ℕ) (memory : List ℕ) where
+-- what a call hands in is lent the memory m
+abbrev pub Lends : Seat → List ℕ → OfPieces → Type 0
+Lends n m c = (h : Handed) → List·Memᴰ h (handsAt n c) → h .memory ≡ m
+
+module _ (n : Seat) (m : List ℕ) (e : List ℕ) (j time : ℕ) (memory : List ℕ) where
   abbrev y : Step
   y = stepAt (max (n .latest) time) e
 
   abbrev left : State
-  left = record { collection = receiveOf n e j time memory .node .service .pieces; memory = receiveMemory n e j time memory }
+  left = record { collection = collectedAt n e j time memory .pieces; memory = memoryAt n e j time memory }
 
   by-handed : (c : Check) (b : Bool) → left ≡ afterAll (stateOf n memory) (stepBy c b y)
       → ((h : Handed) → List·Memᴰ h (handedAt c b (here n e j time memory)) → h .memory ≡ m)
@@ -47,61 +40,74 @@ module _ (n : Node) (m : List ℕ) (e : List ℕ) (j time : ℕ) (memory : List 
   by-handed Pass false s lent = ap (λ (t : State). record { collection = t .collection; memory = m }) s
   by-handed (Stop r) b s lent = ap (λ (t : State). record { collection = t .collection; memory = m }) s
 
-  receiving-steps : IsLent n m (receiving e j time memory)
-      → stateOf (outcomeOf n (receiving e j time memory) .node) (memoryAfter n m (receiving e j time memory)) ≡ afterAll (stateOf n m) (stepsOf n (receiving e j time memory))
-  receiving-steps lent =
-      ap (λ (hs : List Handed). record { collection = left .collection; memory = memoryBy hs m (left .memory) }) (handed-in n e j time memory)
-      ∙ by-handed (arrival n e j memory) (isPiece (outerOf e)) (received n e j time memory)
-      (λ h i. lent h (subst (λ (hs : List Handed). List·Memᴰ h hs) (sym (handed-in n e j time memory)) i))
+  -- a datagram is its steps, with its own memory where it hands in a piece
+  datagram-steps : Lends n m (aDatagram e j time memory)
+      → _≡_ {A = State} (record { collection = left .collection; memory = memoryBy (handsAt n (aDatagram e j time memory)) m (left .memory) }) (afterAll (stateOf n m) (stepsAt n (aDatagram e j time memory)))
+  datagram-steps lent = by-handed (arrival n e j memory) (isPiece (outerOf e)) (received n e j time memory) lent
 
--- a piece that comes to be collected is lent the memory m
-pub lent-step : (n : Node) (m : List ℕ) (e : List ℕ) (j time : ℕ) (memory : List ℕ) → IsLent n m (receiving e j time memory) → arrival n e j memory ≡ Pass → isPiece (outerOf e) ≡ true
-    → memory ≡ m
-lent-step n m e j time memory lent a b =
-    let own : handedBy n (receiving e j time memory) ≡ here n e j time memory ∷ [] =
-    handed-in n e j time memory ∙ ap (λ (c : Check). handedAt c (isPiece (outerOf e)) (here n e j time memory)) a ∙ ap (λ (t : Bool). handedAt Pass t (here n e j time memory)) b in
-    lent (here n e j time memory) (subst (λ (hs : List Handed). List·Memᴰ (here n e j time memory) hs) (sym own) (List·Memᴰ·head refl))
+  -- a piece that passes is one step
+  module _ (a : arrival n e j memory ≡ Pass) (b : isPiece (outerOf e) ≡ true) where
+    pub one-step : stepsAt n (aDatagram e j time memory) ≡ stepAt (max (n .latest) time) e ∷ []
+    one-step = ap (λ (c : Check). stepBy c (isPiece (outerOf e)) y) a ∙ ap (λ (t : Bool). stepBy Pass t y) b
 
--- a call is lent its own memory
-pub own-lent : (n : Node) (e : List ℕ) (j time : ℕ) (memory : List ℕ) → IsLent n memory (receiving e j time memory)
-own-lent n e j time memory h i =
-    go (arrival n e j memory) (isPiece (outerOf e)) (subst (λ (hs : List Handed). List·Memᴰ h hs) (handed-in n e j time memory) i)
-  where
-    go : (c : Check) (b : Bool) → List·Memᴰ h (handedAt c b (here n e j time memory)) → h .memory ≡ memory
-    go Pass true k = ⊎-elim (λ (q : h ≡ here n e j time memory). ap (λ (x : Handed). x .memory) q) (λ l. absurd (List·Memᴰ·not-nil l)) (List·Memᴰ·cases-cons k)
-    go Pass false k = absurd (List·Memᴰ·not-nil k)
-    go (Stop r) b k = absurd (List·Memᴰ·not-nil k)
+    -- and is lent the memory m
+    pub lent-step : Lends n m (aDatagram e j time memory) → memory ≡ m
+    lent-step lent =
+        let own : handsAt n (aDatagram e j time memory) ≡ here n e j time memory ∷ [] =
+        ap (λ (c : Check). handedAt c (isPiece (outerOf e)) (here n e j time memory)) a ∙ ap (λ (t : Bool). handedAt Pass t (here n e j time memory)) b in
+        lent (here n e j time memory) (subst (λ (hs : List Handed). List·Memᴰ (here n e j time memory) hs) (sym own) (List·Memᴰ·head refl))
 
--- a call is its steps
-pub steps : (n : Node) (m : List ℕ) (x : NodeCall) → IsLent n m x → stateOf (outcomeOf n x .node) (memoryAfter n m x) ≡ afterAll (stateOf n m) (stepsOf n x)
-unfolding sendOf reportOf replaceOf raisedTo askOf hearOf
-steps n m (receiving e interface time memory) l = receiving-steps n m e interface time memory l
-steps n m (receivingPart e interface) l = refl
-steps n m (sending packet hop k time out) l = refl
-steps n m (reporting r time) l = refl
-steps n m (relisting addresses count time) l =
-    ap (λ (c : Collection). record { collection = c; memory = m }) (chosen (areRoutersRight (n .service .settings) addresses count) _ _ (n .service .pieces) refl refl)
-steps n m (asking k time out) l = refl
-steps n m (hearing packet time) l = refl
-steps n m (advertising packet k a out) l = refl
+-- ---- on a node
 
--- the steps of a list of calls
-abbrev pub allSteps : Node → List NodeCall → List Step
-allSteps n [] = []
-allSteps n (x ∷ xs) = stepsOf n x ++ allSteps (outcomeOf n x .node) xs
+module _ (v : ServiceName) where
+  -- what a call hands in is what it hands in at the seat
+  pub handed-by : (n : Node) (x : NodeCall) → handedBy v n x ≡ handsAt (seatOf v n) (piecesOf v x)
+  handed-by n x = go (piecesOf v x) (outcomeOf n x) (pieces-left v n x)
+    where
+      go : (c : OfPieces) (o : Outcome) → PiecesLeft v n c o → handedWith n (o .given .number) c ≡ handsAt (seatOf v n) c
+      go (aDatagram e j time memory) o l =
+          ap (λ (g : Given). handedWith n (g .number) (aDatagram e j time memory)) (l .0) ∙ handed-in (seatOf v n) e j time memory
+      go noDatagram o l = refl
 
--- the memory after a list of calls
-abbrev pub memoryAfterAll : Node → List ℕ → List NodeCall → List ℕ
-memoryAfterAll n m [] = m
-memoryAfterAll n m (x ∷ xs) = memoryAfterAll (outcomeOf n x .node) (memoryAfter n m x) xs
+  pub lends : (n : Node) (m : List ℕ) (x : NodeCall) → IsLent v n m x → Lends (seatOf v n) m (piecesOf v x)
+  lends n m x lent h i = lent h (subst (λ (hs : List Handed). List·Memᴰ h hs) (sym (handed-by n x)) i)
+
+  -- the steps of a call
+  abbrev pub stepsOf : Node → NodeCall → List Step
+  stepsOf n x = stepsAt (seatOf v n) (piecesOf v x)
+
+  -- a call is its steps
+  pub steps : (n : Node) (m : List ℕ) (x : NodeCall) → IsLent v n m x
+      → stateOf (seatOf v (outcomeOf n x .node)) (memoryAfter v n m x) ≡ afterAll (stateOf (seatOf v n) m) (stepsOf n x)
+  steps n m x lent =
+      ap (λ (hs : List Handed). stateOf (seatOf v (outcomeOf n x .node)) (memoryBy hs m (outcomeOf n x .output))) (handed-by n x)
+      ∙ go (piecesOf v x) (outcomeOf n x) (pieces-left v n x) (lends n m x lent)
+    where
+      go : (c : OfPieces) (o : Outcome) → PiecesLeft v n c o → Lends (seatOf v n) m c
+          → stateOf (seatOf v (o .node)) (memoryBy (handsAt (seatOf v n) c) m (o .output)) ≡ afterAll (stateOf (seatOf v n) m) (stepsAt (seatOf v n) c)
+      go (aDatagram e j time memory) o l lent =
+          ap (λ (c : Collection). record { collection = c; memory = memoryBy (handsAt (seatOf v n) (aDatagram e j time memory)) m (o .output) }) (l .1)
+          ∙ ap (λ (w : List ℕ). record { collection = collectedAt (seatOf v n) e j time memory .pieces; memory = memoryBy (handsAt (seatOf v n) (aDatagram e j time memory)) m w }) (l .2)
+          ∙ datagram-steps (seatOf v n) m e j time memory lent
+      go noDatagram o l lent = ap (λ (c : Collection). record { collection = c; memory = m }) l
+
+  -- the steps of a list of calls
+  abbrev pub allSteps : Node → List NodeCall → List Step
+  allSteps n [] = []
+  allSteps n (x ∷ xs) = stepsOf n x ++ allSteps (outcomeOf n x .node) xs
+
+  -- the memory after a list of calls
+  abbrev pub memoryAfterAll : Node → List ℕ → List NodeCall → List ℕ
+  memoryAfterAll n m [] = m
+  memoryAfterAll n m (x ∷ xs) = memoryAfterAll (outcomeOf n x .node) (memoryAfter v n m x) xs
 
 pub after-append : (s : State) (xs ys : List Step) → afterAll s (xs ++ ys) ≡ afterAll (afterAll s xs) ys
 after-append s [] ys = refl
 after-append s (x ∷ xs) ys = after-append (after s x) xs ys
 
-pub all-steps : (n : Node) (m : List ℕ) (xs : List NodeCall) → Untouched n m xs
-    → stateOf (nodeAfter n xs) (memoryAfterAll n m xs) ≡ afterAll (stateOf n m) (allSteps n xs)
-all-steps n m [] u = refl
-all-steps n m (x ∷ xs) u =
-    all-steps (outcomeOf n x .node) (memoryAfter n m x) xs (u .1)
-    ∙ rw (steps n m x (u .0)) (sym (after-append (stateOf n m) (stepsOf n x) (allSteps (outcomeOf n x .node) xs)))
+pub all-steps : (v : ServiceName) (n : Node) (m : List ℕ) (xs : List NodeCall) → Untouched v n m xs
+    → stateOf (seatOf v (nodeAfter n xs)) (memoryAfterAll v n m xs) ≡ afterAll (stateOf (seatOf v n) m) (allSteps v n xs)
+all-steps v n m [] u = refl
+all-steps v n m (x ∷ xs) u =
+    all-steps v (outcomeOf n x .node) (memoryAfter v n m x) xs (u .1)
+    ∙ rw (steps v n m x (u .0)) (sym (after-append (stateOf (seatOf v n) m) (stepsOf v n x) (allSteps v (outcomeOf n x .node) xs)))
