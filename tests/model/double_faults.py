@@ -172,7 +172,7 @@ def make(calls):
     for name, call in CALLS:
         *rest, last = arguments(name, call)
         if isinstance(last, tuple):
-            calls.call("report", calls.node.latest + 30, b"", want="refuse 16")
+            calls.call("report", calls.service.latest + 30, b"", want="refuse 16")
             for earlier in last[:-1]:
                 calls.call(name, *rest, earlier, want="refuse 27")
             last = last[-1]

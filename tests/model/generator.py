@@ -4,7 +4,7 @@ import random
 from .builders import operator_route
 from .calls import Calls
 from .faults import FAULTS, FORBIDDEN, GLOBAL, NEARLY_FORBIDDEN, VARIATIONS
-from .formats import REPLAY_LIMIT, encode_call, encode_datagrams, encode_lists, encode_settings, replay
+from .formats import REPLAY_LIMIT, encode_call, encode_datagrams, encode_lists, encode_services, replay
 from .octets import LINK_LOCAL, LOOPBACK, forbidden, isatap_address
 from .rules import Advertisement, Settings
 from .scenarios import PREFIXES, SCENARIOS, neighbours, neighbours_moved, plain_settings, times_near_the_end
@@ -91,7 +91,7 @@ def generate(seed, count, most=REPLAY_LIMIT - 150000):
     """About `count` calls; the last second is reached in some lists, and only at the end."""
     chooser = random.Random(seed)
     calls, cards = Calls(chooser, random_settings(chooser)), []
-    while len(calls.made) < count and len(calls.data) < most and calls.node.latest < 1 << 31:
+    while len(calls.made) < count and len(calls.data) < most and calls.service.latest < 1 << 31:
         cards = cards or deck(chooser)
         name, card = cards.pop()
         if name == "scenario":
@@ -107,7 +107,7 @@ def generate(seed, count, most=REPLAY_LIMIT - 150000):
 
 def longest(length=REPLAY_LIMIT):
     """Good calls only, of exactly this length."""
-    data = encode_settings(plain_settings(link=9216))
+    data = encode_services([plain_settings(link=9216)])
     whole = encode_call("report", (0, bytes(65535)))
     while len(data) + 2 * len(whole) < length:
         data += whole
@@ -119,19 +119,19 @@ def bad(seed):
     """Cut off, of an unknown kind, with a flag above 1 or a preference above 2, or too long; sometimes with settings that would be refused."""
     chooser = random.Random(seed)
     good, way = generate(seed, 15), chooser.randrange(10)
-    settings = encode_settings(plain_settings())
+    settings = encode_services([plain_settings()])
     if way == 0:
         return longest(REPLAY_LIMIT + chooser.choice((1, 2, 5000)))
     if way < 3:
         return good + bytes([chooser.choice((0, 11, 12, 255))]) + bytes(chooser.randrange(9))
     if way == 3:
-        return settings[:-1] + bytes([chooser.choice((2, 255))]) + chooser.choice((b"", GLOBAL)) + encode_call("size", [bytes(4)])
+        return settings[:-1] + bytes([chooser.choice((2, 255))]) + chooser.choice((b"", GLOBAL)) + encode_call("size", (0, bytes(4)))
     if way == 4:
-        return encode_settings(Settings([], [], [])) + b"\x0b"
+        return encode_services([Settings([], [], [])]) + b"\x0b"
     if way < 7:
         routes = [operator_route(preference=chooser.randrange(3)) for _ in range(chooser.choice((0, 1, 7, 8, 9, 300)))]
         routes.insert(chooser.randrange(len(routes) + 1), operator_route(preference=chooser.choice((3, 4, 255))))
-        return good + encode_call("advertise", (0, 600, Advertisement(routes=routes), b"")) + encode_call("size", [bytes(4)])
+        return good + encode_call("advertise", (0, 0, 600, Advertisement(routes=routes), b"")) + encode_call("size", (0, bytes(4)))
     data = good
     while replay(data) != ["bad input"]:                      # a cut between two calls is not bad
         data = good[:chooser.randrange(len(good))]
@@ -149,7 +149,7 @@ def program_input(seed):
         random_call(calls, "receive", fault)
     for scenario in (random_cuttings, random_cuttings, random_pieces):
         scenario(calls)
-    data = encode_datagrams([(arguments[0], arguments[-1]) for name, arguments in calls.made if name == "receive"])
+    data = encode_datagrams([(arguments[1], arguments[-1]) for name, arguments in calls.made if name == "receive"])
     way = chooser.randrange(24)
     if way == 0:
         calls.settings.locators.append((FORBIDDEN[1], 0))

@@ -8,7 +8,7 @@ from . import scenarios_pieces as pieces
 from .builders import datagram, operator_prefix, operator_route, packet, piece
 from .calls import Calls
 from .faults import FAULTS, GLOBAL, MULTICAST, VARIATIONS
-from .formats import REPLAY_LIMIT, encode_call, encode_datagrams, encode_lists, encode_settings, program, replay, text
+from .formats import REPLAY_LIMIT, encode_call, encode_datagrams, encode_lists, encode_services, program, replay, text
 from .generator import bad, generate, longest, program_input, with_faults
 from .many_options import advertised_with_many_options, asked_from_nearly_unspecified, asked_from_unspecified, asked_with_many_options
 from .octets import LINK_LOCAL, LOOPBACK, UNSPECIFIED, isatap_address, link_local, u16
@@ -225,23 +225,23 @@ def named_inputs():
     for name, (changes, scenario) in NAMED_SETTINGS.items():
         yield name, scenario_bytes(name, changes, scenario)
     for name, changes in REFUSED_SETTINGS.items():
-        yield "settings_refused_" + name, encode_settings(plain_settings(**changes)) + encode_call("size", [bytes(4)])
+        yield "settings_refused_" + name, encode_services([plain_settings(**changes)]) + encode_call("size", (0, bytes(4)))
     for name, changes in ALLOWED_SETTINGS.items():
         yield "settings_" + name, scenario_bytes(name, changes, sends)
     good = scenario_bytes("good", {}, no_calls_but_some)
     yield from {f"advertise_{name}": good + data for name, data in longest_lists()}.items()
     yield from {f"bad_input_advertise_{name}": good + data for name, data in bad_advertisings()}.items()
     yield from {"bad_input_empty": b"", "bad_input_cut_settings": good[:11], "bad_input_cut": good[:-1],
-                "bad_input_kind_0": good + b"\0", "bad_input_kind_11": good + b"\x0b" + bytes(70), "bad_input_flag": encode_settings(plain_settings())[:-1] + b"\2",
-                "bad_input_flag_before_address": encode_settings(plain_settings())[:-1] + b"\2" + GLOBAL,
-                "bad_input_refused_settings": encode_settings(plain_settings(ttl=0)) + b"\x0b",
+                "bad_input_kind_0": good + b"\0", "bad_input_kind_11": good + b"\x0b" + bytes(70), "bad_input_flag": encode_services([plain_settings()])[:-1] + b"\2",
+                "bad_input_flag_before_address": encode_services([plain_settings()])[:-1] + b"\2" + GLOBAL,
+                "bad_input_refused_settings": encode_services([plain_settings(ttl=0)]) + b"\x0b",
                 "bad_input_refused_settings_preference_3":
-                    encode_settings(plain_settings(ttl=0)) + advertising(Advertisement(routes=[operator_route(preference=3)])),
-                "bad_input_reporting_cut": encode_settings(plain_settings(reporting=GLOBAL))[:-1]}.items()
+                    encode_services([plain_settings(ttl=0)]) + advertising(Advertisement(routes=[operator_route(preference=3)])),
+                "bad_input_reporting_cut": encode_services([plain_settings(reporting=GLOBAL)])[:-1]}.items()
 
 
-def advertising(operator, packet=b"", behind=encode_call("size", [bytes(4)])):
-    return encode_call("advertise", (0, 600, operator, packet)) + behind
+def advertising(operator, packet=b"", behind=encode_call("size", (0, bytes(4)))):
+    return encode_call("advertise", (0, 0, 600, operator, packet)) + behind
 
 
 def longest_lists():
@@ -259,10 +259,10 @@ def bad_advertisings():
         yield f"preference_3_in_{place}", advertising(Advertisement(routes=routes))
     yield "preference_255", advertising(Advertisement(prefixes=[operator_prefix()] * 9, routes=[operator_route(preference=255)]))
     whole = advertising(Advertisement(0, 0, [operator_prefix()] * 2, [operator_route()] * 2), bytes(48), b"")
-    for length in (1, 2, 4, 5, 7, 8, 9, 60, 61, 62, 63, 84, 105, 106, 107, 108, len(whole) - 1):
+    for length in (1, 2, 3, 5, 6, 8, 9, 10, 61, 62, 63, 64, 85, 106, 107, 108, 109, len(whole) - 1):
         yield f"cut_{length}", whole[:length]
-    yield "cut_in_65535_routes", advertising(Advertisement(), b"", b"")[:9] + u16(65535) + bytes(200)
-    yield "cut_in_65535_prefixes", advertising(Advertisement(), b"", b"")[:7] + u16(65535) + bytes(200)
+    yield "cut_in_65535_routes", advertising(Advertisement(), b"", b"")[:10] + u16(65535) + bytes(200)
+    yield "cut_in_65535_prefixes", advertising(Advertisement(), b"", b"")[:8] + u16(65535) + bytes(200)
 
 
 def no_calls_but_some(calls):

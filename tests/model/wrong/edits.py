@@ -2,7 +2,7 @@
 WRONG = {}                                                    # name: (module, old text, new text)
 
 # Texts of `formats` that more than one edit changes
-CALL = "told(getattr(node, {\"routers\": \"replace_routers\"}.get(name, name))(*arguments), memory)"
+CALL = "told(getattr(service, {\"routers\": \"replace_routers\"}.get(name, name))(*arguments), memory)"
 ANSWERED = f"    try:\n        line = {CALL}\n    except Refused as refused:\n        line = f\"refuse {{refused.number}}\"\n"
 
 
