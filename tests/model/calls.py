@@ -107,6 +107,11 @@ class Calls:
             if any(address[:3]) and not (forbidden(address) or self.settings.own(address) or address in taken):
                 return address
 
+    def stranger(self):
+        """A fresh address, or a locator of the other service; not listed."""
+        crossing = [address for address, _ in self.other.settings.locators if not self.service.listed(address)] if self.other else []
+        return self.random.choice(crossing) if crossing and self.random.random() < 0.15 else self.fresh()
+
     def prefix(self, link_local_too=True):
         """An on-link prefix; one that makes no bad inner source."""
         prefixes = [prefix for prefix in self.settings.prefixes if prefix[0] != 255 and prefix != LINK_LOCAL]
@@ -122,9 +127,12 @@ class Calls:
         return self.random.choice(self.service.routers)[0]
 
     def neighbour(self):
-        """One that has had a report, or a fresh one; never one that can go no lower."""
-        known = [neighbour for neighbour, _, _ in self.service.record[-70:] if self.service.size(neighbour) > 68]
-        return self.random.choice(known) if known and self.random.random() < 0.5 else self.fresh()
+        """One that has had a report, or a stranger; never one that can go no lower."""
+        known = [neighbour for neighbour, _, _ in self.service.record[-70:] if self.service.size(neighbour) > 68 and not self.settings.own(neighbour)]
+        if known and self.random.random() < 0.5:
+            return self.random.choice(known)
+        stranger = self.stranger()
+        return stranger if self.service.size(stranger) > 68 else self.fresh()
 
     def small(self):
         """A neighbour with a small size in force."""
@@ -149,7 +157,7 @@ class Calls:
 
     def datagram_fields(self, faults, variation):
         """Of a datagram that is delivered, but for the faults."""
-        address = self.fresh()
+        address = self.stranger()
         destination, interface = self.random.choice(self.settings.locators)
         f = self.packet_fields(link_local(address), self.some(16), self.some(self.random.choice((0, 1, 8, 20, 33))))
         f.update(address=address, version=4, words=5, service=self.random.randrange(256), identification=self.some(2), flags=0,

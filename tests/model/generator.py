@@ -2,13 +2,15 @@
 import random
 
 from .builders import operator_route
-from .calls import Calls
+from .calls import LAST_SECOND, Calls
 from .faults import FAULTS, FORBIDDEN, GLOBAL, NEARLY_FORBIDDEN, VARIATIONS
 from .formats import REPLAY_LIMIT, encode_call, encode_datagrams, encode_lists, encode_services, replay
 from .octets import LINK_LOCAL, LOOPBACK, forbidden, isatap_address
+from .pieces import Whole
 from .rules import Advertisement, Settings
-from .scenarios import PREFIXES, SCENARIOS, neighbours, neighbours_moved, plain_settings, times_near_the_end
+from .scenarios import PREFIXES, SCENARIOS, ask, neighbours, neighbours_moved, plain_settings, times_near_the_end
 from .scenarios_pieces import PIECE_SCENARIOS, random_cuttings, random_pieces
+from .scenarios_services import WITH_ONE, WITH_TWO, second_settings, to_the_absent
 
 
 def random_settings(chooser):
@@ -29,6 +31,17 @@ def random_settings(chooser):
                     chooser.choice((1, 64, 255)), chooser.choice((1, 2, 120, 3600, chooser.randint(1, 3600))),
                     chooser.choice((0, 1, 65530, 65534, 65535, chooser.randrange(65536))),
                     chooser.choice((None, None, GLOBAL, LOOPBACK, bytes([0xfe]) + bytes(15))))
+
+
+def random_pair(chooser):
+    """Settings of two services: no locator address is in both, and some of one are routers of the other."""
+    first, second = random_settings(chooser), random_settings(chooser)
+    second.locators = [locator for locator in second.locators if not first.own(locator[0])] or second_settings().locators
+    second.routers = [router for router in second.routers if not second.own(router)]
+    for one, other in ((first, second), (second, first)):
+        crossing = [address for address, _ in other.locators if chooser.random() < 0.3]
+        one.routers = list(dict.fromkeys(crossing + one.routers))[:16]
+    return first, second
 
 
 # ---- Single calls
@@ -78,28 +91,71 @@ def random_call(calls, name, fault):
         mutate_call(calls, name, data)
 
 
-def deck(chooser):
+def named_by_chance(calls):
+    """The last call again, naming the other service; where the node has none, at a later time perhaps."""
+    if calls.made[-1][0] == "report":
+        return
+    if calls.other:
+        calls.made_to_the_other()
+    else:
+        to_the_absent(calls, min(LAST_SECOND, calls.service.latest + calls.random.choice((0, 0, 1, 29))))
+
+
+BESIDE = [lambda calls: calls.receive(), lambda calls: calls.part(), lambda calls: calls.send(n=40, time=0), lambda calls: ask(calls, time=0),
+          lambda calls: calls.advertise(), lambda calls: calls.service.routers and calls.advertisement(time=0), lambda calls: Whole(calls).begin(want=""),
+          lambda calls: calls.call("routers", 0, [calls.fresh()], want="accepted 1"), lambda calls: calls.call("memory")]
+
+
+def beside(calls):
+    """Now and then a call of the other service that no answer of this one may depend on; it has no later time and is no report."""
+    if calls.random.random() < 0.1:
+        calls.other.beside = None
+        calls.random.choice(BESIDE)(calls.other)
+        calls.other.beside = beside
+
+
+def deck(chooser, scenarios):
     """Every fault once, as many calls without one, and each scenario."""
     cards = [(name, fault) for name in FAULTS for fault in FAULTS[name]]
     cards += [(name, None) for name in FAULTS for _ in FAULTS[name]]
-    cards += [("scenario", scenario) for scenario in 4 * SCENARIOS + 4 * PIECE_SCENARIOS + [neighbours, neighbours_moved]]
+    cards += [("scenario", scenario) for scenario in 4 * SCENARIOS + 4 * PIECE_SCENARIOS + [neighbours, neighbours_moved] + scenarios]
     chooser.shuffle(cards)
     return cards
+
+
+def play(calls, name, card):
+    """A scenario of both services is left alone."""
+    if name != "scenario":
+        random_call(calls, name, card)
+        if calls.random.random() < 0.15:
+            named_by_chance(calls)
+    elif card in WITH_TWO:
+        before, calls.beside, calls.other.beside = calls.beside, None, None
+        card(calls)
+        calls.beside = calls.other.beside = before
+    else:
+        card(calls)
+
+
+def started(chooser):
+    """A list on a node of one service or of two, and the scenarios for that."""
+    if chooser.random() < 0.5:
+        return Calls(chooser, random_settings(chooser)), 2 * WITH_ONE
+    calls = Calls(chooser, *random_pair(chooser))
+    if chooser.random() < 0.7:
+        calls.beside = calls.other.beside = beside
+    return calls, 3 * WITH_TWO
 
 
 def generate(seed, count, most=REPLAY_LIMIT - 150000):
     """About `count` calls; the last second is reached in some lists, and only at the end."""
     chooser = random.Random(seed)
-    calls, cards = Calls(chooser, random_settings(chooser)), []
+    (calls, scenarios), cards = started(chooser), []
     while len(calls.made) < count and len(calls.data) < most and calls.service.latest < 1 << 31:
-        cards = cards or deck(chooser)
-        name, card = cards.pop()
-        if name == "scenario":
-            card(calls)
-        else:
-            random_call(calls, name, card)
+        cards = cards or deck(chooser, scenarios)
+        play(chooser.choice((calls, calls.other or calls)), *cards.pop())
     if chooser.random() < 0.5:
-        times_near_the_end(calls)
+        times_near_the_end(chooser.choice((calls, calls.other or calls)))
     return bytes(calls.data)
 
 
