@@ -296,7 +296,9 @@ def bad_service_inputs():
     """Another number of services than 1 or 2, a service above 1 in whatever call, and inputs that are cut off about them."""
     one, two, size = encode_services([plain_settings()]), pair({}, {}), encode_call("size", (1, bytes(4)))
     for number in (0, 3, 255):
-        yield f"services_{number}", bytes([number]) + one[1:] + two[1:] + size
+        yield f"services_{number}_with_one", bytes([number]) + one[1:] + size
+        yield f"services_{number}_with_two", bytes([number]) + two[1:] + size
+    yield "services_3_with_three", b"\3" + two[1:] + one[1:] + size
     for number in (2, 3, 255):
         for kind in (1, 2, 4, 5, 6, 7, 8, 9, 10):
             yield f"service_{number}_in_kind_{kind}", two + size + bytes([kind, number]) + bytes(60) + size
