@@ -108,8 +108,9 @@ class Calls:
                 return address
 
     def stranger(self):
-        """A fresh address, or a locator of the other service; not listed."""
-        crossing = [address for address, _ in self.other.settings.locators if not self.service.listed(address)] if self.other else []
+        """A fresh address, or a locator of the other service that is not listed and does not make ::1."""
+        others = self.other.settings.locators if self.other else ()
+        crossing = [address for address, _ in others if any(address[:3]) and not self.service.listed(address)]
         return self.random.choice(crossing) if crossing and self.random.random() < 0.15 else self.fresh()
 
     def prefix(self, link_local_too=True):

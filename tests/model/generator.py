@@ -137,9 +137,9 @@ def play(calls, name, card):
         card(calls)
 
 
-def started(chooser):
-    """A list on a node of one service or of two, and the scenarios for that."""
-    if chooser.random() < 0.5:
+def started(chooser, services):
+    """A list on a node of so many services, and the scenarios for that."""
+    if services == 1:
         return Calls(chooser, random_settings(chooser)), 2 * WITH_ONE
     calls = Calls(chooser, *random_pair(chooser))
     if chooser.random() < 0.7:
@@ -148,9 +148,9 @@ def started(chooser):
 
 
 def generate(seed, count, most=REPLAY_LIMIT - 150000):
-    """About `count` calls; the last second is reached in some lists, and only at the end."""
+    """About `count` calls, of an even seed on a node of two services; the last second is reached in some lists, and only at the end."""
     chooser = random.Random(seed)
-    (calls, scenarios), cards = started(chooser), []
+    (calls, scenarios), cards = started(chooser, 2 - seed % 2), []
     while len(calls.made) < count and len(calls.data) < most and calls.service.latest < 1 << 31:
         cards = cards or deck(chooser, scenarios)
         play(chooser.choice((calls, calls.other or calls)), *cards.pop())

@@ -401,7 +401,7 @@ def program_inputs():
     yield "pieces_far_apart", start + encode_datagrams(first[:1] + 70 * example[:1] + last[:1])
 
 
-BATCHES = range(1, 13)                                        # seeds
+BATCHES = range(1, 17)                                        # seeds
 
 
 def gate_inputs(batches=True):

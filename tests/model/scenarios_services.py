@@ -163,7 +163,7 @@ def own_addresses(calls):
     for one, other in ways(calls):
         for own, _ in one.settings.locators:
             for its, interface in other.settings.locators:
-                one.report(variation={"source": own}, neighbour=its, candidate=one.service.size(its) - 1)
+                one.report(variation={"source": own}, neighbour=its, candidate=max(68, one.service.size(its) - 1))
                 calls.call("size", its)
                 other.call("size", its)
                 one.receive([(6, {"destination": its, "interface": interface})])

@@ -1,10 +1,11 @@
 """Wrong services."""
 from .edits import wrong
 
-# With this each service sees all of its node, as self.shared.services
+# With this each service sees all of its node as self.shared.services
 ALL = ("        self.settings, self.shared = settings, shared\n",
        "        self.settings, self.shared = settings, shared\n        shared.__dict__.setdefault('services', []).append(self)\n")
 ANY = "any(one.{} for one in self.shared.services)"
+OTHERS = "any({} for one in self.shared.services if one is not self)"
 
 
 def seeing_both(name, *edits):
@@ -29,10 +30,12 @@ for name, old, new in (
         ("a router of the second that is a locator of the first refused", APART, APART + "            need(not any(map(first.own, second.routers)), 1)\n"),
         ("the first's settings not asked where there are two", "        first.check()\n",
          "        second or first.check()\n        first.reporting = first.reporting or bytes(15) + b'\\1'\n"),
-        ("the second's TTL not asked", "            second.check()\n", "            ttl, second.ttl = second.ttl, 1\n            second.check()\n            second.ttl = ttl\n"),
+        ("the second's TTL not asked", "            second.check()\n",
+         "            ttl, second.ttl = second.ttl, 1\n            second.check()\n            second.ttl = ttl\n"),
         ("the second's routers not asked", "            second.check()\n",
          "            routers, second.routers = second.routers, []\n            second.check()\n            second.routers = routers\n"),
-        ("the second's link size not asked", "            second.check()\n", "            link, second.link = second.link, 1500\n            second.check()\n            second.link = link\n"),
+        ("the second's link size not asked", "            second.check()\n",
+         "            link, second.link = second.link, 1500\n            second.check()\n            second.link = link\n"),
         ("a larger link size of the second refused", APART, APART + "            need(second.link <= first.link, 1)\n"),
         ("the second's default reporting address that of the first", "            second.check()\n",
          "            second.reporting = second.reporting or first.reporting\n            second.check()\n")):
@@ -48,7 +51,8 @@ for field in ("prefixes", "routers", "link", "ttl", "interval", "identification"
 
 KEPT = "min(candidate, self.settings.link) if kept"
 GIVEN = "        return owner.report(time, message)\n"
-JUDGED = "        link, owner.settings.link = owner.settings.link, {}\n        try:\n            return owner.report(time, message)\n        finally:\n            owner.settings.link = link\n"
+JUDGED = ("        link, owner.settings.link = owner.settings.link, {}\n        try:\n            return owner.report(time, message)\n"
+          "        finally:\n            owner.settings.link = link\n")
 for name, old, new in (
         ("a kept size above L in force", KEPT, "candidate if kept"),
         ("a kept size above L in force in sending", "path = self.size(end)",
@@ -62,31 +66,28 @@ for name, old, new in (
         ("19 by the larger link size", GIVEN, JUDGED.format("max(one.settings.link for one in present)")),
         ("19 by the other's link size", GIVEN, JUDGED.format("[one for one in present if one is not owner or len(present) == 1][0].settings.link")),
         ("a size above the other's L accepted and not kept", GIVEN,
-         "        given = owner.report(time, message)\n        self.shared.record = [one for one in self.shared.record if one[1] < min(each.settings.link for each in present)]\n        return given\n"),
+         "        given = owner.report(time, message)\n        least = min(one.settings.link for one in present)\n"
+         "        self.shared.record = [one for one in self.shared.record if one[1] < least]\n        return given\n"),
         ("a size above the other's L kept as that L", GIVEN,
          "        given = owner.report(time, message)\n        neighbour, candidate, since = self.shared.record.pop()\n"
          "        self.shared.record.append((neighbour, min(candidate, *[each.settings.link for each in present], 9216), since))\n        return given\n"),
         ("sizes kept for each by itself", "        return self.shared.record\n", "        return self.__dict__.setdefault('kept', [])\n"),
         ("19 forgets what the other's report kept", GIVEN, "        try:\n            return owner.report(time, message)\n        except Refused as refused:\n"
-         "            self.shared.record = self.shared.record if refused.number != 19 else [one for one in self.shared.record if one[0] != message[24:28]]\n            raise\n")):
+         "            if refused.number == 19:\n                self.shared.record = [one for one in self.shared.record if one[0] != message[24:28]]\n            raise\n")):
     wrong("node", "services: path sizes: " + name, old, new)
-for number, name in enumerate(("first", "second")):
-    seeing_both(f"path sizes: reports of the {name} count for it alone",
-                ("self.record.append((neighbour, candidate, self.latest))",
-                 "self.record.append((neighbour, candidate, self.latest)); self.shared.__dict__.setdefault('by', {})[id(self.record[-1])] = self"),
-                ("in reversed(self.record):\n", "in [one[:3] for one in reversed(self.record) if self.shared.by[id(one)] is self or "
-                 f"self.shared.by[id(one)] is not self.shared.services[{number}]]:\n"))
-seeing_both("path sizes: the other neighbours of its own reports alone counted",
-            ("self.record.append((neighbour, candidate, self.latest))",
-             "self.record.append((neighbour, candidate, self.latest)); self.shared.__dict__.setdefault('by', {})[id(self.record[-1])] = self"),
-            ("        for reporter, candidate, time in reversed(self.record):\n            if reporter == neighbour:\n",
-             "        for entry in reversed(self.record):\n            reporter, candidate, time = entry\n            if reporter == neighbour:\n"),
+ENTERED = ("self.record.append((neighbour, candidate, self.latest))",
+           "self.record.append((neighbour, candidate, self.latest)); self.shared.__dict__.setdefault('by', {})[id(self.record[-1])] = self")
+LOOKED = "        for reporter, candidate, time in reversed(self.record):\n"
+NOTHING_KEPT = "            others.add(reporter)\n        return self.settings.link\n"
+for name, others in (("first", "[1:]"), ("second", "[:1]")):
+    seeing_both(f"path sizes: reports of the {name} count for it alone", ENTERED, (LOOKED, LOOKED.replace(
+        "reversed(self.record)", f"[one for one in reversed(self.record) if self.shared.by[id(one)] in (self, *self.shared.services{others})]")))
+seeing_both("path sizes: the other neighbours of its own reports alone counted", ENTERED,
+            (LOOKED, "        for entry in reversed(self.record):\n            reporter, candidate, time = entry\n"),
             ("            others.add(reporter)\n", "            if self.shared.by[id(entry)] is self:\n                others.add(reporter)\n"))
-seeing_both("path sizes: the link size of the first where nothing is kept", ("            others.add(reporter)\n        return self.settings.link\n",
-                                                                         "            others.add(reporter)\n        return self.shared.services[0].settings.link\n"))
+seeing_both("path sizes: the first's link size where nothing is kept", (NOTHING_KEPT, NOTHING_KEPT.replace("self.settings", "self.shared.services[0].settings")))
 seeing_both("path sizes: the smaller link size for both", (KEPT, "min(candidate, *[one.settings.link for one in self.shared.services], 9216) if kept"),
-            ("            others.add(reporter)\n        return self.settings.link\n",
-             "            others.add(reporter)\n        return min(one.settings.link for one in self.shared.services)\n"))
+            (NOTHING_KEPT, NOTHING_KEPT.replace("self.settings.link", "min(one.settings.link for one in self.shared.services)")))
 
 # ---- Whose report it is
 
@@ -106,77 +107,92 @@ for name, old, new in (
          "need(self.settings.own(quoted[12:16]) or not self.settings.own(neighbour), 17)"),
         ("17 for every report of the second", GIVEN, "        need(owner is present[0], 17)\n" + GIVEN),
         ("17 where source and destination are of this node", GIVEN,
-         "        need(message[:2] != b'\\3\\4' or len(message) < 28 or owner.settings.own(message[24:28]) or not any(one.settings.own(message[24:28]) for one in present), 17)\n" + GIVEN)):
+         "        need(message[:2] != b'\\3\\4' or len(message) < 28 or owner.settings.own(message[24:28])"
+         " or not any(one.settings.own(message[24:28]) for one in present), 17)\n" + GIVEN)):
     wrong("node", "services: reports: " + name, old, new)
 
 # ---- Addresses, prefixes and routers of both
 
 OWN_END = "need(not forbidden(end) and not self.settings.own(end), 13)"
-seeing_both("our own in 13 is of both", (OWN_END, f"need(not forbidden(end) and not {ANY.format('settings.own(end)')}, 13)"))
-seeing_both("our own in 13 is the first's", (OWN_END, "need(not forbidden(end) and not self.shared.services[0].settings.own(end), 13)"))
-seeing_both("our own in 13 is the other's", (OWN_END, "need(not forbidden(end) and not self.shared.services[-1 if self is self.shared.services[0] else 0].settings.own(end), 13)"))
-seeing_both("our own in 17 is of both", ("need(not self.settings.own(neighbour), 17)", f"need(not {ANY.format('settings.own(neighbour)')}, 17)"))
-seeing_both("our own in 17 is the first's", ("need(not self.settings.own(neighbour), 17)", "need(not self.shared.services[0].settings.own(neighbour), 17)"))
-seeing_both("our own in 17 is the second's", ("need(not self.settings.own(neighbour), 17)", "need(not self.shared.services[-1].settings.own(neighbour), 17)"))
-seeing_both("our own in a new router list is of both", ("        self.settings.check_routers(routers)\n        due",
-                                                     "        self.settings.check_routers(routers)\n        need(not any(one.settings.own(router) for one in self.shared.services for router in routers), 1)\n        due"))
-seeing_both("6 by the locators of both", ("need((datagram[16:20], interface) in self.settings.locators, 6)", f"need({ANY.format('settings.locators.count((datagram[16:20], interface))')}, 6)"))
-seeing_both("6 by the locators of the first", ("need((datagram[16:20], interface) in self.settings.locators, 6)",
-                                               "need((datagram[16:20], interface) in self.shared.services[0].settings.locators, 6)"))
-seeing_both("6 by the address of one and an interface of the other", ("need((datagram[16:20], interface) in self.settings.locators, 6)",
-                                                                     "need((datagram[16:20], interface) in self.settings.locators or self.settings.own(datagram[16:20]) and "
-                                                                     + ANY.format("settings is not self.settings and interface in [at for _, at in one.settings.locators]") + ", 6)"))
-seeing_both("7 for a locator of the other", ("need(not forbidden(outer_source), 7)",
-                                            f"need(not forbidden(outer_source) and not {ANY.format('settings is not self.settings and one.settings.own(outer_source)')}, 7)"))
-seeing_both("locators counted on through both", ("        need(index < len(self.settings.locators), 11)\n        return self.settings.locators[index][0]\n",
-                                                "        locators = self.settings.locators + [one for each in self.shared.services if each is not self for one in each.settings.locators]\n"
-                                                "        need(index < len(locators), 11)\n        return locators[index][0]\n"))
-seeing_both("prefixes of both for the inner source", ("embeds = self.settings.isatap(source)", f"embeds = {ANY.format('settings.isatap(source)')}"))
-seeing_both("prefixes of both for the next hop", ("need(self.settings.isatap(next_hop), 12)", f"need({ANY.format('settings.isatap(next_hop)')}, 12)"))
+OWN_NEIGHBOUR = "need(not self.settings.own(neighbour), 17)"
+MATCHED = "need((datagram[16:20], interface) in self.settings.locators, 6)"
+NUMBERED = "        need(index < len(self.settings.locators), 11)\n        return self.settings.locators[index][0]\n"
 LISTED = "return address in [router for router, _ in self.routers]"
-seeing_both("routers of both admitted", (LISTED, "return any(address == router for one in self.shared.services for router, _ in one.routers)"))
-seeing_both("routers of the first admitted", (LISTED, "return address in [router for router, _ in self.shared.services[0].routers]"))
-seeing_both("a locator of the other admitted as a router", (LISTED, LISTED + f" or {ANY.format('settings is not self.settings and one.settings.own(address)')}"))
+CHECKED = "        self.settings.check_routers(routers)\n        due"
+DUE = "        due = dict(self.routers)\n"
 NEW_LIST = "        self.routers = [(router, due.get(router, self.latest)) for router in routers]\n"
-seeing_both("a new router list for both", (NEW_LIST, NEW_LIST + "        for one in self.shared.services:\n            one.routers = list(self.routers)\n"))
-seeing_both("a new router list empties the other's", (NEW_LIST, NEW_LIST + "        for one in self.shared.services:\n            one.routers = one.routers if one is self else []\n"))
-seeing_both("a router in the other's list keeps the due time of there", ("        due = dict(self.routers)\n",
-                                                                        "        due = {router: due for one in self.shared.services for router, due in one.routers}\n        due.update(self.routers)\n"))
 SET_DUE = "        self.routers = [(other, time if other == router else due) for other, due in self.routers]\n"
-seeing_both("due times moved in both lists", (SET_DUE, "        for one in self.shared.services:\n            one.routers = [(other, time if other == router else due) for other, due in one.routers]\n"))
-seeing_both("asked of both lists", ("router, due = min(self.routers, key", "router, due = min([entry for one in self.shared.services for entry in one.routers], key"))
-seeing_both("a new router due where the other's list has it not", ("due.get(router, self.latest)", "due.get(router, self.latest + (self.settings.interval if "
-                                                                  + ANY.format("settings is not self.settings and one.listed(router)") + " else 0))"))
+EACH = "        for one in self.shared.services:\n            "
+for name, old, new in (
+        ("our own in 13 is of both", OWN_END, f"need(not forbidden(end) and not {ANY.format('settings.own(end)')}, 13)"),
+        ("our own in 13 is the first's", OWN_END, "need(not forbidden(end) and not self.shared.services[0].settings.own(end), 13)"),
+        ("our own in 13 is the second's", OWN_END, "need(not forbidden(end) and not self.shared.services[-1].settings.own(end), 13)"),
+        ("our own in 17 is of both", OWN_NEIGHBOUR, f"need(not {ANY.format('settings.own(neighbour)')}, 17)"),
+        ("our own in 17 is the first's", OWN_NEIGHBOUR, "need(not self.shared.services[0].settings.own(neighbour), 17)"),
+        ("our own in 17 is the second's", OWN_NEIGHBOUR, "need(not self.shared.services[-1].settings.own(neighbour), 17)"),
+        ("our own in a new router list is of both", CHECKED, CHECKED.replace(
+            "        due", "        need(not any(one.settings.own(router) for one in self.shared.services for router in routers), 1)\n        due")),
+        ("6 by the locators of both", MATCHED, f"need({ANY.format('settings.locators.count((datagram[16:20], interface))')}, 6)"),
+        ("6 by the locators of the first", MATCHED, MATCHED.replace("self.settings", "self.shared.services[0].settings")),
+        ("6 by the locators of the second", MATCHED, MATCHED.replace("self.settings", "self.shared.services[-1].settings")),
+        ("6 by an address and an interface of the other", MATCHED, MATCHED.replace(
+            ", 6)", " or self.settings.own(datagram[16:20]) and " + OTHERS.format("interface in [at for _, at in one.settings.locators]") + ", 6)")),
+        ("7 for a locator of the other", "need(not forbidden(outer_source), 7)",
+         f"need(not forbidden(outer_source) and not {OTHERS.format('one.settings.own(outer_source)')}, 7)"),
+        ("locators counted on through both", NUMBERED,
+         "        locators = self.settings.locators + [one for each in self.shared.services if each is not self for one in each.settings.locators]\n"
+         "        need(index < len(locators), 11)\n        return locators[index][0]\n"),
+        ("prefixes of both for the inner source", "embeds = self.settings.isatap(source)", f"embeds = {ANY.format('settings.isatap(source)')}"),
+        ("prefixes of both for the next hop", "need(self.settings.isatap(next_hop), 12)", f"need({ANY.format('settings.isatap(next_hop)')}, 12)"),
+        ("routers of both admitted", LISTED, "return any(address == router for one in self.shared.services for router, _ in one.routers)"),
+        ("routers of the first admitted", LISTED, LISTED.replace("self.routers", "self.shared.services[0].routers")),
+        ("routers of the second admitted", LISTED, LISTED.replace("self.routers", "self.shared.services[-1].routers")),
+        ("a locator of the other admitted as a router", LISTED, f"{LISTED} or {OTHERS.format('one.settings.own(address)')}"),
+        ("a new router list for both", NEW_LIST, NEW_LIST + EACH + "one.routers = list(self.routers)\n"),
+        ("a new router list empties the other's", NEW_LIST, NEW_LIST + EACH + "one.routers = one.routers if one is self else []\n"),
+        ("a router in the other's list keeps its due time of there", DUE,
+         "        due = {router: due for one in self.shared.services for router, due in one.routers}\n        due.update(self.routers)\n"),
+        ("a router in the other's list is new an interval later", "due.get(router, self.latest)",
+         f"due.get(router, self.latest + self.settings.interval * {OTHERS.format('one.listed(router)')})"),
+        ("due times moved in both lists", SET_DUE, EACH + "one.routers = [(other, time if other == router else due) for other, due in one.routers]\n"),
+        ("asked of both lists", "router, due = min(self.routers, key", "router, due = min([entry for one in self.shared.services for entry in one.routers], key"),
+        ("asked of the first's list", "router, due = min(self.routers, key", "router, due = min(self.shared.services[0].routers, key"),
+        ("Too Big from the first's reporting address", "too_big_message(self.settings.reporting, packet",
+         "too_big_message(self.shared.services[0].settings.reporting, packet")):
+    seeing_both(name, (old, new))
 
-# ---- Identifications, messages, collections and times of both
+# ---- Identifications, collections and times of both
 
 COUNTED = "        self.identification = (self.identification + 1) % 65536\n"
-wrong("node", "services: one identification for both", "        self.identification = settings.identification\n", "        shared.__dict__.setdefault('next', settings.identification)\n",
-      ("wrapped(packet, self.identification, whole", "wrapped(packet, self.shared.next, whole"), (COUNTED, "        self.shared.next = (self.shared.next + 1) % 65536\n"))
-seeing_both("a wrapped packet moves both identifications", (COUNTED, "        for one in self.shared.services:\n            one.identification = (one.identification + 1) % 65536\n"))
-seeing_both("a wrapped packet moves the first's identification", (COUNTED, "        one = self.shared.services[0]\n        one.identification = (one.identification + 1) % 65536\n"))
-seeing_both("Too Big from the first's reporting address", ("too_big_message(self.settings.reporting, packet", "too_big_message(self.shared.services[0].settings.reporting, packet"))
-COLLECTED = "        self.collection = Collection()\n"
-wrong("node", "services: one collection for both", COLLECTED, "        self.collection = shared.__dict__.setdefault('collection', Collection())\n")
 TAKEN = "        joined = self.collection.take(Piece(datagram, header, total), self.latest, memory)\n"
-for name, most in (("eight keys", 8), ("nine keys", 9), ("fifteen keys", 15)):
-    seeing_both(f"{name} live in both together", (TAKEN, "        new = Piece(datagram, header, total)\n        new.check()\n"
-                                                  "        need(any(one.key == new.key for one in self.collection.live(self.latest)) or "
-                                                  f"sum(len(one.collection.live(self.latest)) for one in self.shared.services) < {most}, 28)\n" + TAKEN))
-seeing_both("29 drops what the other collects", (TAKEN, "        try:\n    " + TAKEN + "        except Refused as refused:\n            for one in self.shared.services:\n"
-                                                "                one.collection.datagrams = [] if refused.number == 29 and one is not self else one.collection.datagrams\n            raise\n"))
-seeing_both("a piece frees the other's place of its number", (TAKEN, TAKEN + "        for one in self.shared.services:\n            one is self or one.collection.free(joined.place)\n"))
-seeing_both("keys without their destinations, through both", (TAKEN, "        new = Piece(datagram, header, total)\n        need(not any((one.key[0], one.key[3]) == (new.key[0], new.key[3]) "
-                                                             "for each in self.shared.services if each is not self for one in each.collection.live(self.latest)), 29)\n" + TAKEN))
-OWN_TIME = ("    def latest(self):\n        return self.shared.latest\n", "    def latest(self):\n        return self.__dict__.get('own', 0)\n")
+NEW_PIECE = "        new = Piece(datagram, header, total)\n        new.check()\n"
 RAISED = "    def raise_time(self, time):\n        self.shared.raise_time(time)\n"
-wrong("node", "services: a latest time of its own for each", *OWN_TIME, (RAISED, RAISED + "        self.own = max(self.latest, time)\n"))
-seeing_both("the latest time not raised by the second", (RAISED, "    def raise_time(self, time):\n        if self is self.shared.services[0]:\n            self.shared.raise_time(time)\n"))
-seeing_both("the latest time not raised by the first where there are two", (RAISED, "    def raise_time(self, time):\n        if self is self.shared.services[-1]:\n            self.shared.raise_time(time)\n"))
-wrong("node", "services: pieces by a latest time of their own service", RAISED, RAISED + "        self.own = max(self.__dict__.get('own', 0), time)\n",
-      (TAKEN, TAKEN.replace("self.latest", "self.own")))
-wrong("node", "services: due times by a latest time of their own service", RAISED, RAISED + "        self.own = max(self.__dict__.get('own', 0), time)\n",
-      ("due <= self.latest, 22)", "due <= self.own, 22)"))
+RAISED_BY = "    def raise_time(self, time):\n        if self is self.shared.services[{}]:\n            self.shared.raise_time(time)\n"
+for name, old, new in (
+        ("a wrapped packet moves both identifications", COUNTED, EACH + "one.identification = (one.identification + 1) % 65536\n"),
+        ("a wrapped packet moves the first's identification", COUNTED,
+         "        one = self.shared.services[0]\n        one.identification = (one.identification + 1) % 65536\n"),
+        *[(f"{most} keys live in both together", TAKEN, NEW_PIECE + "        need(any(one.key == new.key for one in self.collection.live(self.latest)) or "
+           f"sum(len(one.collection.live(self.latest)) for one in self.shared.services) < {most}, 28)\n" + TAKEN) for most in (8, 9, 15)],
+        ("29 drops what the other collects", TAKEN, "        try:\n    " + TAKEN + "        except Refused as refused:\n            for one in self.shared.services:\n"
+         "                one.collection.datagrams = [] if refused.number == 29 and one is not self else one.collection.datagrams\n            raise\n"),
+        ("what is joined frees the other's place of its number", TAKEN, TAKEN + EACH + "one is self or one.collection.free(joined.place)\n"),
+        ("keys without their destinations, through both", TAKEN, NEW_PIECE + "        need(not any((one.key[0], one.key[3]) == (new.key[0], new.key[3]) "
+         "for each in self.shared.services if each is not self for one in each.collection.live(self.latest)), 29)\n" + TAKEN),
+        ("the latest time not raised by the second", RAISED, RAISED_BY.format(0)),
+        ("the latest time not raised by the first where there are two", RAISED, RAISED_BY.format(-1))):
+    seeing_both(name, (old, new))
+wrong("node", "services: one identification for both", "        self.identification = settings.identification\n",
+      "        shared.__dict__.setdefault('next', settings.identification)\n", ("wrapped(packet, self.identification, whole", "wrapped(packet, self.shared.next, whole"),
+      (COUNTED, "        self.shared.next = (self.shared.next + 1) % 65536\n"))
+wrong("node", "services: one collection for both", "        self.collection = Collection()\n",
+      "        self.collection = shared.__dict__.setdefault('collection', Collection())\n")
+OWN_TIME = "        self.own = max(self.__dict__.get('own', 0), time)\n"
+for name, old, new in (
+        ("a latest time of its own for each", "        return self.shared.latest\n", "        return self.__dict__.get('own', 0)\n"),
+        ("pieces by a latest time of their own service", TAKEN, TAKEN.replace("self.latest", "self.own")),
+        ("due times by a latest time of their own service", "due <= self.latest, 22)", "due <= self.own, 22)")):
+    wrong("node", "services: " + name, old, new, (RAISED, RAISED + OWN_TIME))
 
 # ---- A service that the node has not
 
@@ -203,7 +219,8 @@ for call, number, test in (
         ("send", 13, "need(not forbidden(next_hop[12:]), 13)"), ("send", 15, "need(20 + len(packet) <= len(output), 15)"),
         ("replace_routers", 1, "need(len(routers) <= 16 and len(set(routers)) == len(routers) and not any(map(forbidden, routers)), 1)"),
         ("replace_routers", "1 for too many", "need(len(routers) <= 16, 1)"), ("ask", 15, "need(len(output) >= 48, 15)"), ("ask", 22, "raise Refused(22)"),
-        ("advertisement", 8, "inner_length(packet)"), ("advertisement", 20, "need(len(packet) < 40 or packet[6:8] == b'\\x3a\\xff', 20)"), ("advertisement", 21, "raise Refused(21)"),
+        ("advertisement", 8, "inner_length(packet)"), ("advertisement", 20, "need(len(packet) < 40 or packet[6:8] == b'\\x3a\\xff', 20)"),
+        ("advertisement", 21, "raise Refused(21)"),
         ("advertise", 8, "inner_length(asked)"), ("advertise", 24, "len(asked) < 48 or check_solicitation(asked[:inner_length(asked)])"),
         ("advertise", 25, "need(len(asked) < 40 or asked[8:16] == LINK_LOCAL, 25)"),
         ("advertise", 26, "operator.check()"), ("advertise", 15, "need(len(output) >= 56, 15)")):
@@ -216,7 +233,8 @@ for name, old, new in (
         ("gives part of the datagram", "        return b\"\"\n\n    def send", "        return datagram[20:]\n\n    def send"),
         ("has a size", "    def size(self, neighbour):\n        self.refuse()\n", "    def size(self, neighbour):\n        return 1500\n"),
         ("has no size", "    def size(self, neighbour):\n        self.refuse()\n", "    def size(self, neighbour):\n        return 0\n"),
-        ("counts a second for what has no time", "    def refuse(self, time=0):\n", "    def refuse(self, time=None):\n        time = self.shared.latest + 1 if time is None else time\n")):
+        ("counts a second for what has no time", "    def refuse(self, time=0):\n",
+         "    def refuse(self, time=None):\n        time = self.shared.latest + 1 if time is None else time\n")):
     wrong("node", "absent service: " + name, old, new)
 for call in ("send", "ask", "advertise"):
     absent(f"output of {call} cleared", call, "output[:] = bytes(len(output))")
@@ -235,11 +253,14 @@ for name, old, new in (
         ("of an absent service the memory refused", "        return f\"memory {digest(memory)}\"\n",
          "        return f\"memory {digest(memory)}\" if hasattr(service, 'settings') else 'memory refuse 11'\n"),
         ("the service not looked at", "number = arguments.pop(0)\n", "number = arguments.pop(0) * 0\n"),
-        ("the services exchanged", "number = arguments.pop(0)\n", "number = arguments.pop(0)\n        number = 1 - number if hasattr(node.services[1], 'settings') else number\n"),
+        ("the services exchanged", "number = arguments.pop(0)\n",
+         "number = arguments.pop(0)\n        number = 1 - number if hasattr(node.services[1], 'settings') else number\n"),
         ("size of the first always", PICKED, PICKED + "\n        service = node.services[0] if name == \"size\" else service"),
         ("part of the first always", PICKED, PICKED + "\n        service = node.services[0] if name == \"part\" else service"),
-        ("no service taken for one", "        if count not in (1, 2):\n            raise BadInput\n", "        if count > 2:\n            raise BadInput\n        count = max(1, count)\n"),
-        ("three services taken for two", "        if count not in (1, 2):\n            raise BadInput\n", "        if count == 0:\n            raise BadInput\n        count = min(2, count)\n"),
+        ("no service taken for one", "        if count not in (1, 2):\n            raise BadInput\n",
+         "        if count > 2:\n            raise BadInput\n        count = max(1, count)\n"),
+        ("three services taken for two", "        if count not in (1, 2):\n            raise BadInput\n",
+         "        if count == 0:\n            raise BadInput\n        count = min(2, count)\n"),
         ("one service is bad input", "if count not in (1, 2):", "if count != 2:"), ("two services are bad input", "if count not in (1, 2):", "if count != 1:"),
         ("a service above 1 taken for the second", "        if service > 1:\n            raise BadInput\n        return service\n", "        return min(1, service)\n"),
         ("the lowest bit of the service alone read", "        if service > 1:\n            raise BadInput\n        return service\n", "        return service & 1\n"),
@@ -254,10 +275,12 @@ for name, old, new in (
 wrong("formats", "replay: refused settings of the second make a node of one", "        node, memories = Node(*services), lent_memories()\n    except BadInput:\n        yield",
       "        try:\n            node, memories = Node(*services), lent_memories()\n        except Refused:\n            node, memories = Node(services[0]), lent_memories()\n"
       "    except BadInput:\n        yield")
-wrong("formats", "replay: a report names a service too", "(\"report\", \"ID\")", "(\"report\", \"SID\")", ("    if name != \"report\":\n", "    if name == \"report\":\n        arguments.pop(0)\n    else:\n"))
-wrong("formats", "replay: memory names no service", "(\"memory\", \"S\")", "(\"memory\", \"\")", ("number = arguments.pop(0)\n", "number = arguments.pop(0) if arguments else 0\n"))
-wrong("formats", "replay: size names no service", "(\"size\", \"SA\")", "(\"size\", \"A\")", ("number = arguments.pop(0)\n", "number = arguments.pop(0) if name != \"size\" else 0\n"))
-wrong("formats", "replay: part names no service", "(\"part\", \"SBD\")", "(\"part\", \"BD\")", ("number = arguments.pop(0)\n", "number = arguments.pop(0) if name != \"part\" else 0\n"))
-for call, forms, place in (("receive", "SBIHD", 1), ("send", "SBINHD", 1), ("ask", "SBIH", 1), ("advertise", "SBHOD", 1), ("part", "SBD", 1)):
+NUMBER = "number = arguments.pop(0)\n"
+wrong("formats", "replay: a report names a service too", "(\"report\", \"ID\")", "(\"report\", \"SID\")",
+      ("    if name != \"report\":\n", "    if name == \"report\":\n        arguments.pop(0)\n    else:\n"))
+for call, forms in (("size", "SA"), ("memory", "S"), ("part", "SBD"), ("routers", "SIR"), ("advertisement", "SID")):
+    wrong("formats", f"replay: {call} names no service", f"(\"{call}\", \"{forms}\")", f"(\"{call}\", \"{forms[1:]}\")",
+          (NUMBER, f"number = 0 if name == \"{call}\" else arguments.pop(0)\n"))
+for call, forms in (("receive", "SBIHD"), ("send", "SBINHD"), ("ask", "SBIH"), ("advertise", "SBHOD"), ("part", "SBD"), ("size", "SA")):
     wrong("formats", f"replay: service of {call} behind what follows it", f"(\"{call}\", \"{forms}\")", f"(\"{call}\", \"{forms[1]}S{forms[2:]}\")",
-          ("number = arguments.pop(0)\n", f"number = arguments.pop({place} if name == \"{call}\" else 0)\n"))
+          (NUMBER, f"number = arguments.pop(1 if name == \"{call}\" else 0)\n"))
