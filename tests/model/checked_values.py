@@ -3,7 +3,8 @@ from collections import Counter
 from pathlib import Path
 
 from . import builders
-from .formats import MEMORY, answer, digest, encode_datagrams, lent, lent_memories, program, replay
+from .formats import MEMORY, Reader, answer, digest, encode_call, encode_datagrams, encode_services, lent, lent_memories, program, replay
+from .generator import generate
 from .node import Node
 from .octets import LINK_LOCAL, LOOPBACK, checksum_field, checksum_right, isatap_address, link_local, pseudo_header, u16
 from .rules import Advertisement, Settings, wrapped
@@ -300,8 +301,38 @@ def service_checks():
         yield text, replay(data), [given]
 
 
+def without_routers(data, number):
+    """The same list of calls, but for routers, later ones too, prefixes and first identification of that service (R26.9)."""
+    reader = Reader(data)
+    services, changed = reader.services(), bytearray()
+    services[number].routers, services[number].prefixes, services[number].identification = [], [], 7
+    while not reader.ended():
+        name, arguments = reader.call()
+        if name == "routers" and arguments[0] == number:
+            arguments[2] = []
+        changed += encode_call(name, arguments)
+    return encode_services(services) + changed
+
+
+def lines_of(data, number):
+    """The lines of that service's calls and of the reports."""
+    reader = Reader(data)
+    reader.services()
+    return [line for line in replay(data) for name, arguments in [reader.call()] if name == "report" or arguments[0] == number]
+
+
+def apart_checks():
+    """Neither service sees the other's routers, prefixes and identification."""
+    lists = [data for data in (generate(seed, 250) for seed in range(20)) if data[0] == 2]
+    for place, data in enumerate(lists):
+        for number in (0, 1):
+            yield (f"list {place}: service {number} of another with no routers and prefixes", lines_of(without_routers(data, 1 - number), number),
+                   lines_of(data, number))
+    yield "lists of two services", len(lists) > 4, True
+
+
 CHECKS = (size_checks, extension_checks, report_checks, neighbour_checks, receive_checks, joining_checks, program_checks, message_checks,
-          time_checks, advertise_checks, replay_checks, service_checks)
+          time_checks, advertise_checks, replay_checks, service_checks, apart_checks)
 
 
 def checked():
