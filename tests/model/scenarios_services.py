@@ -42,10 +42,15 @@ def sent(calls, end, n, want):
 
 # ---- Path sizes
 
+def by_link(calls):
+    """The service of the smaller link size and that of the larger."""
+    return sorted((calls, calls.other), key=lambda one: one.settings.link)
+
+
 def kept_between(calls, middle=None):
     """What is kept between the two link sizes is in force for the service of the larger alone; 19 is judged by the size of the service that is
     quoted (R26.5, R26.6)."""
-    small, large = sorted((calls, calls.other), key=lambda one: one.settings.link)
+    small, large = by_link(calls)
     low, high, start, neighbour = small.settings.link, large.settings.link, calls.service.latest, calls.fresh()
     middle = middle or (low + high) // 2
     if high - low < 8:
@@ -74,7 +79,7 @@ def kept_between(calls, middle=None):
 
 def kept_at_the_smaller_link(calls):
     """A size just at the smaller link size, and one above it, are kept, counted and forgotten as any other."""
-    small, large = sorted((calls, calls.other), key=lambda one: one.settings.link)
+    small, large = by_link(calls)
     low, high, start, neighbour = small.settings.link, large.settings.link, calls.service.latest, calls.fresh()
     if high - low < 8:
         return
@@ -361,9 +366,9 @@ def shared_time(calls):
 TIMES = {"receive": 2, "send": 2, "routers": 1, "ask": 2, "advertisement": 1}  # which argument is the time
 
 
-def to_the_absent(calls, time=None):
-    """The last call again, naming the service that the node has not."""
-    name, arguments = calls.made[-1]
+def to_the_absent(calls, time=None, call=None):
+    """A call, or the last one, again, naming the service that the node has not."""
+    name, arguments = call or calls.made[-1]
     arguments = [1, *arguments[1:]]
     if time is not None and name in TIMES:
         arguments[TIMES[name]] = time
@@ -413,8 +418,7 @@ def absent_times(calls):
         call = calls.made[-1]
         calls.report(neighbour=neighbour, candidate=500, time=start)
         for time, size in ((start + 599, 500), (start + 600, calls.settings.link), (start, calls.settings.link)):
-            calls.made.append(call)
-            to_the_absent(calls, time)
+            to_the_absent(calls, time, call)
             size_is(calls, neighbour, size if call[0] in TIMES else 500)
     for name, rest, _ in NAMING_A_SERVICE:
         neighbour, start, number = calls.fresh(), none_live(calls), (255,) if name in ("send", "ask", "receive") else ()
