@@ -172,9 +172,10 @@ def longest(length=REPLAY_LIMIT):
 
 
 def bad(seed):
-    """Cut off, of an unknown kind, with a flag above 1 or a preference above 2, or too long; sometimes with settings that would be refused."""
+    """Cut off, of an unknown kind, of another number of services than 1 or 2, with a service or a flag above 1 or a preference above 2, or too
+    long; sometimes with settings that would be refused."""
     chooser = random.Random(seed)
-    good, way = generate(seed, 15), chooser.randrange(10)
+    good, way = generate(seed, 15), chooser.randrange(14)
     settings = encode_services([plain_settings()])
     if way == 0:
         return longest(REPLAY_LIMIT + chooser.choice((1, 2, 5000)))
@@ -188,6 +189,10 @@ def bad(seed):
         routes = [operator_route(preference=chooser.randrange(3)) for _ in range(chooser.choice((0, 1, 7, 8, 9, 300)))]
         routes.insert(chooser.randrange(len(routes) + 1), operator_route(preference=chooser.choice((3, 4, 255))))
         return good + encode_call("advertise", (0, 0, 600, Advertisement(routes=routes), b"")) + encode_call("size", (0, bytes(4)))
+    if way < 9:
+        return bytes([chooser.choice((0, 3, 255))]) + good[1:]
+    if way < 11:
+        return good + bytes([chooser.choice((1, 2, 4, 5, 6, 7, 8, 9, 10)), chooser.choice((2, 3, 255))]) + bytes(60)
     data = good
     while replay(data) != ["bad input"]:                      # a cut between two calls is not bad
         data = good[:chooser.randrange(len(good))]

@@ -4,7 +4,7 @@ from .builders import packet
 from .faults import FAULTS, GLOBAL, VARIATIONS
 from .formats import MEMORY, digest, lent
 from .octets import LINK_LOCAL, dotted, isatap_address, link_local
-from .pieces import DROPS, FULL, WAITS, Whole
+from .pieces import DROPS, FULL, Whole
 from .rules import Advertisement, router_advertisement, solicitation, too_big_message, wrapped
 from .scenarios import PREFIXES, REFUSED_AT_ONCE, ask, plain_settings, raise_time, size_is
 from .scenarios_pieces import EMPTY, memory_is, none_live, written
