@@ -417,6 +417,8 @@ def absent_times(calls):
         good()
         call = calls.made[-1]
         calls.report(neighbour=neighbour, candidate=500, time=start)
+        if call[0] not in TIMES:
+            raise_time(calls, start + 599)                    # a second more would show
         for time, size in ((start + 599, 500), (start + 600, calls.settings.link), (start, calls.settings.link)):
             to_the_absent(calls, time, call)
             size_is(calls, neighbour, size if call[0] in TIMES else 500)
