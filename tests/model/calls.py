@@ -3,10 +3,12 @@
 Where the answer is known from the faults alone it is compared with the model's, so that the model is not the only one to
 say it.
 """
+from copy import copy
+
 from .builders import advertisement, chain, datagram, making_up, operator_prefix, operator_route, option, packet, prefix_option, report
 from .builders import route_option, solicitation
 from .faults import LENGTHS, LIFETIMES, PLATEAU_BELOW
-from .formats import MEMORY, answer, digest, encode_call, encode_settings, lent
+from .formats import answer, digest, encode_call, encode_services, lent_memories
 from .node import Node
 from .octets import LINK_LOCAL, dotted, forbidden, isatap_address, link_local
 from .rules import Advertisement
@@ -51,22 +53,46 @@ def solicitation_of(f):
 
 
 class Calls:
-    """A list of calls in the making, with the node that has answered it so far and the memory as that left it."""
+    """A list of calls in the making, with the node that has answered it so far and the memories as that left them. Calls name one service;
+    those of the other are made by `other`, on the same list."""
 
-    def __init__(self, chooser, settings):
-        self.random, self.settings = chooser, settings
-        self.data = bytearray(encode_settings(settings))
-        self.node, self.memory = Node(settings), lent(MEMORY)
-        self.made = []
+    def __init__(self, chooser, settings, second=None):
+        both = [settings] if second is None else [settings, second]
+        self.random, self.made, self.data = chooser, [], bytearray(encode_services(both))
+        self.node, self.memories = Node(*both), lent_memories()
+        self.number, self.settings, self.other = 0, settings, None
+        self.beside = None                                    # what is done with this list after each call
+        if second is not None:
+            self.other = copy(self)
+            self.other.number, self.other.settings, self.other.other = 1, second, self
+
+    @property
+    def service(self):
+        return self.node.services[self.number]
+
+    @property
+    def memory(self):
+        return self.memories[self.number]
 
     def call(self, name, *arguments, want=""):
-        line = answer(self.node, self.memory, name, arguments)
+        return self.make(name, arguments if name == "report" else (self.number, *arguments), want)
+
+    def make(self, name, arguments, want=""):
+        """A call with all its arguments, the service too."""
+        line = answer(self.node, self.memories, name, arguments)
         wanted = f"{name} {want}".split()
         if line.split()[:len(wanted)] != wanted:
             raise AssertionError(f"steered to `{want}`, the model says `{line}`")
         self.data += encode_call(name, arguments)
         self.made.append((name, arguments))
+        if self.beside:
+            self.beside(self)
         return line
+
+    def made_to_the_other(self, want=""):
+        """The last call again, but naming the other service."""
+        name, (number, *arguments) = self.made[-1]
+        return self.make(name, (1 - number, *arguments), want)
 
     # Choices
 
@@ -75,11 +101,17 @@ class Calls:
 
     def fresh(self):
         """An address that is not forbidden, not ours, not listed and has had no report."""
-        taken = [neighbour for neighbour, _, _ in self.node.record] + [router for router, _ in self.node.routers]
+        taken = [neighbour for neighbour, _, _ in self.service.record] + [router for router, _ in self.service.routers]
         while True:
             address = self.some(4)
             if any(address[:3]) and not (forbidden(address) or self.settings.own(address) or address in taken):
                 return address
+
+    def stranger(self):
+        """A fresh address, or a locator of the other service that is not listed and does not make ::1."""
+        others = self.other.settings.locators if self.other else ()
+        crossing = [address for address, _ in others if any(address[:3]) and not self.service.listed(address)]
+        return self.random.choice(crossing) if crossing and self.random.random() < 0.15 else self.fresh()
 
     def prefix(self, link_local_too=True):
         """An on-link prefix; one that makes no bad inner source."""
@@ -91,23 +123,26 @@ class Calls:
         return next(interface for interface in interfaces if (address, interface) not in self.settings.locators)
 
     def listed_router(self):
-        if not self.node.routers:
+        if not self.service.routers:
             self.call("routers", self.time(), [self.fresh() for _ in range(self.random.randint(1, 3))], want="accepted")
-        return self.random.choice(self.node.routers)[0]
+        return self.random.choice(self.service.routers)[0]
 
     def neighbour(self):
-        """One that has had a report, or a fresh one; never one that can go no lower."""
-        known = [neighbour for neighbour, _, _ in self.node.record[-70:] if self.node.size(neighbour) > 68]
-        return self.random.choice(known) if known and self.random.random() < 0.5 else self.fresh()
+        """One that has had a report, or a stranger; never one that can go no lower."""
+        known = [neighbour for neighbour, _, _ in self.service.record[-70:] if self.service.size(neighbour) > 68 and not self.settings.own(neighbour)]
+        if known and self.random.random() < 0.5:
+            return self.random.choice(known)
+        stranger = self.stranger()
+        return stranger if self.service.size(stranger) > 68 else self.fresh()
 
     def small(self):
         """A neighbour with a small size in force."""
         neighbour = self.fresh()
-        self.report(neighbour=neighbour, candidate=self.random.randint(68, 575), time=self.node.latest)
+        self.report(neighbour=neighbour, candidate=self.random.randint(68, 575), time=self.service.latest)
         return neighbour
 
     def time(self):
-        latest = self.node.latest
+        latest = self.service.latest
         near = self.random.choice((latest, latest, latest + self.random.randint(0, 9), latest - self.random.randint(0, 700), 0))
         return min(max(near, 0), LAST_SECOND)
 
@@ -123,13 +158,13 @@ class Calls:
 
     def datagram_fields(self, faults, variation):
         """Of a datagram that is delivered, but for the faults."""
-        address = self.fresh()
+        address = self.stranger()
         destination, interface = self.random.choice(self.settings.locators)
         f = self.packet_fields(link_local(address), self.some(16), self.some(self.random.choice((0, 1, 8, 20, 33))))
         f.update(address=address, version=4, words=5, service=self.random.randrange(256), identification=self.some(2), flags=0,
                  ttl=self.random.randrange(256), protocol=41, source=address, destination=destination, interface=interface,
                  options=self.some(40), total_rule=None, spoil=0, inner_cut=None, padding=b"",
-                 time=self.random.choice((0, self.node.latest)), room=self.random.choice((16384, 16384, 16385, 65535)))
+                 time=self.random.choice((0, self.service.latest)), room=self.random.choice((16384, 16384, 16385, 65535)))
         self.change(f, variation or {})
         for _, changes in faults:
             self.change(f, changes)
@@ -179,8 +214,8 @@ class Calls:
                  next_hop=next_hop or isatap_address(self.prefix(), self.random.choice(ISATAP_IDENTIFIERS), address))
         for _, changes in faults:
             self.change(f, changes)
-        self.node.raise_time(time)
-        largest = max(1280, self.node.size(address) - 20)
+        self.service.raise_time(time)
+        largest = max(1280, self.service.size(address) - 20)
         numbers = [fault for fault, _ in faults]
         n = largest + f["more"] if f["more"] else n or self.random.choice((40, 41, 60, self.random.randint(42, 200), 1280))
         f["next_header"], f["payload"] = self.chained(f, n)
@@ -209,8 +244,8 @@ class Calls:
     def report(self, faults=(), variation=None, neighbour=None, candidate=None, time=None):
         neighbour = neighbour or self.neighbour()
         time = self.time() if time is None else time
-        self.node.raise_time(time)
-        size = self.node.size(neighbour)
+        self.service.raise_time(time)
+        size = self.service.size(neighbour)
         f = self.report_fields(neighbour, candidate or self.random.randint(max(68, size - 40), size - 1))
         self.change(f, variation or {})
         for _, changes in faults:

@@ -1,6 +1,6 @@
 """Calls with two faults: the first in the call's order is given. All pairs that stand side by side in an order are here but 14 and 23,
 which needs a packet of 65,516 bytes (the named input `longest_packets`), and 18 and 19, 28 and 29, which never apply together. Of a piece 27
-is no fault: it is given where the piece has no other, whatever the inner packet is.
+is no fault: it is given where the piece has no other, whatever the inner packet is. With 11 for an absent service every other number is paired.
 
 tests/double_faults.txt has them as text, for other implementations to read.
 """
@@ -23,6 +23,8 @@ HEAD = """# Calls with two faults. Each line is one call, at time 0, on a new no
 #   ask FIRST SECOND LOCATOR ROOM
 #   advertisement FIRST SECOND PACKET
 #   advertise FIRST SECOND LOCATOR ROOM ADVERTISEMENT PACKET
+# Behind `absent-` stands a call that names the second service, which the node has not; all others name the first. Among them also
+#   absent-routers FIRST SECOND ROUTER[,ROUTER..]
 # Of several datagrams the last is the one that is judged; the others are handed in before it, each by a call of its own with the same
 # memory. ROOM is how many bytes of memory or of output are lent. ADVERTISEMENT, what the operator sets, is laid out as in an input of `replay`
 # (docs/REPLAY.md). `advertise` has no time.
@@ -154,14 +156,30 @@ BEHIND = [
     behind(28, 27, *EIGHT, part(0, 8, True, 8)), behind(28, 27, *EIGHT, part(8, 64, False, 8)), behind(27, 8, part(0, 8, True, version6=4), part(8, 16, True)),
     behind(8, 9, part(0, 8, True, version6=4), part(8, 64, False, source6=LOOPBACK)), behind(8, 10, part(0, 8, True), part(8, 63, False, source6=link_local(OTHER))),
     behind(9, 10, part(0, 8, True), part(8, 64, False, source6=LOOPBACK)), behind(9, 10, part(16, 64, False, source6=bytes(16)), part(0, 16, True, source6=bytes(16)))]
-CALLS = [(name, call) for name, calls in (("receive", RECEIVED + PIECES + BEHIND), ("send", SENT), ("report", REPORTED), ("ask", ASKED),
-                                          ("advertisement", ADVERTISED), ("advertise", ANSWERED)) for call in calls]
+ABSENT = "absent-"
+ABSENT_RECEIVED = [
+    received(11, 15, room=16383), received(11, 15, room=0), received(11, 2, version=5), received(11, 2, total=61), received(11, 3, spoil=1),
+    received(11, 4, protocol=17), received(11, 6, interface=1), received(11, 7, source=LOCAL_HOST), received(11, 8, version6=4), received(11, 9, source6=LOOPBACK),
+    received(11, 10, source6=link_local(OTHER)), received(11, 30, flags=0x2000, payload=b"\0"), received(11, 27, flags=0x2000)]
+ABSENT_SENT = [
+    sent(11, 8, tail=b"\0"), sent(11, 8, version6=4), sent(11, 12, next_hop=isatap_address(OFF_LINK, "00005efe", PEER)), sent(11, 13, next_hop=link_local(OWN)),
+    sent(11, 13, next_hop=link_local(LOCAL_HOST)), sent(11, 14, n=1481), sent(11, 15, room=0), sent(11, 15, n=1481, room=1279)]
+ABSENT_LISTED = [(11, 1, (bytes(4),)), (11, 1, (LOCAL_HOST, PEER)), (11, 1, (PEER, OTHER, PEER)), (11, 1, tuple(bytes((10, 1, 0, last)) for last in range(17)))]
+ABSENT_ASKED = [(11, 22, 0, 48), (11, 15, 0, 47), (11, 15, 0, 0)]
+ABSENT_ADVERTISED = [advertised(11, 8, version=4), advertised(11, 8, payload_error=1), advertised(11, 20, hop_limit=254), advertised(11, 20, spoil=1), advertised(11, 21)]
+ABSENT_ANSWERED = [
+    answered(11, 8, version=4), answered(11, 8, payload_error=1), answered(11, 24, hop_limit=254), answered(11, 24, spoil=1), answered(11, 25, source6=PREFIXED),
+    answered(11, 26, prefixes=NINE), answered(11, 26, routes=LONG_ROUTE), answered(11, 15, room=0)]
+CALLS = [(name, call) for name, calls in (
+    ("receive", RECEIVED + PIECES + BEHIND), ("send", SENT), ("report", REPORTED), ("ask", ASKED), ("advertisement", ADVERTISED), ("advertise", ANSWERED),
+    (ABSENT + "receive", ABSENT_RECEIVED), (ABSENT + "send", ABSENT_SENT), (ABSENT + "routers", ABSENT_LISTED), (ABSENT + "ask", ABSENT_ASKED),
+    (ABSENT + "advertisement", ABSENT_ADVERTISED), (ABSENT + "advertise", ABSENT_ANSWERED)) for call in calls]
 
 
 def arguments(name, call):
     """The arguments of the call, at time 0 if it has a time."""
     rest = list(call[2:])
-    place = {"receive": 1, "send": 1, "report": 0, "ask": 1, "advertisement": 0}.get(name)
+    place = {"receive": 1, "send": 1, "report": 0, "routers": 0, "ask": 1, "advertisement": 0}.get(name)
     if place is not None:
         rest.insert(place, 0)
     return rest
@@ -170,9 +188,13 @@ def arguments(name, call):
 def make(calls):
     """All of them on one node, of these settings; each is given its first number. Where others come before it, nothing is live at first."""
     for name, call in CALLS:
+        if name.startswith(ABSENT):
+            name = name.removeprefix(ABSENT)
+            calls.make(name, (1, *arguments(name, call)), "refuse 11")
+            continue
         *rest, last = arguments(name, call)
         if isinstance(last, tuple):
-            calls.call("report", calls.node.latest + 30, b"", want="refuse 16")
+            calls.call("report", calls.service.latest + 30, b"", want="refuse 16")
             for earlier in last[:-1]:
                 calls.call(name, *rest, earlier, want="refuse 27")
             last = last[-1]

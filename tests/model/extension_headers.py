@@ -21,9 +21,9 @@ def send(calls, end, headers, upper, start=b"", message=True, cut=None, room=128
         headers = making_up(n - 40 + cut - len(start) - len(chain(headers, upper)[1])) + headers
     first, data = chain(headers, upper, fill)
     data = (data + start).ljust(n - 40, fill) if cut is None else (data + start)[:len(data + start) - cut]
-    largest = max(1280, calls.node.size(end) - 20)
+    largest = max(1280, calls.service.size(end) - 20)
     want = f"too-big {largest} {1280 if message else 0}" if room >= 1280 or not message else "refuse 15"
-    calls.call("send", 0, calls.node.latest, link_local(end), room, packet(source, destination, data, next_header=first), want=want)
+    calls.call("send", 0, calls.service.latest, link_local(end), room, packet(source, destination, data, next_header=first), want=want)
 
 
 def each_rule(calls):

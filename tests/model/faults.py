@@ -108,14 +108,14 @@ REPORT_FAULTS = (
     + faults(17, *one_of("protocol", (4, 40, 42)), {"source": lambda calls, f: calls.fresh()}, *one_of("neighbour", FORBIDDEN),
              {"neighbour": lambda calls, f: calls.random.choice(calls.settings.locators)[0]})
     + faults(18, *one_of("candidate", (1, 67)), *[{"candidate": 0, "total": total} for total in (0, 67, 68)])
-    + faults(19, {"candidate": lambda calls, f: calls.node.size(f["neighbour"])},
-             {"candidate": lambda calls, f: calls.node.size(f["neighbour"]) + 1}, {"candidate": 65535},
+    + faults(19, {"candidate": lambda calls, f: calls.service.size(f["neighbour"])},
+             {"candidate": lambda calls, f: calls.service.size(f["neighbour"]) + 1}, {"candidate": 65535},
              {"candidate": 0, "total": 65535},
              {"candidate": 0, "total": 17914, "neighbour": lambda calls, f: calls.small()}))
 REPORT_VARIATIONS = (
     one_of("tail", (b"", b"\1\2\3")) + one_of("zero_check", (0, 0xffff)) + [{"words": 6}, {"words": 15, "tail": b""}, {"unused": b"\1\2"}, {"candidate": 68}]
     + [{"source": lambda calls, f: calls.random.choice(calls.settings.locators)[0]},
-       {"candidate": lambda calls, f: calls.node.size(f["neighbour"]) - 1}]
+       {"candidate": lambda calls, f: calls.service.size(f["neighbour"]) - 1}]
     + [{"candidate": 0, "total": total} for total in PLATEAU_BELOW])
 
 # Advertisements

@@ -6,15 +6,15 @@ from .rules import Advertisement, Refused, Settings
 
 REPLAY_LIMIT = 1 << 20
 PROGRAM_LIMIT = 1 << 16
-MEMORY = 65535                                                # bytes of the memory that both programs hand on from call to call
+MEMORY = 65535                                                # bytes of a memory that the programs hand on from call to call
 
-# Fields: B, H, I numbers of 1, 2, 4 bytes; A an IPv4, N an IPv6 address; D bytes after their length; R a list of addresses;
+# Fields: S the service; B, H, I numbers of 1, 2, 4 bytes; A an IPv4, N an IPv6 address; D bytes after their length; R a list of addresses;
 # O the operator's advertisement
-CALLS = {1: ("receive", "BIHD"), 2: ("send", "BINHD"), 3: ("report", "ID"), 4: ("routers", "IR"),
-         5: ("ask", "BIH"), 6: ("advertisement", "ID"), 7: ("size", "A"), 8: ("advertise", "BHOD"), 9: ("memory", ""), 10: ("part", "BD")}
+CALLS = {1: ("receive", "SBIHD"), 2: ("send", "SBINHD"), 3: ("report", "ID"), 4: ("routers", "SIR"),
+         5: ("ask", "SBIH"), 6: ("advertisement", "SID"), 7: ("size", "SA"), 8: ("advertise", "SBHOD"), 9: ("memory", "S"), 10: ("part", "SBD")}
 NUMBERS, ADDRESSES = {"B": 1, "H": 2, "I": 4}, {"A": 4, "N": 16}
-ROOMS = {"send": 3, "ask": 2, "advertise": 1}                 # which argument is the room of the output
-LENT = 2                                                      # which argument of `receive` is how much of the memory it is lent
+ROOMS = {"send": 3, "ask": 2, "advertise": 1}                 # which argument behind the service is the room of the output
+LENT = 2                                                      # and which of `receive` is how much of the memory it is lent
 
 
 # ---- Writing inputs
@@ -30,6 +30,11 @@ def encode_settings(settings):
     return data + (b"\0" if settings.reporting is None else b"\1" + settings.reporting)
 
 
+def encode_services(services):
+    """The settings of each service, behind their number."""
+    return bytes([len(services)]) + b"".join(map(encode_settings, services))
+
+
 def encode_operator(operator):
     """The operator's advertisement: flags, router lifetime, prefixes and routes, each list after its count."""
     prefixes = [bytes([length, flags]) + u32(valid) + u32(preferred) + prefix for length, flags, valid, preferred, prefix in operator.prefixes]
@@ -42,7 +47,7 @@ def encode_call(name, arguments):
     kind = next(kind for kind in CALLS if CALLS[kind][0] == name)
     data = bytes([kind])
     for form, value in zip(CALLS[kind][1], arguments):
-        data += {"B": lambda: bytes([value]), "H": lambda: u16(value), "I": lambda: u32(value), "A": lambda: value,
+        data += {"S": lambda: bytes([value]), "B": lambda: bytes([value]), "H": lambda: u16(value), "I": lambda: u32(value), "A": lambda: value,
                  "N": lambda: value, "D": lambda: u16(len(value)) + value,
                  "R": lambda: u16(len(value)) + b"".join(value), "O": lambda: encode_operator(value)}[form]()
     return data
@@ -79,7 +84,15 @@ class Reader:
     def many(self, width):
         return [self.take(width) for _ in range(self.number(2))]
 
+    def service(self):
+        service = self.number(1)
+        if service > 1:
+            raise BadInput
+        return service
+
     def field(self, form):
+        if form == "S":
+            return self.service()
         if form in NUMBERS:
             return self.number(NUMBERS[form])
         if form in ADDRESSES:
@@ -99,6 +112,13 @@ class Reader:
         if flag > 1:
             raise BadInput
         return Settings(*lists, link, ttl, interval, identification, self.take(16) if flag else None)
+
+    def services(self):
+        """Settings of one service or of two."""
+        count = self.number(1)
+        if count not in (1, 2):
+            raise BadInput
+        return [self.settings() for _ in range(count)]
 
     def operator(self):
         """A count above 8 is no bad input; a preference above 2 is, wherever it stands."""
@@ -123,18 +143,26 @@ def lent(room):
     return bytearray(b"\xa5" * room)
 
 
-def answer(node, memory, name, arguments):
-    """The line that `replay` prints for one call."""
+def lent_memories():
+    """One for each service, also for one that the node has not."""
+    return lent(MEMORY), lent(MEMORY)
+
+
+def answer(node, memories, name, arguments):
+    """The line that `replay` prints for one call, which names its service first if it is no report."""
+    service, memory, arguments, output = node, None, list(arguments), None
+    if name != "report":
+        number = arguments.pop(0)
+        service, memory = node.services[number], memories[number]
     if name == "memory":
         return f"memory {digest(memory)}"
-    arguments, output = list(arguments), None
     if name == "receive":
         arguments[LENT] = memoryview(memory)[:arguments[LENT]]
     if name in ROOMS:
         place = ROOMS[name]
         output = arguments[place] = lent(arguments[place])
     try:
-        line = told(getattr(node, {"routers": "replace_routers"}.get(name, name))(*arguments), memory)
+        line = told(getattr(service, {"routers": "replace_routers"}.get(name, name))(*arguments), memory)
     except Refused as refused:
         line = f"refuse {refused.number}"
     return f"{name} {line}" + ("" if output is None else " " + digest(output))
@@ -157,17 +185,17 @@ def replay_lines(data):
         if len(data) > REPLAY_LIMIT:
             raise BadInput
         reader = Reader(data)
-        settings, calls = reader.settings(), []
+        services, calls = reader.services(), []
         while not reader.ended():
             calls.append(reader.call())
-        node, memory = Node(settings), lent(MEMORY)
+        node, memories = Node(*services), lent_memories()
     except BadInput:
         yield "bad input"
     except Refused:
         yield "settings refuse 1"
     else:
         for call in calls:
-            yield answer(node, memory, *call)
+            yield answer(node, memories, *call)
 
 
 def program_lines(data):
@@ -180,13 +208,13 @@ def program_lines(data):
         datagrams = [(reader.number(1), reader.field("D")) for _ in range(reader.number(2))]
         if not reader.ended():
             raise BadInput
-        node, memory = Node(settings), lent(MEMORY)
+        node, memories = Node(settings), lent_memories()
     except (BadInput, Refused):
         yield "bad input"
         return
     yield f"datagrams {len(datagrams)}"
     for place, (interface, datagram) in enumerate(datagrams, 1):
-        words = answer(node, memory, "receive", (interface, 0, MEMORY, datagram)).split()
+        words = answer(node, memories, "receive", (0, interface, 0, MEMORY, datagram)).split()
         yield f"{place} refuse {words[2]}" if words[1] == "refuse" else f"{place} deliver {words[3]}"
 
 

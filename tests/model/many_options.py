@@ -72,6 +72,6 @@ def advertised_with_many_options(calls):
             for before, last in ((others(count - 1, units), route_option(units, 20000)), (others(count - 1, units), prefix_option(4, 20000)),
                                  ([route_option(units, 30000)] * (count - 1), route_option(units, 20000))):
                 calls.advertisement(router=router, lifetime=0, options=before + [last])
-                ask_when_due(calls, router, calls.node.latest + 10000)
+                ask_when_due(calls, router, calls.service.latest + 10000)
             for broken in BROKEN:
                 calls.advertisement([(20, {"options": others(count, units) + [broken]})], router=router)

@@ -5,10 +5,11 @@ from pathlib import Path
 from . import double_faults
 from . import extension_headers as extensions
 from . import scenarios_pieces as pieces
+from . import scenarios_services as services
 from .builders import datagram, operator_prefix, operator_route, packet, piece
 from .calls import Calls
 from .faults import FAULTS, GLOBAL, MULTICAST, VARIATIONS
-from .formats import REPLAY_LIMIT, encode_call, encode_datagrams, encode_lists, encode_settings, program, replay, text
+from .formats import REPLAY_LIMIT, encode_call, encode_datagrams, encode_lists, encode_services, program, replay, text
 from .generator import bad, generate, longest, program_input, with_faults
 from .many_options import advertised_with_many_options, asked_from_nearly_unspecified, asked_from_unspecified, asked_with_many_options
 from .octets import LINK_LOCAL, LOOPBACK, UNSPECIFIED, isatap_address, link_local, u16
@@ -218,6 +219,100 @@ NAMED_SETTINGS = {"double_faults": (double_faults.SETTINGS, double_faults.make),
                   "advertisement_lifetimes_long_interval": ({"interval": 3600}, lambda calls: advertised_due_time(calls, waits(3600)))}
 
 
+def on_both(scenario):
+    """The same on each service in turn, and once more on the first."""
+    return lambda calls: [scenario(one) for one in (calls, calls.other, calls)]
+
+
+# What is shown on a node of two services
+NAMED_SERVICES = {
+    "services_sizes": lambda calls: services.kept_between(calls, 5000),
+    "services_sizes_at_the_smaller_link": services.kept_at_the_smaller_link,
+    "services_lowered_by_the_other": services.lowered_by_the_other,
+    "services_bound_reached_by_the_other": services.bound_reached,
+    "services_neighbours": services.shared_neighbours,
+    "services_own_addresses": services.own_addresses,
+    "services_own_prefixes": services.own_prefixes,
+    "services_identifications": services.own_identifications,
+    "services_routers": services.own_routers,
+    "services_crossed_routers": services.crossed_routers,
+    "services_nine_keys": services.nine_keys,
+    "services_near_keys": services.near_keys,
+    "services_handed_to_the_other": services.handed_to_the_other,
+    "services_memories": services.own_memories,
+    "services_times": services.shared_time,
+    "services_by_chance": lambda calls: [services.lowered_in_turns(calls) for _ in range(4)],
+    "services_each_locator": on_both(each_locator),
+    "services_each_prefix": on_both(each_prefix),
+    "services_each_router": services.in_each(each_router),
+    "services_router_lists": on_both(router_lists),
+    "services_asking": on_both(asking),
+    "services_pieces": on_both(pieces.eight_places),
+    "services_pieces_on_two_interfaces": on_both(pieces.two_interfaces),
+    "services_earlier_times": on_both(times_going_back),
+}
+# And on a node that has one
+NAMED_ABSENT = {"absent_service_first": services.absent_first, "absent_service_times": services.absent_times,
+                "absent_service_changes_nothing": services.absent_changes_nothing}
+SHARED = bytes((10, 0, 0, 1))
+MANY = [(address, 0) for address in numbered(101, 7)]
+# Of the first service and of the second
+REFUSED_PAIRS = {
+    "locator_in_both": ({}, {"locators": [(SHARED, 0)], "routers": []}),
+    "address_in_both_on_other_interfaces": ({}, {"locators": [(bytes((10, 0, 0, 3)), 0), (SHARED, 5)], "routers": []}),
+    "last_of_eight_in_both": ({"locators": [*MANY, (SHARED, 0)]}, {"locators": EIGHT[:7] + [(SHARED, 255)], "routers": []}),
+    "first_of_eight_in_both": ({"locators": [(SHARED, 0), *MANY]}, {"locators": [(SHARED, 255), *EIGHT[:7]], "routers": []}),
+    "first_and_last_in_both": ({"locators": [(SHARED, 0), *MANY]}, {"locators": [*EIGHT[:7], (SHARED, 1)], "routers": []}),
+    "router_is_locator_of_first": ({"routers": [bytes((192, 0, 2, 7))]}, {}), "router_is_locator_of_second": ({}, {"routers": [bytes((203, 0, 113, 7))]}),
+    "both": ({"ttl": 0}, {"ttl": 0})}
+ALLOWED_PAIRS = {
+    "all_but_the_locators_in_both": ({}, {"prefixes": PREFIXES[:2], "routers": plain_settings().routers, "link": 1500, "ttl": 64, "interval": 120,
+                                          "identification": 1, "locators": [(bytes((10, 0, 0, 3)), 0), (bytes((192, 0, 2, 6)), 3)]}),
+    "locators_are_routers_of_each_other": ({"routers": [bytes((203, 0, 113, 7)), bytes((10, 0, 0, 3))]}, {"routers": [SHARED, bytes((192, 0, 2, 7))]}),
+    "least_and_most": (ALLOWED_SETTINGS["least"], ALLOWED_SETTINGS["most"]), "most_and_least": (ALLOWED_SETTINGS["most"], ALLOWED_SETTINGS["least"])}
+
+
+def service_inputs():
+    """Name and bytes of those that show services."""
+    for name, scenario in NAMED_SERVICES.items():
+        yield name, scenario_bytes(name, {}, scenario, {})
+    for name, scenario in NAMED_ABSENT.items():
+        yield name, scenario_bytes(name, {}, scenario)
+    for name, changes in REFUSED_SETTINGS.items():
+        if name != "router_is_locator":
+            yield f"settings_refused_{name}_of_first", pair(changes, {}) + encode_call("size", (1, bytes(4)))
+            yield f"settings_refused_{name}_of_second", pair({"locators": MANY}, changes) + encode_call("size", (1, bytes(4)))
+    for name, (first, second) in REFUSED_PAIRS.items():
+        yield f"settings_refused_{name}", pair(first, second) + encode_call("size", (0, bytes(4)))
+    for name, (first, second) in ALLOWED_PAIRS.items():
+        yield f"settings_{name}", scenario_bytes(name, first, on_both(sends), second)
+
+
+def pair(first, second):
+    return encode_services([plain_settings(**first), services.second_settings(**second)])
+
+
+def bad_service_inputs():
+    """Another number of services than 1 or 2, a service above 1 in whatever call, and inputs that are cut off about them."""
+    one, two, size = encode_services([plain_settings()]), pair({}, {}), encode_call("size", (1, bytes(4)))
+    for number in (0, 3, 255):
+        yield f"services_{number}_with_one", bytes([number]) + one[1:] + size
+        yield f"services_{number}_with_two", bytes([number]) + two[1:] + size
+    yield "services_3_with_three", b"\3" + two[1:] + one[1:] + size
+    for number in (2, 3, 255):
+        for kind in (1, 2, 4, 5, 6, 7, 8, 9, 10):
+            yield f"service_{number}_in_kind_{kind}", two + size + bytes([kind, number]) + bytes(60) + size
+    yield "service_2_behind_refused_settings", pair({"ttl": 0}, {}) + b"\x09\2"
+    yield "service_2_of_one", one + b"\x09\2"
+    yield "number_of_services_alone", two[:1]
+    for name, length in (("second_settings_missing", len(one)), ("second_settings_cut_in_locators", len(one) + 4), ("second_settings_cut", len(two) - 1)):
+        yield name, two[:length]
+    yield "second_flag", two[:-1] + b"\2"
+    for kind in (1, 2, 4, 5, 6, 7, 8, 9, 10):
+        yield f"cut_before_service_of_kind_{kind}", two + size + bytes([kind])
+    yield "report_with_a_service", two + b"\3\0" + encode_call("report", (0, bytes(28)))[1:]
+
+
 def named_inputs():
     """Name and bytes of each."""
     for name, scenario in NAMED.items():
@@ -225,23 +320,25 @@ def named_inputs():
     for name, (changes, scenario) in NAMED_SETTINGS.items():
         yield name, scenario_bytes(name, changes, scenario)
     for name, changes in REFUSED_SETTINGS.items():
-        yield "settings_refused_" + name, encode_settings(plain_settings(**changes)) + encode_call("size", [bytes(4)])
+        yield "settings_refused_" + name, encode_services([plain_settings(**changes)]) + encode_call("size", (0, bytes(4)))
     for name, changes in ALLOWED_SETTINGS.items():
         yield "settings_" + name, scenario_bytes(name, changes, sends)
+    yield from service_inputs()
+    yield from {f"bad_input_{name}": data for name, data in bad_service_inputs()}.items()
     good = scenario_bytes("good", {}, no_calls_but_some)
     yield from {f"advertise_{name}": good + data for name, data in longest_lists()}.items()
     yield from {f"bad_input_advertise_{name}": good + data for name, data in bad_advertisings()}.items()
     yield from {"bad_input_empty": b"", "bad_input_cut_settings": good[:11], "bad_input_cut": good[:-1],
-                "bad_input_kind_0": good + b"\0", "bad_input_kind_11": good + b"\x0b" + bytes(70), "bad_input_flag": encode_settings(plain_settings())[:-1] + b"\2",
-                "bad_input_flag_before_address": encode_settings(plain_settings())[:-1] + b"\2" + GLOBAL,
-                "bad_input_refused_settings": encode_settings(plain_settings(ttl=0)) + b"\x0b",
+                "bad_input_kind_0": good + b"\0", "bad_input_kind_11": good + b"\x0b" + bytes(70), "bad_input_flag": encode_services([plain_settings()])[:-1] + b"\2",
+                "bad_input_flag_before_address": encode_services([plain_settings()])[:-1] + b"\2" + GLOBAL,
+                "bad_input_refused_settings": encode_services([plain_settings(ttl=0)]) + b"\x0b",
                 "bad_input_refused_settings_preference_3":
-                    encode_settings(plain_settings(ttl=0)) + advertising(Advertisement(routes=[operator_route(preference=3)])),
-                "bad_input_reporting_cut": encode_settings(plain_settings(reporting=GLOBAL))[:-1]}.items()
+                    encode_services([plain_settings(ttl=0)]) + advertising(Advertisement(routes=[operator_route(preference=3)])),
+                "bad_input_reporting_cut": encode_services([plain_settings(reporting=GLOBAL)])[:-1]}.items()
 
 
-def advertising(operator, packet=b"", behind=encode_call("size", [bytes(4)])):
-    return encode_call("advertise", (0, 600, operator, packet)) + behind
+def advertising(operator, packet=b"", behind=encode_call("size", (0, bytes(4)))):
+    return encode_call("advertise", (0, 0, 600, operator, packet)) + behind
 
 
 def longest_lists():
@@ -259,10 +356,10 @@ def bad_advertisings():
         yield f"preference_3_in_{place}", advertising(Advertisement(routes=routes))
     yield "preference_255", advertising(Advertisement(prefixes=[operator_prefix()] * 9, routes=[operator_route(preference=255)]))
     whole = advertising(Advertisement(0, 0, [operator_prefix()] * 2, [operator_route()] * 2), bytes(48), b"")
-    for length in (1, 2, 4, 5, 7, 8, 9, 60, 61, 62, 63, 84, 105, 106, 107, 108, len(whole) - 1):
+    for length in (1, 2, 3, 5, 6, 8, 9, 10, 61, 62, 63, 64, 85, 106, 107, 108, 109, len(whole) - 1):
         yield f"cut_{length}", whole[:length]
-    yield "cut_in_65535_routes", advertising(Advertisement(), b"", b"")[:9] + u16(65535) + bytes(200)
-    yield "cut_in_65535_prefixes", advertising(Advertisement(), b"", b"")[:7] + u16(65535) + bytes(200)
+    yield "cut_in_65535_routes", advertising(Advertisement(), b"", b"")[:10] + u16(65535) + bytes(200)
+    yield "cut_in_65535_prefixes", advertising(Advertisement(), b"", b"")[:8] + u16(65535) + bytes(200)
 
 
 def no_calls_but_some(calls):
@@ -270,9 +367,9 @@ def no_calls_but_some(calls):
     calls.report()
 
 
-def scenario_bytes(name, changes, scenario):
-    """The name is the seed, so that one more input changes no other."""
-    calls = Calls(random.Random(name), plain_settings(**changes))
+def scenario_bytes(name, changes, scenario, second=None):
+    """The name is the seed, so that one more input changes no other. With changes for a second service the node has two."""
+    calls = Calls(random.Random(name), plain_settings(**changes), None if second is None else services.second_settings(**second))
     scenario(calls)
     return bytes(calls.data)
 
@@ -304,7 +401,7 @@ def program_inputs():
     yield "pieces_far_apart", start + encode_datagrams(first[:1] + 70 * example[:1] + last[:1])
 
 
-BATCHES = range(1, 13)                                        # seeds
+BATCHES = range(1, 17)                                        # seeds
 
 
 def gate_inputs(batches=True):
@@ -332,16 +429,20 @@ STORED_LAST = ("long_ages", "times_near_the_end", "pieces_near_the_end")  # they
 NOT_STORED = ("longest_packets", "longest_lifetime", "neighbours_64", "neighbours_65", "neighbours_64_reported_again",
               "identifications", "pieces_of_the_longest_payloads", "pieces_by_rfc_791", "pieces_two", "send_behind_extension_headers",
               "send_extension_header_lengths", "send_extension_headers_end_the_packet", "send_fragment_headers", "send_upper_layers",
-              "send_many_extension_headers", "send_extension_headers_rooms")  # long, or shown by others
+              "send_many_extension_headers", "send_extension_headers_rooms", "services_each_locator", "services_each_prefix", "services_each_router",
+              "services_by_chance", "services_asking")       # long, or shown by others
 
 
 def stored():
-    """One list of calls on one node with as much as a list can show; crates/replay/stdin."""
-    names = [name for name in NAMED if name not in STORED_LAST + NOT_STORED] + list(STORED_LAST)
-    changes = {"locators": EIGHT, "prefixes": PREFIXES, "routers": numbered(1, 16), "interval": 77, "ttl": 65, "identification": 65530,
-               "reporting": GLOBAL}
-    return scenario_bytes("stored", changes, lambda calls: [scenario(calls) for scenario in (
-        each_router, each_locator, each_prefix, *[NAMED[name] for name in names])])
+    """One list of calls on one node with as much as a list can show; crates/replay/stdin. What one service shows is shown on the first."""
+    names = [name for name in NAMED if name not in STORED_LAST + NOT_STORED]
+    first = {"locators": EIGHT, "prefixes": PREFIXES, "routers": numbered(1, 16), "interval": 77, "ttl": 65, "identification": 65530,
+             "reporting": GLOBAL}
+    second = {"prefixes": [PREFIXES[1], bytes.fromhex("20010db8000000aa")], "routers": [EIGHT[7][0], *numbered(1, 3)], "interval": 120,
+              "identification": 65534, "reporting": LOOPBACK}
+    return scenario_bytes("stored", first, lambda calls: [scenario(calls) for scenario in (
+        *map(services.in_each, (each_router, each_locator, each_prefix)), *[NAMED[name] for name in names],
+        *[NAMED_SERVICES[name] for name in NAMED_SERVICES if name not in NOT_STORED], *[NAMED[name] for name in STORED_LAST])], second)
 
 
 def write_inputs(directory):

@@ -1,23 +1,41 @@
-"""The node: one tunnel end. Path sizes are the plain record: every accepted report, in order."""
+"""The node: one service or two (R26), each a tunnel end. Path sizes are the plain record: every accepted report, in order."""
 from .joining import Collection, Piece
 from .octets import LINK_LOCAL, checksum_right, dotted, forbidden, pseudo_header
 from .rules import Refused, check_solicitation, gets_no_message, inner_length, inner_source_bad, is_whole, need, outer_header
 from .rules import reported_candidate, router_advertisement, smallest_lifetime, solicitation, too_big_message, wrapped
 
 
-class Node:
-    def __init__(self, settings):
-        settings.check()
-        self.settings = settings
+class Shared:
+    """What the services of a node have together (R26.1)."""
+
+    def __init__(self):
         self.latest = 0
         self.record = []                                      # (neighbour, candidate, latest time)
-        self.routers = [(router, 0) for router in settings.routers]  # At setup all are due at time 0 (R2.12)
-        self.identification = settings.identification
-        self.collection = Collection()
 
     def raise_time(self, time):
         """An earlier one is read as the latest (R1.10)."""
         self.latest = max(self.latest, time)
+
+
+class Service:
+    """One tunnel end, by settings of its own."""
+
+    def __init__(self, settings, shared):
+        self.settings, self.shared = settings, shared
+        self.routers = [(router, 0) for router in settings.routers]  # At setup all are due at time 0 (R2.12)
+        self.identification = settings.identification
+        self.collection = Collection()
+
+    @property
+    def latest(self):
+        return self.shared.latest
+
+    @property
+    def record(self):
+        return self.shared.record
+
+    def raise_time(self, time):
+        self.shared.raise_time(time)
 
     def listed(self, address):
         return address in [router for router, _ in self.routers]
@@ -27,11 +45,12 @@ class Node:
         return self.settings.locators[index][0]
 
     def size(self, neighbour):
-        """Under 600 s old and fewer than 64 other neighbours have had an accepted report since; otherwise L (R10.1)."""
+        """What is kept, if it is below L: under 600 s old, and fewer than 64 other neighbours have had an accepted report since (R10.1)."""
         others = set()
         for reporter, candidate, time in reversed(self.record):
             if reporter == neighbour:
-                return candidate if self.latest - time < 600 and len(others) < 64 else self.settings.link
+                kept = self.latest - time < 600 and len(others) < 64
+                return min(candidate, self.settings.link) if kept else self.settings.link
             others.add(reporter)
         return self.settings.link
 
@@ -177,3 +196,57 @@ class Node:
         need(len(answer) <= len(output), 15)
         output[:len(answer)] = answer
         return f"written {len(answer)}"
+
+
+class Absent:
+    """A service that the node has not: 11 before every other number, but the call's time counts (R26.4)."""
+
+    def __init__(self, shared):
+        self.shared = shared
+
+    def refuse(self, time=0):
+        self.shared.raise_time(time)
+        raise Refused(11)
+
+    def receive(self, interface, time, memory, datagram):
+        self.refuse(time)
+
+    def part(self, interface, datagram):
+        return b""
+
+    def send(self, index, time, next_hop, output, packet):
+        self.refuse(time)
+
+    def replace_routers(self, time, routers):
+        self.refuse(time)
+
+    def ask(self, index, time, output):
+        self.refuse(time)
+
+    def advertisement(self, time, packet):
+        self.refuse(time)
+
+    def advertise(self, index, output, operator, asked):
+        self.refuse()
+
+    def size(self, neighbour):
+        self.refuse()
+
+
+class Node:
+    """The first service and the second, which may be absent."""
+
+    def __init__(self, first, second=None):
+        first.check()
+        self.shared = Shared()
+        self.services = [Service(first, self.shared), Absent(self.shared)]
+        if second is not None:
+            second.check()
+            need(not any(second.own(locator) for locator, _ in first.locators), 1)
+            self.services[1] = Service(second, self.shared)
+
+    def report(self, time, message):
+        """To the service that has the quoted source for a locator address (R26.5); where none has, 16 or 17 is that of any."""
+        present = [service for service in self.services if isinstance(service, Service)]
+        owner = next((service for service in present if service.settings.own(message[20:24])), present[0])
+        return owner.report(time, message)

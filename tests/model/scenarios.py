@@ -37,7 +37,7 @@ def size_is(calls, neighbour, size):
 
 def query_all(calls):
     """The size toward every neighbour of the last reports."""
-    for neighbour in dict.fromkeys(neighbour for neighbour, _, _ in calls.node.record[-140:]):
+    for neighbour in dict.fromkeys(neighbour for neighbour, _, _ in calls.service.record[-140:]):
         calls.call("size", neighbour)
     size_is(calls, calls.settings.locators[0][0], calls.settings.link)
     size_is(calls, bytes(4), calls.settings.link)
@@ -57,7 +57,7 @@ def path_sizes(calls, sizes=None):
 
 def ageing(calls):
     """In force at 599 s, gone at 600 s; an equal report renews nothing, a lower one does."""
-    neighbour, start, size = calls.fresh(), calls.node.latest, calls.random.randint(70, 575)
+    neighbour, start, size = calls.fresh(), calls.service.latest, calls.random.randint(70, 575)
     calls.report(neighbour=neighbour, candidate=size, time=start)
     raise_time(calls, start + 598)
     calls.report([(19, {"candidate": size})], neighbour=neighbour, time=start + 599)
@@ -115,7 +115,7 @@ def received_calls():
 def times_raised_by_refused_calls(calls):
     """A size is in force in its last second and gone in the next, whichever call comes then and whatever number it is given."""
     for refused in (*refused_calls(), *received_calls()):
-        neighbour, start = calls.fresh(), calls.node.latest
+        neighbour, start = calls.fresh(), calls.service.latest
         calls.report(neighbour=neighbour, candidate=500, time=start)
         refused(calls, start + 599)
         size_is(calls, neighbour, 500)
@@ -126,7 +126,7 @@ def times_raised_by_refused_calls(calls):
 def long_ages(calls):
     """Ages are reckoned in full: 65,536 s and more are no small age."""
     for later in (65536, 65536 + 599, 3 * 65536 + 1, 256 * 60, 1 << 24, 1 << 31):
-        neighbour, start = calls.fresh(), calls.node.latest
+        neighbour, start = calls.fresh(), calls.service.latest
         calls.report(neighbour=neighbour, candidate=500, time=start)
         raise_time(calls, start + later)
         size_is(calls, neighbour, calls.settings.link)
@@ -135,7 +135,7 @@ def long_ages(calls):
 def refused_sizes(calls):
     """A report refused with 19 changes nothing: not the size, not its age, not which neighbour was the last one."""
     for larger in (600, 500, 9216, 65535, calls.settings.link):
-        neighbour, start = calls.fresh(), calls.node.latest
+        neighbour, start = calls.fresh(), calls.service.latest
         calls.report(neighbour=neighbour, candidate=500, time=start)
         calls.report([(19, {"candidate": larger})], neighbour=neighbour, time=start + 599)
         size_is(calls, neighbour, 500)
@@ -167,7 +167,7 @@ def near_neighbours(calls):
 
 def times_going_back(calls):
     """A report with an earlier time is as old as the latest time says."""
-    neighbour, start = calls.fresh(), calls.node.latest + 1000
+    neighbour, start = calls.fresh(), calls.service.latest + 1000
     raise_time(calls, start)
     calls.report(neighbour=neighbour, candidate=500, time=start - 900)
     size_is(calls, neighbour, 500)
@@ -182,7 +182,7 @@ def neighbours(calls, count=None, again=None):
     """The 63rd other neighbour leaves a size, the 64th removes it (R18.10); a repeated or refused report counts no more."""
     count = count or calls.random.choice((62, 63, 64, 65))
     again = calls.random.random() < 0.5 if again is None else again
-    first, now, others = calls.fresh(), calls.node.latest, []
+    first, now, others = calls.fresh(), calls.service.latest, []
     calls.report(neighbour=first, candidate=500, time=now)
     while len(others) < count:
         others.append(calls.fresh())
@@ -190,7 +190,7 @@ def neighbours(calls, count=None, again=None):
         if again and calls.random.random() < 0.4:
             calls.report([(19, {"candidate": 9216})], neighbour=calls.fresh(), time=now)
             other = calls.random.choice(others)
-            if calls.node.size(other) < 571 and calls.node.size(other) > 68:
+            if calls.service.size(other) < 571 and calls.service.size(other) > 68:
                 calls.report(neighbour=other, time=now)
     size_is(calls, first, 500 if count < 64 else calls.settings.link)
     query_all(calls)
@@ -198,7 +198,7 @@ def neighbours(calls, count=None, again=None):
 
 def neighbours_moved(calls):
     """A new report makes a neighbour the last one: the next new neighbour removes another."""
-    now, all_of_them = calls.node.latest, []
+    now, all_of_them = calls.service.latest, []
     for _ in range(64):
         all_of_them.append(calls.fresh())
         calls.report(neighbour=all_of_them[-1], candidate=500, time=now)
@@ -216,26 +216,26 @@ def neighbours_moved(calls):
 def ask(calls, time=None, room=None, want="", index=None):
     index = calls.random.randrange(len(calls.settings.locators)) if index is None else index
     room = calls.random.choice((48, 48, 49, 100)) if room is None else room
-    return calls.call("ask", index, calls.node.latest if time is None else time, room, want=want)
+    return calls.call("ask", index, calls.service.latest if time is None else time, room, want=want)
 
 
 def asking(calls):
     """Asks until none is due; then just before and exactly at the earliest due time; rooms 47 and 48."""
     calls.listed_router()
-    while min(due for _, due in calls.node.routers) <= calls.node.latest:
+    while min(due for _, due in calls.service.routers) <= calls.service.latest:
         ask(calls, room=calls.random.choice((0, 47)), want="refuse 15")
-        ask(calls, want=dotted(min(calls.node.routers, key=lambda entry: entry[1])[0]))
-    due = min(due for _, due in calls.node.routers)
+        ask(calls, want=dotted(min(calls.service.routers, key=lambda entry: entry[1])[0]))
+    due = min(due for _, due in calls.service.routers)
     ask(calls, room=47, want="refuse 22")
-    calls.call("ask", len(calls.settings.locators), calls.node.latest, 0, want="refuse 11")
+    calls.call("ask", len(calls.settings.locators), calls.service.latest, 0, want="refuse 11")
     if due <= LAST_SECOND:
         ask(calls, time=due - 1, want="refuse 22")
         ask(calls, time=due, room=47, want="refuse 15")
         ask(calls, time=calls.random.choice((due, 0)), room=48)
-    if calls.node.latest < LAST_SECOND - 2 * calls.settings.interval:
-        calls.call("routers", calls.node.latest, [calls.fresh()], want="accepted 1")
-        ask(calls, time=max(0, calls.node.latest - calls.settings.interval))  # due from the latest time on, not from an earlier one
-        ask(calls, time=calls.node.latest + calls.settings.interval - 1, want="refuse 22")
+    if calls.service.latest < LAST_SECOND - 2 * calls.settings.interval:
+        calls.call("routers", calls.service.latest, [calls.fresh()], want="accepted 1")
+        ask(calls, time=max(0, calls.service.latest - calls.settings.interval))  # due from the latest time on, not from an earlier one
+        ask(calls, time=calls.service.latest + calls.settings.interval - 1, want="refuse 22")
 
 
 def ask_when_due(calls, router, due):
@@ -243,7 +243,7 @@ def ask_when_due(calls, router, due):
     if due > LAST_SECOND:
         ask(calls, time=LAST_SECOND, want="refuse 22")
         return
-    if due > calls.node.latest:
+    if due > calls.service.latest:
         ask(calls, time=due - 1, want="refuse 22")
     ask(calls, time=due, want=dotted(router))
 
@@ -267,16 +267,16 @@ def advertised_due_time(calls, cases=None):
     calls.call("routers", calls.time(), [router], want="accepted 1")
     for lifetime, options, wait in cases or [calls.random.choice(waits(calls.settings.interval))]:
         calls.advertisement(router=router, options=options, lifetime=lifetime)
-        ask_when_due(calls, router, calls.node.latest + wait)
+        ask_when_due(calls, router, calls.service.latest + wait)
 
 
 def longest_lifetime(calls):
     """0xfffffffe counts: due half of it later, to the second."""
-    router, start = calls.fresh(), calls.node.latest
+    router, start = calls.fresh(), calls.service.latest
     calls.call("routers", start, [router], want="accepted 1")
     calls.advertisement(router=router, lifetime=0, options=[prefix_option(4, 0xfffffffe), route_option(2, 0xffffffff)])
-    ask_when_due(calls, router, calls.node.latest + 0x7fffffff)
-    ask_when_due(calls, router, calls.node.latest + calls.settings.interval)
+    ask_when_due(calls, router, calls.service.latest + 0x7fffffff)
+    ask_when_due(calls, router, calls.service.latest + calls.settings.interval)
 
 
 def each_prefix(calls):
@@ -308,7 +308,7 @@ def each_locator(calls):
 
 def each_router(calls):
     """Every router of the list delivers and advertises, due or not; those that did not advertise keep their due times."""
-    routers = [router for router, _ in calls.node.routers]
+    routers = [router for router, _ in calls.service.routers]
     for router in routers:
         calls.receive(variation={"source": router, "source6": GLOBAL})
         calls.receive([(9, {"source": router, "source6": LOOPBACK})])
@@ -322,13 +322,13 @@ def each_router(calls):
 def advertised_alone(calls):
     """An advertisement moves its own router; a due time that is the same for all is served by place."""
     first, second, third = (calls.fresh() for _ in range(3))
-    calls.call("routers", calls.node.latest, [first, second, third], want="accepted 3")
+    calls.call("routers", calls.service.latest, [first, second, third], want="accepted 3")
     calls.advertisement(router=second, lifetime=1, options=[], time=0)
     ask(calls, want=dotted(first))
     calls.advertisement(router=third, lifetime=1, options=[], time=0)
     ask(calls, want="refuse 22")
     for router in (first, second, third):
-        ask(calls, time=calls.node.latest + (calls.settings.interval if router == first else 0), want=dotted(router))
+        ask(calls, time=calls.service.latest + (calls.settings.interval if router == first else 0), want=dotted(router))
 
 
 def identifications(calls):
@@ -347,14 +347,14 @@ def identifications(calls):
 
 def earlier_times(calls):
     """A call with an earlier time, answered or refused, does not take the latest time back."""
-    calls.call("routers", calls.node.latest, [calls.fresh()], want="accepted 1")
-    router = calls.node.routers[0][0]
+    calls.call("routers", calls.service.latest, [calls.fresh()], want="accepted 1")
+    router = calls.service.routers[0][0]
     for way in (lambda time: calls.send(n=40, time=time), lambda time: calls.send([(14, {"more": 1})], time=time),
                 lambda time: calls.report(neighbour=calls.fresh(), time=time), lambda time: ask(calls, time=time, want=dotted(router)),
                 lambda time: calls.call("routers", time, [router], want="accepted 1"),
                 lambda time: calls.advertisement(router=router, lifetime=0, options=[], time=time),
                 *[lambda time, refused=refused: refused(calls, time) for refused in (*list(refused_calls())[:13], *received_calls())]):
-        neighbour, start = calls.fresh(), calls.node.latest
+        neighbour, start = calls.fresh(), calls.service.latest
         calls.report(neighbour=neighbour, candidate=500, time=start)
         raise_time(calls, start + 600)
         way(start + 1)
@@ -375,9 +375,9 @@ def second_carries(calls):
         """The word that makes the sum of `data`, which has 0 in its place and in that of the checksum, two carries long."""
         total = sum(number(data[place:place + 2]) for place in range(0, len(data), 2)) - number(field)
         return u16(next(more for more in range(65536) if (total + more & 0xffff) + (total + more >> 16) == 0x10000))
-    node, settings, own = calls.node, calls.settings, calls.settings.locators[0][0]
+    service, settings, own = calls.service, calls.settings, calls.settings.locators[0][0]
     start, data = bytes((223, 255)), packet(GLOBAL, GLOBAL)
-    header = wrapped(data, node.identification, settings.link > 1300, settings.ttl, own, start + b"\0\0")[:20]
+    header = wrapped(data, service.identification, settings.link > 1300, settings.ttl, own, start + b"\0\0")[:20]
     calls.call("send", 0, 0, link_local(start + word(header, header[10:12])), 60, data, want="wrapped 60")
     largest = max(1280, settings.link - 20)
     data = packet(GLOBAL, GLOBAL, bytes(largest - 39))
@@ -399,13 +399,13 @@ def advertised_earlier(calls):
     calls.call("routers", calls.time(), [router], want="accepted 1")
     calls.advertisement(router=router, lifetime=65535, options=[])
     calls.advertisement(router=router, lifetime=1, options=[])
-    ask_when_due(calls, router, calls.node.latest + calls.settings.interval)
+    ask_when_due(calls, router, calls.service.latest + calls.settings.interval)
 
 
 def router_lists(calls):
     """Kept routers keep their due times, new ones are due now; refused lists change nothing."""
     kept, new = [calls.fresh() for _ in range(3)], [calls.fresh() for _ in range(2)]
-    now = calls.node.latest
+    now = calls.service.latest
     calls.call("routers", now, [], want="accepted 0")
     ask(calls, want="refuse 22")
     calls.call("routers", now + 5, kept, want="accepted 3")
@@ -446,14 +446,14 @@ def dropped_router(calls):
 def times_near_the_end(calls):
     """Due times past the last second are exact: never due, and they do not wrap."""
     router, neighbour = calls.fresh(), calls.fresh()
-    start = max(calls.node.latest, LAST_SECOND - calls.settings.interval - 700)
+    start = max(calls.service.latest, LAST_SECOND - calls.settings.interval - 700)
     calls.call("routers", start, [router], want="accepted 1")
     calls.report(neighbour=neighbour, candidate=100, time=start)
     raise_time(calls, min(start + 599, LAST_SECOND))
     calls.call("size", neighbour)
     calls.send(end=neighbour, time=min(start + 600, LAST_SECOND))
-    ask(calls, time=max(calls.node.latest, LAST_SECOND - calls.settings.interval), want=dotted(router))
-    if calls.node.latest + calls.settings.interval == LAST_SECOND:
+    ask(calls, time=max(calls.service.latest, LAST_SECOND - calls.settings.interval), want=dotted(router))
+    if calls.service.latest + calls.settings.interval == LAST_SECOND:
         ask(calls, time=LAST_SECOND - 1, want="refuse 22")
         ask(calls, time=LAST_SECOND, want=dotted(router))
     ask(calls, time=LAST_SECOND, want="refuse 22")
@@ -470,9 +470,9 @@ def times_near_the_end(calls):
 
 def zero_checksums(calls):
     """Checksums that come out as 0 in each thing we write: a word that occurs once is set to the checksum without it."""
-    node, settings, own = calls.node, calls.settings, calls.settings.locators[0][0]
+    service, settings, own = calls.service, calls.settings, calls.settings.locators[0][0]
     start, data = calls.fresh()[:2], packet(GLOBAL, GLOBAL)
-    header = wrapped(data, node.identification, settings.link > 1300, settings.ttl, own, start + b"\0\0")
+    header = wrapped(data, service.identification, settings.link > 1300, settings.ttl, own, start + b"\0\0")
     calls.call("send", 0, 0, link_local(start + header[10:12]), 60, data)
     largest = max(1280, settings.link - 20)
     data = packet(GLOBAL, GLOBAL, bytes(largest - 39))
@@ -508,12 +508,12 @@ def heard_from_another(calls):
     """What another node writes, a node that lists it takes, and asks again when the operator's lifetimes say."""
     router = calls.fresh()
     calls.call("routers", calls.time(), [router], want="accepted 1")
-    other, asked = Node(Settings([(router, 0)], [], [])), solicitation(calls.settings.locators[0][0], router)
+    other, asked = Node(Settings([(router, 0)], [], [])).services[0], solicitation(calls.settings.locators[0][0], router)
     for operator, wait in advertisements(calls.settings.interval):
         output = lent(504)
         length = int(other.advertise(0, output, operator, asked).split()[1])
-        calls.call("advertisement", calls.node.latest, bytes(output[:length]), want=dotted(router))
-        ask_when_due(calls, router, calls.node.latest + wait)
+        calls.call("advertisement", calls.service.latest, bytes(output[:length]), want=dotted(router))
+        ask_when_due(calls, router, calls.service.latest + wait)
 
 
 def advertised_to_another(calls):
@@ -562,7 +562,7 @@ ADVERTISE_REFUSED = ((8, {"version6": 4}), (11, {"index": 255}), (24, {"hop_limi
 
 def advertising_changes_nothing(calls):
     """Neither an answer nor a refusal changes the latest time, a size, a due time, the router list or the identification."""
-    router, neighbour, start = calls.fresh(), calls.fresh(), calls.node.latest
+    router, neighbour, start = calls.fresh(), calls.fresh(), calls.service.latest
     calls.call("routers", start, [router], want="accepted 1")
     calls.report(neighbour=neighbour, candidate=500, time=start)
     ask(calls, time=start + 599, want=dotted(router))
@@ -572,7 +572,7 @@ def advertising_changes_nothing(calls):
         size_is(calls, neighbour, 500)
         ask(calls, want="refuse 22")
         calls.send(n=40, time=0)
-    raise_time(calls, calls.node.latest + calls.settings.interval)
+    raise_time(calls, calls.service.latest + calls.settings.interval)
     calls.advertise()
     ask(calls, time=0, want=dotted(router))                   # an earlier time is still read as the latest
 

@@ -12,8 +12,8 @@ EMPTY = "0 " + digest(b"")
 
 def none_live(calls):
     """What was collected before is live no more, and places are counted from 0; the latest time."""
-    raise_time(calls, calls.node.latest + 30)
-    return calls.node.latest
+    raise_time(calls, calls.service.latest + 30)
+    return calls.service.latest
 
 
 def memory_is(calls, expected):
@@ -433,9 +433,9 @@ def long_ages(calls):
 def pieces_near_the_end(calls):
     """The first time and 30 s are an exact sum: past the last second it is live to the end."""
     last, start = LAST_SECOND, LAST_SECOND - 60
-    raise_time(calls, max(start, calls.node.latest))
+    raise_time(calls, max(start, calls.service.latest))
     wholes = [Whole(calls) for _ in range(4)]
-    if calls.node.latest < last - 30:
+    if calls.service.latest < last - 30:
         wholes[0].begin(time=last - 30)
         wholes[1].begin(time=last - 29)
         wholes[2].begin(time=last - 1)
@@ -490,7 +490,7 @@ def joined_sources(calls):
             whole.begin()
             whole.end(0)
     calls.listed_router()
-    for router, _ in calls.node.routers[-3:]:
+    for router, _ in calls.service.routers[-3:]:
         whole = Whole(calls, payload=packet(GLOBAL, GLOBAL, calls.some(24)), source=router).begin()
         whole.end(0)
 
@@ -699,7 +699,7 @@ def random_piece(calls, whole, parts):
     if payload and chance() < 0.05:
         payload = changed(payload, calls.random.randrange(len(payload)))
     interface = calls.random.choice(calls.settings.locators)[1] if chance() < 0.1 else whole.interface
-    time = calls.node.latest + calls.random.choice((0, 0, 0, 0, 0, 0, 1, 2, 15, 29, 30)) if chance() < 0.5 else 0
+    time = calls.service.latest + calls.random.choice((0, 0, 0, 0, 0, 0, 1, 2, 15, 29, 30)) if chance() < 0.5 else 0
     room = calls.random.choice((0, 16383)) if chance() < 0.03 else calls.random.choice((16384, 65535))
     return interface, min(time, LAST_SECOND), room, whole.piece(start, end, more, payload) + calls.some(calls.random.choice((0, 0, 3)))
 

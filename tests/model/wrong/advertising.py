@@ -53,13 +53,13 @@ for name, old, new in (
         ("the latest time raised", WRITTEN, "        self.raise_time(self.latest + 1)\n" + WRITTEN),
         ("the latest time raised by every call", "        packet = asked[:inner_length(asked)]\n",
          "        self.raise_time(self.latest + 1)\n        packet = asked[:inner_length(asked)]\n"),
-        ("the latest time set to 0", WRITTEN, "        self.latest = 0\n" + WRITTEN),
+        ("the latest time set to 0", WRITTEN, "        self.shared.latest = 0\n" + WRITTEN),
         ("the asker due now if it is listed", WRITTEN, "        self.set_due(asker[12:], self.latest)\n" + WRITTEN),
         ("the asker due later if it is listed", WRITTEN, "        self.set_due(asker[12:], self.latest + 3600)\n" + WRITTEN),
         ("the first router due now", WRITTEN, "        self.routers = [(one, self.latest if place == 0 else due) for place, (one, due)"
          " in enumerate(self.routers)]\n" + WRITTEN),
         ("the asker listed", WRITTEN, "        self.routers = ([one for one in self.routers if one[0] != asker[12:]] + [(asker[12:], 0)])[-16:]\n" + WRITTEN),
-        ("the asker's size forgotten", WRITTEN, "        self.record = [one for one in self.record if one[0] != asker[12:]]\n" + WRITTEN)):
+        ("the asker's size forgotten", WRITTEN, "        self.shared.record = [one for one in self.record if one[0] != asker[12:]]\n" + WRITTEN)):
     wrong("node", "advertising: " + name, old, new)
 
 # ---- Solicitations

@@ -393,8 +393,8 @@ for name, old in (("sending", "        need(inner_length(packet) == len(packet),
                   ("an advertisement", "        packet = packet[:inner_length(packet)]\n"), ("advertising", "        packet = asked[:inner_length(asked)]\n")):
     wrong("node", f"joining: what is collected forgotten by {name}", old, "        self.collection = Collection()\n" + old)
 wrong("formats", "joining: what is collected forgotten by a refusal of another call", "        line = f\"refuse {refused.number}\"\n",
-      "        line = f\"refuse {refused.number}\"\n        node.collection.datagrams = node.collection.datagrams if name == \"receive\" else []\n")
+      "        line = f\"refuse {refused.number}\"\n        if name not in (\"receive\", \"report\") and refused.number != 11:\n            service.collection.datagrams = []\n")
 for number in (2, 3, 4, 6, 7, 8, 9, 10, 15, 27, 28, 30):
     wrong("formats", f"joining: what is collected forgotten by {number}", "        line = f\"refuse {refused.number}\"\n",
-          f"        line = f\"refuse {{refused.number}}\"\n        node.collection.datagrams = [] if name == \"receive\" and refused.number == {number}"
-          " else node.collection.datagrams\n")
+          f"        line = f\"refuse {{refused.number}}\"\n        if name == \"receive\" and refused.number == {number}:\n"
+          "            service.collection.datagrams = []\n")

@@ -93,17 +93,18 @@ for name, old, new in (
         ("16 neighbours kept", "len(others) < 64", "len(others) < 16"),
         ("all other neighbours counted, not those since", "len(others) < 64",
          "len({one for one, _, _ in self.record} - {neighbour}) < 64"),
-        ("an old size in place of L", "len(others) < 64 else self.settings.link",
-         "len(others) < 64 else min(self.settings.link, candidate + 1000)"),
+        ("an old size in place of L", "if kept else self.settings.link",
+         "if kept else min(self.settings.link, candidate + 1000)"),
         ("what the first of a neighbour's reports said", "for reporter, candidate, time in reversed(self.record):",
          "for reporter, candidate, time in self.record:"),
-        ("the least of a neighbour's reports", "                return candidate if self.latest",
-         "                candidate = min(size for one, size, _ in self.record if one == neighbour)\n                return candidate if self.latest")):
+        ("the least of a neighbour's reports", "                return min(candidate, self",
+         "                candidate = min(size for one, size, _ in self.record if one == neighbour)\n                return min(candidate, self")):
     wrong("node", "path sizes: " + name, old, new)
 SIZE = '''        others = set()
         for reporter, candidate, time in reversed(self.record):
             if reporter == neighbour:
-                return candidate if self.latest - time < 600 and len(others) < 64 else self.settings.link
+                kept = self.latest - time < 600 and len(others) < 64
+                return min(candidate, self.settings.link) if kept else self.settings.link
             others.add(reporter)
         return self.settings.link
 '''
@@ -114,7 +115,7 @@ TABLE = '''        table = {}
             MOVE
             table[reporter] = candidate, time
         candidate, time = table.get(neighbour, (0, -600))
-        return candidate if self.latest - time < 600 else self.settings.link
+        return min(candidate, self.settings.link) if self.latest - time < 600 else self.settings.link
 '''
 MOVE = "table.pop(reporter, None)"
 
@@ -155,9 +156,9 @@ silent("an equal report renews the age silently while 19 is given", "now == cand
 silent("a larger report renews the age silently while 19 is given", "now < candidate and now < self.settings.link",
        "self.record.append((neighbour, now, self.latest))")
 silent("a larger report makes the size forgotten while 19 is given", "now < candidate and last",
-       "self.record = [one for one in self.record if one[0] != neighbour]")
+       "self.shared.record = [one for one in self.record if one[0] != neighbour]")
 silent("a report at or above L makes the size forgotten while 19 is given", "candidate >= self.settings.link and last",
-       "self.record = [one for one in self.record if one[0] != neighbour]")
+       "self.shared.record = [one for one in self.record if one[0] != neighbour]")
 silent("a report refused with 19 counts among the others", "now == self.settings.link",
        "self.record.append((neighbour, now, self.latest))")
 silent("a report refused with 19 makes its neighbour the last one", "last and now < self.settings.link",

@@ -7,13 +7,13 @@ START = {"receive": "or in the memory, and its length.", "send": "writes into `o
 
 def unraised(name, condition):
     """The latest time stays as it was before a call that gave `line`."""
-    wrong("formats", name, ANSWERED, f"    before = node.latest\n{ANSWERED}    if {condition}:\n        node.latest = before\n")
+    wrong("formats", name, ANSWERED, f"    before = node.shared.latest\n{ANSWERED}    if {condition}:\n        node.shared.latest = before\n")
 
 
 for call, comment in START.items():
     start = f"{comment}\"\"\"\n        self.raise_time(time)\n"
     wrong("node", f"time: not raised by {call}", start, f"{comment}\"\"\"\n")
-    wrong("node", f"time: {call} goes back to an earlier one", start, f"{comment}\"\"\"\n        self.latest = time\n")
+    wrong("node", f"time: {call} goes back to an earlier one", start, f"{comment}\"\"\"\n        self.shared.latest = time\n")
     unraised(f"time: not raised by a refused call of {call}", f"name == {call.replace('replace_', '')!r} and line.startswith('refuse')")
 for call, numbers in (("receive", (15, 2, 3, 4, 6, 7, 8, 9, 10, 30, 29, 28, 27)), ("send", (8, 11, 12, 13, 15)), ("report", (16, 17, 18, 19)), ("ask", (11, 22, 15)), ("advertisement", (8, 20, 21))):
     for given in numbers:
