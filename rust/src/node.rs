@@ -253,8 +253,8 @@ impl Node {
         unless(advertised.number, || &out[..advertised.length])
     }
 
-    /// The path size in force for the service toward the neighbour, at the latest time: the smaller of the service's link size and the size
-    /// that is kept, whichever service's report that was.
+    /// The path size in force for the service toward the neighbour, at the latest time: the smaller of the service's link size and the
+    /// size that is kept, whichever service's report that was.
     ///
     /// # Errors
     /// [`Refusal::NoLocator`]: the node has no such service.
