@@ -2,12 +2,13 @@
 
 use crate::check::Check;
 use crate::measure::Row;
+use crate::nodes::Nodes;
 use crate::packets::{address, advertisement, datagram, option, packet, put, put16, put32, put_chain, shortest};
 use crate::packets::{repair_outer, size_report, solicitation, EXTENSIONS, MOST_EXTENSIONS};
 use crate::plain::rules::link_local;
 use crate::plain::Address;
-use crate::work::{nodes, work, Advertised, Call, Turn, Work, INTERFACE, START};
-use crate::work::{KEPT, OTHER, OWN, PREFIXES, ROOM, ROUTERS};
+use crate::work::{nodes, nodes_of_two, work, Advertised, Call, Turn, Work, INTERFACE, START};
+use crate::work::{KEPT, OTHER, OWN, OWNS, PREFIXES, ROOM, ROUTERS};
 use crate::{inside, plain_way, pointer_way};
 use bogtrumpet::raw::{AdvertisedPrefix, AdvertisedRoute, Advertisement};
 
@@ -21,16 +22,16 @@ fn passing(turn: u32) -> (u32, Address) {
     }
 }
 
-/// A datagram that is delivered.
-fn delivered(check: &mut Check, turn: u32, length: usize) -> Vec<u8> {
+/// A datagram that is delivered to the service.
+fn delivered(check: &mut Check, service: u8, turn: u32, length: usize) -> Vec<u8> {
     let (neighbour, source) = passing(turn);
     let inner = packet(&mut check.random, length, 17, &source);
-    datagram(&mut check.random, (neighbour, OWN), 0, &inner, 0)
+    datagram(&mut check.random, (neighbour, OWNS[usize::from(service)]), 0, &inner, 0)
 }
 
 /// A datagram of 64 bytes with one thing wrong, so that it is refused by the number.
 fn refused(check: &mut Check, turn: u32, number: u8) -> Vec<u8> {
-    let mut d = delivered(check, turn, 64);
+    let mut d = delivered(check, 0, turn, 64);
     match number {
         2 => put16(&mut d, 2, 85),
         3 => d[8] ^= 1,
@@ -47,11 +48,22 @@ fn refused(check: &mut Check, turn: u32, number: u8) -> Vec<u8> {
     d
 }
 
+/// How a row says which service of a node of two it names.
+fn of_two(service: u8) -> &'static str {
+    ["first of two", "second of two"][usize::from(service)]
+}
+
 fn receives(check: &mut Check) -> Vec<Work> {
     let mut works = Vec::new();
     for length in [64, 1280] {
         let nodes = nodes(check, 0);
-        works.push(work(format!("receive {length}"), Call::Receive, 0, nodes, |turn| delivered(check, turn, length)));
+        let name = format!("receive {length}");
+        works.push(work(name, Call::Receive, 0, nodes, |turn| delivered(check, 0, turn, length)));
+    }
+    for (length, service) in [64, 1280].into_iter().flat_map(|length| [0, 1].map(|service| (length, service))) {
+        let nodes = nodes_of_two(check, 0, service);
+        let name = format!("receive {length}, {}", of_two(service));
+        works.push(work(name, Call::Receive, 0, nodes, |turn| delivered(check, service, turn, length)));
     }
     for number in [2, 3, 4, 6, 7, 8, 9, 10] {
         let nodes = nodes(check, 0);
@@ -105,20 +117,24 @@ fn pieces(check: &mut Check) -> Vec<Work> {
 }
 
 /// Four packets to a next hop that a full path table keeps.
-fn send(check: &mut Check, length: usize, kept: u32) -> Work {
-    let nodes = nodes(check, kept);
+fn send(check: &mut Check, name: String, length: usize, nodes: Nodes) -> Work {
     let source = link_local(OWN);
-    let name = format!("send {length}, {kept} kept");
     work(name, Call::Send, 0, nodes, |_| packet(&mut check.random, length, 17, &source))
 }
 
 fn sends(check: &mut Check) -> Vec<Work> {
     let mut works = Vec::new();
-    for length in [64, 576, 1280, 1480] {
-        works.extend([send(check, length, 0), send(check, length, 64)]);
+    for (length, kept) in [64, 576, 1280, 1480].into_iter().flat_map(|length| [0, 64].map(|kept| (length, kept))) {
+        let nodes = nodes(check, kept);
+        works.push(send(check, format!("send {length}, {kept} kept"), length, nodes));
     }
-    let mut too_big = send(check, 1500, 64);
-    too_big.name = "send 1500, Too Big".into();
+    // With 64 kept.
+    for (length, service) in [64, 1480].into_iter().flat_map(|length| [0, 1].map(|service| (length, service))) {
+        let nodes = nodes_of_two(check, 64, service);
+        works.push(send(check, format!("send {length}, {}", of_two(service)), length, nodes));
+    }
+    let nodes = nodes(check, 64);
+    let mut too_big = send(check, "send 1500, Too Big".into(), 1500, nodes);
     too_big.number = 14;
     works.push(too_big);
     works.extend([behind(check, 1500, 4), behind(check, 40 + 8 * MOST_EXTENSIONS + 1, MOST_EXTENSIONS)]);
@@ -223,8 +239,8 @@ fn compare(check: &mut Check, work: &Work) {
             Call::Receive | Call::Piece => nodes.receive(check, input, interface, time).err().unwrap_or(0),
             Call::Last => {
                 let answer = nodes.receive(check, input, interface, time);
-                nodes.library.service.pieces.places[place] = work.nodes.library.service.pieces.places[place];
-                nodes.plain.places_mut()[place] = work.nodes.plain.places()[place];
+                nodes.library.first.pieces.places[place] = work.nodes.library.first.pieces.places[place];
+                plain_way::set_back(&mut nodes.plain, &work.nodes.plain, place);
                 answer.err().unwrap_or(0)
             }
             Call::Send => nodes.send(check, input, *next_hop, locator, time, ROOM),

@@ -47,8 +47,11 @@ pub fn sizes(table: &Paths, link: u16, first: u32, count: u32, now: u32) -> u64 
     unsafe { bench_lookup(*table, link, first, count, now) }
 }
 
-/// The sum of what so many calls answer, of a kind of call that has a loop.
+/// The sum of what so many calls answer, of a kind of call that has a loop: of the first service.
 fn many(work: &Work, memory: &mut [u8], out: &mut [u8], count: u32) -> Option<u64> {
+    if work.nodes.service != 0 {
+        return None;
+    }
     let (node, all, length) = (work.nodes.library, work.all.as_ptr(), work.all.len());
     let (size, next_hop) = (length / 4, Address { bytes: work.next_hop });
     let (bytes, lent) = (memory.as_mut_ptr(), memory.len());
@@ -67,22 +70,24 @@ fn plain_many(work: &Work, memory: &mut [u8], out: &mut [u8], count: u32) -> u64
     let mut node = work.nodes.plain;
     let mut sum = 0;
     for turn in 0..count {
-        let Turn { input, next_hop, advertised, interface, locator, time, memory, out, .. } =
+        let Turn { service, input, next_hop, advertised, interface, locator, time, memory, out, .. } =
             work.turn(turn, memory, out);
         let answer = match work.call {
             Call::Receive | Call::Piece | Call::Last => {
-                node.receive(input, interface, time, memory).map(|received| match received {
+                node.receive(service, input, interface, time, memory).map(|received| match received {
                     Received::Whole(part) | Received::Joined(part) => part.len() as u64,
                 })
             }
-            Call::Send => node.send(input, next_hop, locator, time, out).map(|sent| match sent {
+            Call::Send => node.send(service, input, next_hop, locator, time, out).map(|sent| match sent {
                 Sent::Wrapped { length } => length as u64,
                 Sent::TooBig { size, .. } => size.into(),
             }),
             Call::Report => node.report(input, time).map(|(_, size)| size.into()),
-            Call::Ask => node.ask(locator, time, out).map(u64::from),
-            Call::Hear => node.hear(input, time).map(u64::from),
-            Call::Advertise => node.advertise(input, locator, &advertised.plain, out).map(|length| length as u64),
+            Call::Ask => node.ask(service, locator, time, out).map(u64::from),
+            Call::Hear => node.hear(service, input, time).map(u64::from),
+            Call::Advertise => {
+                node.advertise(service, input, locator, &advertised.plain, out).map(|length| length as u64)
+            }
         };
         sum += answer.unwrap_or_else(|_| number(&answer).into());
     }
@@ -93,7 +98,7 @@ fn plain_many(work: &Work, memory: &mut [u8], out: &mut [u8], count: u32) -> u64
 fn compare(work: &Work) {
     for count in [0, 1, 2, 3, 255, 256] {
         let (mut plain, mut library) = ([0x55; ROOM], [0x55; ROOM]);
-        let mut memories = [work.nodes.memory.clone(), work.nodes.memory.clone()];
+        let mut memories = [work.nodes.memory().clone(), work.nodes.memory().clone()];
         let expected = plain_many(work, &mut memories[0], &mut plain, count);
         let sum = many(work, &mut memories[1], &mut library, count);
         assert_eq!(Some(expected), sum, "{} {count} times", work.name);
@@ -102,7 +107,7 @@ fn compare(work: &Work) {
 }
 
 pub fn way(work: &'static Work) -> Option<Turns> {
-    let (mut memory, mut out) = (work.nodes.memory.clone(), vec![0; ROOM]);
+    let (mut memory, mut out) = (work.nodes.memory().clone(), vec![0; ROOM]);
     many(work, &mut memory, &mut out, 0)?;
     compare(work);
     Some(Box::new(move |turns| {

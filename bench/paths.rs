@@ -6,27 +6,29 @@ use crate::nodes::Nodes;
 use crate::plain::NEIGHBOURS;
 use crate::work::{nodes, KEPT, LINK_SIZE, OTHER, START};
 use crate::{inside, plain_way};
+use bogtrumpet::raw::Node;
 use std::hint::black_box;
 
 const COUNT: u32 = NEIGHBOURS as u32;
 
 /// Turns of a lookup, which is given another neighbour in each of 64 turns.
-fn turns<T: 'static>(node: T, first: u32, lookup: impl Fn(&T, u32) -> u16 + 'static) -> Option<Turns> {
+fn turns<T: 'static, A>(node: T, first: u32, lookup: impl Fn(&T, u8, u32) -> A + 'static) -> Option<Turns> {
     Some(Box::new(move |turns| {
+        let service = black_box(0);
         for turn in 0..turns {
-            black_box(lookup(black_box(&node), first + turn % COUNT));
+            black_box(lookup(black_box(&node), service, first + turn % COUNT));
         }
     }))
 }
 
-/// The sizes toward 64 neighbours from the first on.
+/// The sizes of the first service toward 64 neighbours from the first on.
 fn lookup(check: &mut Check, name: &str, first: u32) -> Row {
     let Nodes { plain, library, .. } = nodes(check, COUNT);
     let table = library.paths;
     let mut sum = 0;
     for neighbour in first..first + COUNT {
-        let size = plain_way::path_size(&plain, neighbour);
-        assert_eq!(size, library.path_size(neighbour), "{neighbour:#x}: {library:?}");
+        let size = library.path_size(0, neighbour).size;
+        assert_eq!(plain_way::path_size(&plain, 0, neighbour), Ok(size), "{neighbour:#x}: {library:?}");
         sum += u64::from(size);
     }
     assert_eq!(sum, inside::sizes(&table, LINK_SIZE, first, COUNT, START), "{first:#x}: {library:?}");
@@ -36,7 +38,7 @@ fn lookup(check: &mut Check, name: &str, first: u32) -> Row {
         }
     });
     let plain = turns(plain, first, plain_way::path_size);
-    let pointer = turns(library, first, |node, neighbour| node.path_size(neighbour));
+    let pointer = turns(library, first, Node::path_size);
     Row { name: name.into(), ways: [plain, pointer, Some(inside)] }
 }
 

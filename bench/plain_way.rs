@@ -9,39 +9,57 @@ pub fn way(work: &'static Work) -> Turns {
     let node = work.nodes.plain;
     match work.call {
         Call::Receive | Call::Piece => turns(work, node, |node, turn| {
-            _ = black_box(&receive(node, turn.input, turn.interface, turn.time, turn.memory));
+            _ = black_box(&receive(node, turn.service, turn.input, turn.interface, turn.time, turn.memory));
         }),
         Call::Last => turns(work, node, move |node, turn| {
-            _ = black_box(&receive(node, turn.input, turn.interface, turn.time, turn.memory));
-            node.places_mut()[turn.place] = work.nodes.plain.places()[turn.place];
+            _ = black_box(&receive(node, turn.service, turn.input, turn.interface, turn.time, turn.memory));
+            set_back(node, &work.nodes.plain, turn.place);
         }),
         Call::Send => turns(work, node, |node, turn| {
-            _ = black_box(&send(node, turn.input, turn.next_hop, turn.locator, turn.time, turn.out));
+            _ = black_box(&send(node, turn.service, turn.input, turn.next_hop, turn.locator, turn.time, turn.out));
         }),
         Call::Report => turns(work, node, |node, turn| _ = black_box(&report(node, turn.input, turn.time))),
-        Call::Ask => turns(work, node, |node, turn| _ = black_box(&ask(node, turn.locator, turn.time, turn.out))),
-        Call::Hear => turns(work, node, |node, turn| _ = black_box(&hear(node, turn.input, turn.time))),
+        Call::Ask => turns(work, node, |node, turn| {
+            _ = black_box(&ask(node, turn.service, turn.locator, turn.time, turn.out));
+        }),
+        Call::Hear => turns(work, node, |node, turn| _ = black_box(&hear(node, turn.service, turn.input, turn.time))),
         Call::Advertise => turns(work, node, |node, turn| {
-            _ = black_box(&advertise(node, turn.input, turn.locator, &turn.advertised.plain, turn.out));
+            let advertised = &turn.advertised.plain;
+            _ = black_box(&advertise(node, turn.service, turn.input, turn.locator, advertised, turn.out));
         }),
     }
 }
 
+/// Sets a place of the first service back to what it was at the start.
+pub fn set_back(node: &mut Node, start: &Node, place: usize) {
+    if let (Some(service), Some(start)) = (node.service_mut(0), start.service(0)) {
+        service.places_mut()[place] = start.places()[place];
+    }
+}
+
 #[inline(never)]
-fn receive(node: &mut Node, datagram: &[u8], interface: u8, time: u32, memory: &mut [u8]) -> Result<Received, Refusal> {
-    node.receive(datagram, interface, time, memory)
+fn receive(
+    node: &mut Node,
+    service: u8,
+    datagram: &[u8],
+    interface: u8,
+    time: u32,
+    memory: &mut [u8],
+) -> Result<Received, Refusal> {
+    node.receive(service, datagram, interface, time, memory)
 }
 
 #[inline(never)]
 fn send(
     node: &mut Node,
+    service: u8,
     packet: &[u8],
     next_hop: &Address,
     locator: usize,
     time: u32,
     out: &mut [u8],
 ) -> Result<Sent, Refusal> {
-    node.send(packet, next_hop, locator, time, out)
+    node.send(service, packet, next_hop, locator, time, out)
 }
 
 #[inline(never)]
@@ -50,27 +68,28 @@ fn report(node: &mut Node, message: &[u8], time: u32) -> Result<(u32, u16), Refu
 }
 
 #[inline(never)]
-fn ask(node: &mut Node, locator: usize, time: u32, out: &mut [u8]) -> Result<u32, Refusal> {
-    node.ask(locator, time, out)
+fn ask(node: &mut Node, service: u8, locator: usize, time: u32, out: &mut [u8]) -> Result<u32, Refusal> {
+    node.ask(service, locator, time, out)
 }
 
 #[inline(never)]
-fn hear(node: &mut Node, packet: &[u8], time: u32) -> Result<u32, Refusal> {
-    node.hear(packet, time)
+fn hear(node: &mut Node, service: u8, packet: &[u8], time: u32) -> Result<u32, Refusal> {
+    node.hear(service, packet, time)
 }
 
 #[inline(never)]
 fn advertise(
     node: &Node,
+    service: u8,
     packet: &[u8],
     locator: usize,
     advertised: &Advertisement,
     out: &mut [u8],
 ) -> Result<usize, Refusal> {
-    node.advertise(packet, locator, advertised, out)
+    node.advertise(service, packet, locator, advertised, out)
 }
 
 #[inline(never)]
-pub fn path_size(node: &Node, neighbour: u32) -> u16 {
-    node.path_size(neighbour)
+pub fn path_size(node: &Node, service: u8, neighbour: u32) -> Result<u16, Refusal> {
+    node.path_size(service, neighbour)
 }

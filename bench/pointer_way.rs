@@ -9,21 +9,24 @@ pub fn way(work: &'static Work) -> Turns {
     let node = work.nodes.library;
     match work.call {
         Call::Receive | Call::Piece => turns(work, node, |node, turn| {
-            _ = black_box(&node.receive(turn.input, turn.interface, turn.time, turn.memory));
+            _ = black_box(&node.receive(turn.service, turn.input, turn.interface, turn.time, turn.memory));
         }),
         Call::Last => turns(work, node, move |node, turn| {
-            _ = black_box(&node.receive(turn.input, turn.interface, turn.time, turn.memory));
-            node.service.pieces.places[turn.place] = work.nodes.library.service.pieces.places[turn.place];
+            _ = black_box(&node.receive(turn.service, turn.input, turn.interface, turn.time, turn.memory));
+            node.first.pieces.places[turn.place] = work.nodes.library.first.pieces.places[turn.place];
         }),
         Call::Send => turns(work, node, |node, turn| {
             let next_hop = Address { bytes: *turn.next_hop };
-            _ = black_box(&node.send(turn.input, next_hop, turn.locator, turn.time, turn.out));
+            _ = black_box(&node.send(turn.service, turn.input, next_hop, turn.locator, turn.time, turn.out));
         }),
         Call::Report => turns(work, node, |node, turn| _ = black_box(&node.report(turn.input, turn.time))),
-        Call::Ask => turns(work, node, |node, turn| _ = black_box(&node.ask(turn.locator, turn.time, turn.out))),
-        Call::Hear => turns(work, node, |node, turn| _ = black_box(&node.hear(turn.input, turn.time))),
+        Call::Ask => turns(work, node, |node, turn| {
+            _ = black_box(&node.ask(turn.service, turn.locator, turn.time, turn.out));
+        }),
+        Call::Hear => turns(work, node, |node, turn| _ = black_box(&node.hear(turn.service, turn.input, turn.time))),
         Call::Advertise => turns(work, node, |node, turn| {
-            _ = black_box(&node.advertise(turn.input, turn.locator, turn.advertised.library, turn.out));
+            let advertised = turn.advertised.library;
+            _ = black_box(&node.advertise(turn.service, turn.input, turn.locator, advertised, turn.out));
         }),
     }
 }

@@ -17,6 +17,8 @@ pub const ROOM: usize = 2048;
 pub const START: u32 = 1000;
 
 pub const OWN: u32 = 0x0a01_0001;
+/// The first locator of each service.
+pub const OWNS: [u32; 2] = [OWN, OWN + 0x100];
 pub const PREFIXES: [[u8; 8]; 2] = [[0x20, 1, 0xd, 0xb8, 0, 0, 0, 1], [0x20, 1, 0xd, 0xb8, 0, 0, 0, 2]];
 pub const ROUTERS: [u32; 4] = [0x0a02_0001, 0x0a02_0002, 0x0a02_0003, 0x0a02_0004];
 /// The neighbours that a full path table keeps, and others.
@@ -40,6 +42,7 @@ impl Advertised {
 
 /// What one turn is given.
 pub struct Turn<'a> {
+    pub service: u8,
     pub input: &'a [u8],
     pub next_hop: &'a Address,
     pub advertised: &'a Advertised,
@@ -86,8 +89,8 @@ impl Work {
     pub fn turn<'a>(&'a self, turn: u32, memory: &'a mut [u8], out: &'a mut [u8]) -> Turn<'a> {
         let (place, time) = (turn as usize % 4, START + turn * self.step);
         let Work { inputs, next_hop, advertised, .. } = self;
-        let (input, interface, locator) = (inputs[place], INTERFACE, LOCATOR);
-        Turn { input, next_hop, advertised, interface, locator, time, memory, place, out }
+        let (service, input, interface, locator) = (self.nodes.service, inputs[place], INTERFACE, LOCATOR);
+        Turn { service, input, next_hop, advertised, interface, locator, time, memory, place, out }
     }
 }
 
@@ -100,15 +103,31 @@ pub fn work(name: String, call: Call, number: u8, nodes: Nodes, input: impl FnMu
     Work { name, call, number, nodes, all, inputs, next_hop: link_local(NEXT_HOP), advertised, step: 0 }
 }
 
-/// A tunnel end with two locators, two prefixes and four routers, and `kept` neighbours in its path table.
-pub fn nodes(check: &mut Check, kept: u32) -> Nodes {
+/// A service with two locators, two prefixes and four routers.
+fn settings(own: u32) -> Settings {
     let mut settings = Settings { locator_count: 2, prefix_count: 2, router_count: 4, ..Settings::default() };
-    settings.locators[0] = Locator { address: OWN, interface: INTERFACE };
-    settings.locators[1] = Locator { address: OWN + 1, interface: INTERFACE + 1 };
+    settings.locators[0] = Locator { address: own, interface: INTERFACE };
+    settings.locators[1] = Locator { address: own + 1, interface: INTERFACE + 1 };
     settings.prefixes[..2].copy_from_slice(&PREFIXES);
     settings.routers[..4].copy_from_slice(&ROUTERS);
-    let settings = Settings { link_size: LINK_SIZE, interval: 1, ..settings.defaults() };
-    let mut nodes = Nodes::new(check, &settings).expect("settings that are allowed");
+    Settings { link_size: LINK_SIZE, interval: 1, ..settings.defaults() }
+}
+
+/// A node of one such service, and `kept` neighbours in its path table.
+pub fn nodes(check: &mut Check, kept: u32) -> Nodes {
+    let nodes = Nodes::new(check, &settings(OWN)).expect("settings that are allowed");
+    keeping(check, nodes, kept)
+}
+
+/// A node of two, of which that one is named.
+pub fn nodes_of_two(check: &mut Check, kept: u32, service: u8) -> Nodes {
+    let [first, second] = OWNS.map(settings);
+    let mut nodes = Nodes::pair(check, &first, &second).expect("settings that are allowed");
+    nodes.service = service;
+    keeping(check, nodes, kept)
+}
+
+fn keeping(check: &mut Check, mut nodes: Nodes, kept: u32) -> Nodes {
     for neighbour in KEPT..KEPT + kept {
         let message = size_report(&mut check.random, REPORTED, 0, (OWN, neighbour), 0, 8);
         assert_eq!(nodes.report(check, &message, START), 0);
@@ -119,15 +138,16 @@ pub fn nodes(check: &mut Check, kept: u32) -> Nodes {
 /// Turns of a call, each run from the same node and time, the inputs in turn. Answers are handed to `black_box` where they stand: a
 /// copy of one, read in other pieces than it was written in, would wait for it.
 pub fn turns<N: Copy + 'static>(work: &'static Work, start: N, call: impl Fn(&mut N, Turn) + 'static) -> Turns {
-    let (mut memory, mut out) = (work.nodes.memory.clone(), vec![0; ROOM]);
+    let (mut memory, mut out) = (work.nodes.memory().clone(), vec![0; ROOM]);
     Box::new(move |turns| {
-        let (work, interface, locator) = black_box((work, INTERFACE, LOCATOR));
+        let (work, service, interface, locator) = black_box((work, work.nodes.service, INTERFACE, LOCATOR));
         let mut node = start;
         let mut time = START;
         for (_, (place, input)) in (0..turns).zip(work.inputs.iter().enumerate().cycle()) {
             let Work { next_hop, advertised, .. } = work;
             let (memory, out) = (&mut memory, &mut out);
-            call(&mut node, Turn { input, next_hop, advertised, interface, locator, time, memory, place, out });
+            let turn = Turn { service, input, next_hop, advertised, interface, locator, time, memory, place, out };
+            call(&mut node, turn);
             time += work.step;
         }
         black_box((&node, &memory, &out));

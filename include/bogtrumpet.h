@@ -1,5 +1,5 @@
 /*
- * Bogtrumpet: one ISATAP tunnel end (RFC 5214), proved. R5.7 and the like are rules of docs/RULES.md.
+ * Bogtrumpet: one ISATAP tunnel end (RFC 5214), or two in one box, proved. R5.7 and the like are rules of docs/RULES.md.
  *
  *     cc -I include program.c target/staticlib/libbogtrumpet.a -o program
  *
@@ -14,6 +14,13 @@
  * aligned to 8 bytes and not null; bytes need no alignment. What a call may write, an output, the memory of
  * bogtrumpet_receive or a node that is not const, overlaps nothing else that it is lent.
  *
+ * Services. A node has one service, the first (0), or two, the first and the second (1) (R26). Each has settings, a router list, an
+ * identification, a collection of pieces and a memory for them of its own; the kept path sizes and the latest time are the node's, and both
+ * services share them. In force for a service is the smaller of its link size and the kept size, whichever service's report that was. Every
+ * call on a node but bogtrumpet_report names its service, and what it says of locators, routers and prefixes is meant of that one. A report
+ * belongs to the service that has the quoted source for a locator address; where both have it, as no accepted settings do, to the first.
+ * A service that the node has not, or a number above 1, gives 11 in every call, before the numbers that stand there; its time counts.
+ *
  * Threads. There is no shared state: calls on different nodes, and the rules, may be made at once. On one node bogtrumpet_advertise and
  * bogtrumpet_path_size, which only read it, may be made at once; any other call on it is made alone, bogtrumpet_receive too.
  *
@@ -21,8 +28,8 @@
  *
  * Answers. A call that can be refused gives a number of enum bogtrumpet_number, 0 where it is not. Where several apply, the first in the
  * order that stands at the call is given. Fields of an answer that do not apply are 0. After a refusal the lent output is untouched and
- * the node as before but for the latest time; 14 alone may write, bogtrumpet_new always fills its node, and a piece may change what is
- * collected (at bogtrumpet_receive). Bytes of an output behind the written length stay as they were.
+ * the node as before but for the latest time; 14 alone may write, bogtrumpet_new and bogtrumpet_new_pair always fill their node, and a piece
+ * may change what is collected (at bogtrumpet_receive). Bytes of an output behind the written length stay as they were.
  *
  * Time is a count of seconds that the caller hands over; one earlier than the latest is read as the latest.
  */
@@ -37,9 +44,9 @@
 #include <stddef.h>
 #include <stdint.h>
 
-#define BOGTRUMPET_VERSION "0.5.0"
+#define BOGTRUMPET_VERSION "0.6.0"
 #define BOGTRUMPET_VERSION_MAJOR 0
-#define BOGTRUMPET_VERSION_MINOR 5
+#define BOGTRUMPET_VERSION_MINOR 6
 #define BOGTRUMPET_VERSION_PATCH 0
 
 /* A compiler that can warns where an answer is not looked at. */
@@ -60,7 +67,7 @@ extern "C" {
 #define BOGTRUMPET_MAX_ROUTERS 16
 #define BOGTRUMPET_MAX_NEIGHBOURS 64 /* whose path sizes are kept */
 #define BOGTRUMPET_MAX_ADVERTISED 8  /* prefixes of an advertisement that is written, and routes of it */
-#define BOGTRUMPET_MAX_COLLECTED 8   /* datagrams whose pieces are collected at once */
+#define BOGTRUMPET_MAX_COLLECTED 8   /* datagrams whose pieces a service collects at once */
 
 #define BOGTRUMPET_MIN_LINK_SIZE 576
 #define BOGTRUMPET_MAX_LINK_SIZE 9216
@@ -84,7 +91,7 @@ extern "C" {
 
 enum bogtrumpet_number {
     BOGTRUMPET_OK = 0,                      /* not refused */
-    BOGTRUMPET_SETTINGS = 1,                /* settings or a new router list break the rules */
+    BOGTRUMPET_SETTINGS = 1,                /* settings or a new router list break the rules, or two services share a locator address */
     BOGTRUMPET_OUTER_MALFORMED = 2,         /* outer header malformed */
     BOGTRUMPET_OUTER_CHECKSUM = 3,          /* outer checksum wrong */
     BOGTRUMPET_OTHER_PROTOCOL = 4,          /* protocol is not 41 */
@@ -94,7 +101,7 @@ enum bogtrumpet_number {
     BOGTRUMPET_INNER_MALFORMED = 8,         /* inner packet malformed */
     BOGTRUMPET_INNER_SOURCE_BAD = 9,        /* inner source bad */
     BOGTRUMPET_OUTER_SOURCE_WRONG = 10,     /* outer source wrong for inner source */
-    BOGTRUMPET_NO_LOCATOR = 11,             /* no locator of that number */
+    BOGTRUMPET_NO_LOCATOR = 11,             /* no locator of that number, or no such service */
     BOGTRUMPET_NEXT_HOP_NOT_ISATAP = 12,    /* next hop is no ISATAP address */
     BOGTRUMPET_TUNNEL_END_FORBIDDEN = 13,   /* tunnel end forbidden, or a locator's address */
     BOGTRUMPET_TOO_BIG = 14,                /* packet above the size that passes; carries that size and a message's length */
@@ -120,7 +127,7 @@ enum bogtrumpet_number {
 BOGTRUMPET_CHECKED static inline const char *bogtrumpet_number_text(uint8_t number) {
     switch (number) {
     case BOGTRUMPET_OK: return "not refused";
-    case BOGTRUMPET_SETTINGS: return "settings or a new router list break the rules";
+    case BOGTRUMPET_SETTINGS: return "settings or a new router list break the rules, or two services share a locator address";
     case BOGTRUMPET_OUTER_MALFORMED: return "outer header malformed";
     case BOGTRUMPET_OUTER_CHECKSUM: return "outer checksum wrong";
     case BOGTRUMPET_OTHER_PROTOCOL: return "protocol is not 41";
@@ -130,7 +137,7 @@ BOGTRUMPET_CHECKED static inline const char *bogtrumpet_number_text(uint8_t numb
     case BOGTRUMPET_INNER_MALFORMED: return "inner packet malformed";
     case BOGTRUMPET_INNER_SOURCE_BAD: return "inner source bad";
     case BOGTRUMPET_OUTER_SOURCE_WRONG: return "outer source wrong for the inner source";
-    case BOGTRUMPET_NO_LOCATOR: return "no locator of that number";
+    case BOGTRUMPET_NO_LOCATOR: return "no locator of that number, or no such service";
     case BOGTRUMPET_NEXT_HOP_NOT_ISATAP: return "next hop is no ISATAP address";
     case BOGTRUMPET_TUNNEL_END_FORBIDDEN: return "tunnel end forbidden, or a locator's address";
     case BOGTRUMPET_TOO_BIG: return "packet too big";
@@ -167,7 +174,7 @@ struct bogtrumpet_locator {
     uint8_t interface;
 };
 
-/* What an operator sets (R2). Entries behind a count are not read. */
+/* What an operator sets of a service (R2). Entries behind a count are not read. */
 struct bogtrumpet_settings {
     struct bogtrumpet_locator locators[BOGTRUMPET_MAX_LOCATORS]; /* 1 to 8, no pair twice, none forbidden */
     size_t locator_count;
@@ -215,6 +222,7 @@ struct bogtrumpet_collection {
     struct bogtrumpet_place places[BOGTRUMPET_MAX_COLLECTED];
 };
 
+/* What a service has of its own. */
 struct bogtrumpet_service {
     struct bogtrumpet_settings settings;   /* as they were set: its routers are the first list, also after it was replaced */
     struct bogtrumpet_router_list routers; /* the list now in force */
@@ -231,11 +239,19 @@ struct bogtrumpet_paths {
 };
 
 /* A node's state: a plain value, which may be copied and kept. A call changes it in place. Nodes are not to be compared bytewise: what
-   stands between fields, and behind a count, is not determined. */
+   stands between fields, and behind a count, is not determined. It has 2,576 bytes, 960 more than before 0.6.0: the second service. */
 struct bogtrumpet_node {
-    struct bogtrumpet_service service;
+    struct bogtrumpet_service first;
+    struct bogtrumpet_service second; /* of empty settings, all values 0, where the node has one service */
     struct bogtrumpet_paths paths;
     uint32_t latest; /* the latest time seen, in seconds */
+    uint8_t both;    /* any value but 0: the node has the second service too */
+};
+
+/* The service that a call names. Any other number gives 11. */
+enum bogtrumpet_service_number {
+    BOGTRUMPET_FIRST = 0,
+    BOGTRUMPET_SECOND = 1
 };
 
 /* A new router list. */
@@ -301,7 +317,7 @@ struct bogtrumpet_sent {
 struct bogtrumpet_reported {
     uint8_t number;
     uint32_t neighbour;
-    uint16_t size; /* the size now in force toward it */
+    uint16_t size; /* the size now in force toward it, for the service that the report belongs to */
 };
 
 struct bogtrumpet_asked {
@@ -319,27 +335,38 @@ struct bogtrumpet_advertised {
     size_t length; /* with 0: the length of the advertisement written */
 };
 
+struct bogtrumpet_sized {
+    uint8_t number; /* 0 or 11 */
+    uint16_t size;  /* with 0: the size in force */
+};
+
 /* ---- The node's calls --------------------------------------------------------------------------------------------- */
 
 /* The same locators, prefixes, routers and counts; link size 1,500, TTL 64, interval 120, identification 1, reporting address
    the link-local address of locator 0 (R2.10). Never refused: bogtrumpet_new judges them. */
 BOGTRUMPET_CHECKED struct bogtrumpet_settings bogtrumpet_defaults(struct bogtrumpet_settings settings);
 
-/* Fills the node, whatever stood there: a node with all routers due at time 0 (R2.12). The number: 0, or 1, and then the node is the
-   one of empty settings, all values 0; it delivers nothing (6 at the latest) and sends, asks and advertises nothing (11 at the latest)
-   (R2.11). */
+/* Fills the node, whatever stood there: a node of one service, with all routers due at time 0 (R2.12). The number: 0, or 1, and then the
+   node is the one of empty settings, all values 0; it delivers nothing (6 at the latest) and sends, asks and advertises nothing (11 at the
+   latest) (R2.11). */
 BOGTRUMPET_CHECKED uint8_t bogtrumpet_new(struct bogtrumpet_node *node, struct bogtrumpet_settings settings);
 
+/* The same of a node of two services. 1 is given also where a locator of the one has the address of a locator of the other, on whatever
+   interfaces (R26.2); a locator address of the one may be a router, a neighbour or a tunnel end of the other. */
+BOGTRUMPET_CHECKED uint8_t bogtrumpet_new_pair(struct bogtrumpet_node *node, struct bogtrumpet_settings first,
+                                               struct bogtrumpet_settings second);
+
 /* Where the inner packet stands of a datagram that arrived on the interface: in it, or, where it is the last missing piece of one, in the
-   memory (R5, R23). The memory has at least BOGTRUMPET_MEMORY bytes, of any value at first, and is the same at each call on a node
-   and no other node's, untouched between calls: what is collected stands there, and a repeated piece is compared with it. The bytes of a joined packet
-   stand there until the next call. A whole datagram leaves the memory and what is collected as they are.
+   memory (R5, R23). The memory has at least BOGTRUMPET_MEMORY bytes, of any value at first, and is the same at each call of a service
+   and no other service's or node's, untouched between calls: what is collected stands there, and a repeated piece is compared with it. The
+   bytes of a joined packet stand there until the service's next call. A whole datagram leaves the memory and what is collected as they are.
    Numbers, in this order: 15 (the memory is too short), 2, 3, 4, 6, 7; then of a piece 30, 29, 28, 27; then of a whole datagram, and of
    one that a piece completes, 8, 9, 10. What is collected is changed also by 27, by 29, which drops it, and by 8, 9 and 10 of what a
    piece completes; the memory by 27, 8, 9 and 10. */
-BOGTRUMPET_CHECKED struct bogtrumpet_received bogtrumpet_receive(struct bogtrumpet_node *node, const uint8_t *datagram,
-                                                                 size_t length, uint8_t interface, uint32_t time,
-                                                                 uint8_t *memory, size_t room);
+BOGTRUMPET_CHECKED struct bogtrumpet_received bogtrumpet_receive(struct bogtrumpet_node *node, uint8_t service,
+                                                                 const uint8_t *datagram, size_t length,
+                                                                 uint8_t interface, uint32_t time, uint8_t *memory,
+                                                                 size_t room);
 
 /* Wraps an IPv6 packet for the next hop, from the numbered locator (from 0) (R7). A packet above the size that passes gets 14, and an
    ICMPv6 Packet Too Big of 1,280 bytes in the output (R8). None is written, whatever the room, where the packet's source is multicast or
@@ -348,41 +375,44 @@ BOGTRUMPET_CHECKED struct bogtrumpet_received bogtrumpet_receive(struct bogtrump
    R25).
    Numbers, in this order: 8 (also where the length is not 40 + payload length), 11, 12, 13, 14, 23, 15; 15 in the place of 14
    where the message does not fit. 23 does not come on a node made from accepted settings. */
-BOGTRUMPET_CHECKED struct bogtrumpet_sent bogtrumpet_send(struct bogtrumpet_node *node, const uint8_t *packet,
-                                                          size_t length, struct bogtrumpet_address next_hop,
-                                                          size_t locator, uint32_t time, uint8_t *out, size_t room);
+BOGTRUMPET_CHECKED struct bogtrumpet_sent bogtrumpet_send(struct bogtrumpet_node *node, uint8_t service,
+                                                          const uint8_t *packet, size_t length,
+                                                          struct bogtrumpet_address next_hop, size_t locator,
+                                                          uint32_t time, uint8_t *out, size_t room);
 
-/* Takes an ICMPv4 message in: a size report (type 3, code 4), quoting a datagram of ours (R9).
+/* Takes an ICMPv4 message in: a size report (type 3, code 4), quoting a datagram of ours (R9). It belongs to the service whose locator it
+   quotes, and must be below that service's size in force (R26.5).
    Numbers, in this order: 16, 17, 18, 19. */
 BOGTRUMPET_CHECKED struct bogtrumpet_reported bogtrumpet_report(struct bogtrumpet_node *node, const uint8_t *message,
                                                                 size_t length, uint32_t time);
 
 /* Replaces the router list: a router in both lists keeps its due time, a new one is due now (R2.13). The number: 0, or 1. */
-BOGTRUMPET_CHECKED uint8_t bogtrumpet_replace_routers(struct bogtrumpet_node *node, struct bogtrumpet_addresses list,
-                                                      uint32_t time);
+BOGTRUMPET_CHECKED uint8_t bogtrumpet_replace_routers(struct bogtrumpet_node *node, uint8_t service,
+                                                      struct bogtrumpet_addresses list, uint32_t time);
 
 /* Writes a router solicitation of 48 bytes, not yet wrapped, to the router that is due first, from the numbered locator (R13).
    Numbers, in this order: 11, 22, 15. */
-BOGTRUMPET_CHECKED struct bogtrumpet_asked bogtrumpet_ask(struct bogtrumpet_node *node, size_t locator, uint32_t time,
-                                                          uint8_t *out, size_t room);
+BOGTRUMPET_CHECKED struct bogtrumpet_asked bogtrumpet_ask(struct bogtrumpet_node *node, uint8_t service, size_t locator,
+                                                         uint32_t time, uint8_t *out, size_t room);
 
 /* Takes a router advertisement in, a received inner packet; the router is asked again by its lifetimes (R15, R16).
    Numbers, in this order: 8 (as in receiving), 20, 21. */
-BOGTRUMPET_CHECKED struct bogtrumpet_heard bogtrumpet_hear(struct bogtrumpet_node *node, const uint8_t *packet,
-                                                           size_t length, uint32_t time);
+BOGTRUMPET_CHECKED struct bogtrumpet_heard bogtrumpet_hear(struct bogtrumpet_node *node, uint8_t service,
+                                                           const uint8_t *packet, size_t length, uint32_t time);
 
 /* Answers a router solicitation, a received inner packet, with a router advertisement of at most 504 bytes, not yet wrapped, from the
    numbered locator to the asker (R22). The node stays as it is. To send it: bogtrumpet_send with this length, the same locator, and for the
    next hop its destination, bytes 24 to 39; 13 is given there where the asker's address embeds a forbidden one or one of ours.
    Numbers, in this order: 8 (as in receiving), 11, 24, 25, 26, 15. */
 BOGTRUMPET_CHECKED struct bogtrumpet_advertised bogtrumpet_advertise(const struct bogtrumpet_node *node,
-                                                                     const uint8_t *packet, size_t length,
-                                                                     size_t locator,
+                                                                     uint8_t service, const uint8_t *packet,
+                                                                     size_t length, size_t locator,
                                                                      struct bogtrumpet_advertisement advertisement,
                                                                      uint8_t *out, size_t room);
 
-/* The path size in force toward the neighbour at the latest time (R10). */
-BOGTRUMPET_CHECKED uint16_t bogtrumpet_path_size(const struct bogtrumpet_node *node, uint32_t neighbour);
+/* The path size in force for the service toward the neighbour, at the latest time (R10, R26.6). */
+BOGTRUMPET_CHECKED struct bogtrumpet_sized bogtrumpet_path_size(const struct bogtrumpet_node *node, uint8_t service,
+                                                                uint32_t neighbour);
 
 /* ---- Rules without state ------------------------------------------------------------------------------------------ */
 
@@ -515,9 +545,11 @@ BOGTRUMPET_SIZE(paths, 648);
 BOGTRUMPET_AT(paths, sizes, 256);
 BOGTRUMPET_AT(paths, times, 384);
 BOGTRUMPET_AT(paths, count, 640);
-BOGTRUMPET_SIZE(node, 1616);
-BOGTRUMPET_AT(node, paths, 960);
-BOGTRUMPET_AT(node, latest, 1608);
+BOGTRUMPET_SIZE(node, 2576);
+BOGTRUMPET_AT(node, second, 960);
+BOGTRUMPET_AT(node, paths, 1920);
+BOGTRUMPET_AT(node, latest, 2568);
+BOGTRUMPET_AT(node, both, 2572);
 BOGTRUMPET_SIZE(addresses, 72);
 BOGTRUMPET_AT(addresses, count, 64);
 BOGTRUMPET_SIZE(advertised_prefix, 28);
@@ -548,6 +580,8 @@ BOGTRUMPET_AT(sent, message_length, 16);
 BOGTRUMPET_SIZE(reported, 12);
 BOGTRUMPET_AT(reported, neighbour, 4);
 BOGTRUMPET_AT(reported, size, 8);
+BOGTRUMPET_SIZE(sized, 4);
+BOGTRUMPET_AT(sized, size, 2);
 BOGTRUMPET_SIZE(asked, 8);
 BOGTRUMPET_AT(asked, router, 4);
 BOGTRUMPET_SIZE(heard, 8);

@@ -1,4 +1,5 @@
-//! Bogtrumpet: one ISATAP tunnel end (RFC 5214), proved. An IPv6 packet gets one IPv4 header at one end and loses it at the other.
+//! Bogtrumpet: one ISATAP tunnel end (RFC 5214), or two in one box, proved. An IPv6 packet gets one IPv4 header at one end and loses it at
+//! the other.
 //!
 //! This is the library of `include/bogtrumpet.h` as Rust has it: an answer is a [`Result`] with a [`Refusal`], what is written comes back
 //! as the part of the output that holds it. The library, `libbogtrumpet.a`, is machine code for x86-64 and ELF (`make` of the repository);
@@ -11,7 +12,7 @@
 //!
 //! ```
 //! use bogtrumpet::rules::link_local;
-//! use bogtrumpet::{Locator, Node, Refusal, Sent, Settings};
+//! use bogtrumpet::{Locator, Node, Refusal, Sent, ServiceName::First, Settings};
 //! use std::net::Ipv4Addr;
 //!
 //! # fn main() -> Result<(), Refusal> {
@@ -26,14 +27,14 @@
 //! packet[8..24].copy_from_slice(&link_local(centre).octets());
 //!
 //! let mut out = [0; 1500];
-//! let Sent::Wrapped(datagram) = sender.send(&packet, link_local(station), 0, 1000, &mut out)? else {
+//! let Sent::Wrapped(datagram) = sender.send(First, &packet, link_local(station), 0, 1000, &mut out)? else {
 //!     panic!("40 bytes pass everywhere");
 //! };
 //! assert_eq!(datagram.len(), 60);
 //! // What comes in pieces is joined in memory that the receiver is lent, always the same.
 //! let mut memory = [0; bogtrumpet::MEMORY];
-//! assert_eq!(receiver.receive(datagram, 0, 1000, &mut memory)?.packet(), packet);
-//! assert_eq!(receiver.receive(datagram, 1, 1000, &mut memory), Err(Refusal::NotForUs));
+//! assert_eq!(receiver.receive(First, datagram, 0, 1000, &mut memory)?.packet(), packet);
+//! assert_eq!(receiver.receive(First, datagram, 1, 1000, &mut memory), Err(Refusal::NotForUs));
 //! # Ok(())
 //! # }
 //! ```
@@ -46,11 +47,11 @@ pub mod rules;
 mod settings;
 
 pub use advertisement::{AdvertisedPrefix, AdvertisedRoute, Advertisement, Preference};
-pub use node::{Asked, Node, Received, Reported, Router, Sent};
+pub use node::{Asked, Node, Received, Reported, Router, Sent, ServiceName};
 pub use refusal::Refusal;
 pub use settings::{Locator, Prefix, Settings};
 
-/// The most locators of a node.
+/// The most locators of a service.
 pub const MAX_LOCATORS: usize = 8;
 /// The most on-link prefixes, beside fe80::/64.
 pub const MAX_PREFIXES: usize = 8;

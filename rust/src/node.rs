@@ -1,4 +1,4 @@
-//! One tunnel end.
+//! One tunnel end, or two in one box.
 
 use crate::advertisement::Advertisement;
 use crate::raw;
@@ -6,10 +6,33 @@ use crate::refusal::{unless, Refusal};
 use crate::settings::{numbers, Settings};
 use std::net::{Ipv4Addr, Ipv6Addr};
 
-/// One tunnel end. A plain value of 1,616 bytes: a copy keeps the state that it had.
+/// One tunnel end, or two in one box: a node has one service or two. A plain value of 2,576 bytes: a copy keeps the state that it had.
+///
+/// Each service has settings, a router list, an identification and a collection of pieces of its own; the kept path sizes and the latest
+/// time are the node's, and both services share them. Every call but [`report`](Node::report) names its service, and what it says of
+/// locators, routers and prefixes is meant of that one. A service that the node has not gives [`Refusal::NoLocator`], before all else that a
+/// call is refused by; the call's time counts.
 #[derive(Clone, Copy, Debug)]
 pub struct Node {
     raw: raw::Node,
+}
+
+/// The service that a call names.
+#[derive(Clone, Copy, Debug, PartialEq, Eq, Hash)]
+#[repr(u8)]
+pub enum ServiceName {
+    /// The one that every node has.
+    First = 0,
+    /// The other one, of a node that [`Node::new_pair`] made.
+    Second = 1,
+}
+
+impl ServiceName {
+    /// The number that C names it by.
+    #[must_use]
+    pub fn number(self) -> u8 {
+        self as u8
+    }
 }
 
 /// The inner packet of a datagram, as the part that holds it of what was lent.
@@ -51,7 +74,7 @@ pub enum Sent<'o> {
     },
 }
 
-/// The neighbour of an accepted size report, and the size now in force toward it.
+/// The neighbour of an accepted size report, and the size now in force toward it, for the service that the report belongs to.
 #[derive(Clone, Copy, Debug, PartialEq, Eq)]
 pub struct Reported {
     /// The neighbour.
@@ -80,7 +103,7 @@ pub struct Router {
 }
 
 impl Node {
-    /// A node of these settings, with all routers due at time 0.
+    /// A node of one service with these settings, and all routers due at time 0.
     ///
     /// # Errors
     /// [`Refusal::Settings`].
@@ -90,11 +113,22 @@ impl Node {
         unless(number, || node)
     }
 
+    /// A node of two services with these settings, and all routers due at time 0.
+    ///
+    /// # Errors
+    /// [`Refusal::Settings`]: of either service, or where the two share a locator address, on whatever interfaces.
+    pub fn new_pair(first: &Settings, second: &Settings) -> Result<Node, Refusal> {
+        let mut node = Node { raw: raw::Node::EMPTY };
+        let number = node.raw.set_up_pair(first.raw, second.raw);
+        unless(number, || node)
+    }
+
     /// The inner packet of a datagram that arrived on the interface, or of one that this piece completes.
     ///
     /// Up to 8 datagrams are collected at once, each of at most 2,048 bytes of payload, until 30 s from the first piece. What has come of them
-    /// stands in the memory, [`MEMORY`](crate::MEMORY) bytes or more: every call is lent the same, as the last one left it. A repeated piece is
-    /// compared with what stands there, so who writes into it turns [`Refusal::PieceWaits`] into [`Refusal::PiecesDisagree`].
+    /// stands in the memory, [`MEMORY`](crate::MEMORY) bytes or more: every call of a service is lent the same, as the last one left it. A
+    /// repeated piece is compared with what stands there, so who writes into it turns [`Refusal::PieceWaits`] into
+    /// [`Refusal::PiecesDisagree`].
     ///
     /// # Errors
     /// In this order: [`Refusal::OutputShort`] (the memory is too short), [`Refusal::OuterMalformed`], [`Refusal::OuterChecksum`],
@@ -107,12 +141,13 @@ impl Node {
     #[inline]
     pub fn receive<'d, 'm>(
         &mut self,
+        service: ServiceName,
         datagram: &'d [u8],
         interface: u8,
         time: u32,
         memory: &'m mut [u8],
     ) -> Result<Received<'d, 'm>, Refusal> {
-        let received = self.raw.receive(datagram, interface, time, memory);
+        let received = self.raw.receive(service.number(), datagram, interface, time, memory);
         let memory: &'m [u8] = memory;
         unless(received.number, || {
             if received.joined {
@@ -133,13 +168,15 @@ impl Node {
     #[inline]
     pub fn send<'o>(
         &mut self,
+        service: ServiceName,
         packet: &[u8],
         next_hop: Ipv6Addr,
         locator: usize,
         time: u32,
         out: &'o mut [u8],
     ) -> Result<Sent<'o>, Refusal> {
-        let sent = self.raw.send(packet, raw::Address { bytes: next_hop.octets() }, locator, time, out);
+        let next_hop = raw::Address { bytes: next_hop.octets() };
+        let sent = self.raw.send(service.number(), packet, next_hop, locator, time, out);
         let out: &'o [u8] = out;
         unless(sent.number, || {
             if sent.number == 0 {
@@ -150,7 +187,8 @@ impl Node {
         })
     }
 
-    /// Takes an ICMPv4 message in: a size report (type 3, code 4), quoting a datagram of ours.
+    /// Takes an ICMPv4 message in: a size report (type 3, code 4), quoting a datagram of ours. It belongs to the service whose locator it
+    /// quotes, and must be below that service's size in force.
     ///
     /// # Errors
     /// In this order: [`Refusal::ReportMalformed`], [`Refusal::QuoteNotOurs`], [`Refusal::SizeUnusable`], [`Refusal::SizeNotBelow`].
@@ -164,9 +202,9 @@ impl Node {
     ///
     /// # Errors
     /// [`Refusal::Settings`]: more than 16 routers, one twice, or one that is forbidden or a locator's address.
-    pub fn replace_routers(&mut self, routers: &[Ipv4Addr], time: u32) -> Result<(), Refusal> {
+    pub fn replace_routers(&mut self, service: ServiceName, routers: &[Ipv4Addr], time: u32) -> Result<(), Refusal> {
         let list = raw::Addresses { routers: numbers(routers), count: routers.len() };
-        let number = self.raw.replace_routers(list, time);
+        let number = self.raw.replace_routers(service.number(), list, time);
         unless(number, || ())
     }
 
@@ -174,8 +212,14 @@ impl Node {
     ///
     /// # Errors
     /// In this order: [`Refusal::NoLocator`], [`Refusal::NoRouterDue`], [`Refusal::OutputShort`].
-    pub fn ask<'o>(&mut self, locator: usize, time: u32, out: &'o mut [u8]) -> Result<Asked<'o>, Refusal> {
-        let asked = self.raw.ask(locator, time, out);
+    pub fn ask<'o>(
+        &mut self,
+        service: ServiceName,
+        locator: usize,
+        time: u32,
+        out: &'o mut [u8],
+    ) -> Result<Asked<'o>, Refusal> {
+        let asked = self.raw.ask(service.number(), locator, time, out);
         let out: &'o [u8] = out;
         unless(asked.number, || Asked { router: asked.router.into(), solicitation: &out[..crate::SOLICITATION_LENGTH] })
     }
@@ -184,8 +228,8 @@ impl Node {
     ///
     /// # Errors
     /// In this order: [`Refusal::InnerMalformed`], [`Refusal::AdvertisementInvalid`], [`Refusal::AdvertiserNotListed`].
-    pub fn hear(&mut self, packet: &[u8], time: u32) -> Result<Ipv4Addr, Refusal> {
-        let heard = self.raw.hear(packet, time);
+    pub fn hear(&mut self, service: ServiceName, packet: &[u8], time: u32) -> Result<Ipv4Addr, Refusal> {
+        let heard = self.raw.hear(service.number(), packet, time);
         unless(heard.number, || heard.router.into())
     }
 
@@ -198,21 +242,26 @@ impl Node {
     /// [`Refusal::AskerNotIsatap`], [`Refusal::OptionsBad`], [`Refusal::OutputShort`].
     pub fn advertise<'o>(
         &self,
+        service: ServiceName,
         packet: &[u8],
         locator: usize,
         advertisement: &Advertisement,
         out: &'o mut [u8],
     ) -> Result<&'o [u8], Refusal> {
-        let advertised = self.raw.advertise(packet, locator, advertisement.raw, out);
+        let advertised = self.raw.advertise(service.number(), packet, locator, advertisement.raw, out);
         let out: &'o [u8] = out;
         unless(advertised.number, || &out[..advertised.length])
     }
 
-    /// The path size in force toward the neighbour at the latest time.
-    #[must_use]
+    /// The path size in force for the service toward the neighbour, at the latest time: the smaller of the service's link size and the
+    /// size that is kept, whichever service's report that was.
+    ///
+    /// # Errors
+    /// [`Refusal::NoLocator`]: the node has no such service.
     #[inline]
-    pub fn path_size(&self, neighbour: Ipv4Addr) -> u16 {
-        self.raw.path_size(neighbour.into())
+    pub fn path_size(&self, service: ServiceName, neighbour: Ipv4Addr) -> Result<u16, Refusal> {
+        let sized = self.raw.path_size(service.number(), neighbour.into());
+        unless(sized.number, || sized.size)
     }
 
     /// The latest time seen, in seconds.
@@ -221,21 +270,38 @@ impl Node {
         self.raw.latest
     }
 
-    /// The identification of the next wrapped packet.
-    #[must_use]
-    pub fn identification(&self) -> u16 {
-        self.raw.service.identification
+    /// The identification of the service's next wrapped packet.
+    ///
+    /// # Errors
+    /// [`Refusal::NoLocator`]: the node has no such service.
+    pub fn identification(&self, service: ServiceName) -> Result<u16, Refusal> {
+        self.service(service).map(|service| service.identification)
     }
 
-    /// The settings as they were set: their routers are the first list, also after it was replaced.
-    pub fn settings(&self) -> Settings {
-        Settings { raw: self.raw.service.settings }
+    /// The service's settings as they were set: their routers are the first list, also after it was replaced.
+    ///
+    /// # Errors
+    /// [`Refusal::NoLocator`]: the node has no such service.
+    pub fn settings(&self, service: ServiceName) -> Result<Settings, Refusal> {
+        self.service(service).map(|service| Settings { raw: service.settings })
     }
 
-    /// The routers of the list now in force.
-    pub fn routers(&self) -> impl Iterator<Item = Router> + '_ {
-        let list = &self.raw.service.routers;
-        list.routers.iter().take(list.count).map(|router| Router { address: router.address.into(), due: router.due })
+    /// The routers of the service's list now in force.
+    ///
+    /// # Errors
+    /// [`Refusal::NoLocator`]: the node has no such service.
+    pub fn routers(&self, service: ServiceName) -> Result<impl Iterator<Item = Router> + '_, Refusal> {
+        let list = &self.service(service)?.routers;
+        let router = |router: &raw::Router| Router { address: router.address.into(), due: router.due };
+        Ok(list.routers.iter().take(list.count).map(router))
+    }
+
+    fn service(&self, service: ServiceName) -> Result<&raw::Service, Refusal> {
+        match service {
+            ServiceName::First => Ok(&self.raw.first),
+            ServiceName::Second if self.raw.both != 0 => Ok(&self.raw.second),
+            ServiceName::Second => Err(Refusal::NoLocator),
+        }
     }
 
     /// The state, field by field.

@@ -26,7 +26,7 @@ pub struct Locator {
     pub interface: u8,
 }
 
-/// What an operator sets. Entries behind a count are not read.
+/// What an operator sets of a service. Entries behind a count are not read.
 #[repr(C)]
 #[derive(Clone, Copy, Debug, PartialEq, Eq)]
 pub struct Settings {
@@ -115,7 +115,7 @@ pub struct Collection {
     pub places: [Place; 8],
 }
 
-/// The settings, the routers, the datagrams that are collected and the next identification.
+/// What a service has of its own.
 #[repr(C)]
 #[derive(Clone, Copy, Debug, PartialEq, Eq)]
 pub struct Service {
@@ -147,12 +147,16 @@ pub struct Paths {
 #[repr(C)]
 #[derive(Clone, Copy, Debug, PartialEq, Eq)]
 pub struct Node {
-    /// The settings, the routers, the datagrams that are collected and the next identification.
-    pub service: Service,
-    /// The accepted size reports.
+    /// Service 0.
+    pub first: Service,
+    /// Service 1, of empty settings where the node has one service.
+    pub second: Service,
+    /// The accepted size reports, of both services.
     pub paths: Paths,
     /// The latest time seen, in seconds.
     pub latest: u32,
+    /// Any value but 0: the node has the second service too.
+    pub both: u8,
 }
 
 /// A new router list.
@@ -221,7 +225,7 @@ pub struct Advertisement {
 #[repr(C)]
 #[derive(Clone, Copy, Debug, PartialEq, Eq)]
 pub struct Received {
-    /// 0, 2 to 10, 15, or 27 to 30, as the function says.
+    /// 0, 2 to 11, 15, or 27 to 30, as the function says.
     pub number: u8,
     /// Whether it stands in the memory.
     pub joined: bool,
@@ -253,7 +257,17 @@ pub struct Reported {
     pub number: u8,
     /// The neighbour of an accepted report.
     pub neighbour: u32,
-    /// The size now in force toward it.
+    /// The size now in force toward it, for the service that the report belongs to.
+    pub size: u16,
+}
+
+/// What the question for the size in force answers.
+#[repr(C)]
+#[derive(Clone, Copy, Debug, PartialEq, Eq)]
+pub struct PathSize {
+    /// 0 or 11.
+    pub number: u8,
+    /// With 0: the size in force.
     pub size: u16,
 }
 
@@ -271,7 +285,7 @@ pub struct Asked {
 #[repr(C)]
 #[derive(Clone, Copy, Debug, PartialEq, Eq)]
 pub struct Heard {
-    /// 0, 8, 20 or 21.
+    /// 0, 8, 11, 20 or 21.
     pub number: u8,
     /// The router that advertised.
     pub router: u32,
@@ -358,8 +372,10 @@ extern "C" {
     // As the header has them: pointers valid for their lengths, or null with a length of 0.
     pub fn bogtrumpet_defaults(settings: Settings) -> Settings;
     pub fn bogtrumpet_new(node: *mut Node, settings: Settings) -> u8;
+    pub fn bogtrumpet_new_pair(node: *mut Node, first: Settings, second: Settings) -> u8;
     pub fn bogtrumpet_receive(
         node: *mut Node,
+        service: u8,
         datagram: *const u8,
         length: usize,
         interface: u8,
@@ -369,6 +385,7 @@ extern "C" {
     ) -> Received;
     pub fn bogtrumpet_send(
         node: *mut Node,
+        service: u8,
         packet: *const u8,
         length: usize,
         next_hop: Address,
@@ -378,11 +395,12 @@ extern "C" {
         room: usize,
     ) -> Sent;
     pub fn bogtrumpet_report(node: *mut Node, message: *const u8, length: usize, time: u32) -> Reported;
-    pub fn bogtrumpet_replace_routers(node: *mut Node, list: Addresses, time: u32) -> u8;
-    pub fn bogtrumpet_ask(node: *mut Node, locator: usize, time: u32, out: *mut u8, room: usize) -> Asked;
-    pub fn bogtrumpet_hear(node: *mut Node, packet: *const u8, length: usize, time: u32) -> Heard;
+    pub fn bogtrumpet_replace_routers(node: *mut Node, service: u8, list: Addresses, time: u32) -> u8;
+    pub fn bogtrumpet_ask(node: *mut Node, service: u8, locator: usize, time: u32, out: *mut u8, room: usize) -> Asked;
+    pub fn bogtrumpet_hear(node: *mut Node, service: u8, packet: *const u8, length: usize, time: u32) -> Heard;
     pub fn bogtrumpet_advertise(
         node: *const Node,
+        service: u8,
         packet: *const u8,
         length: usize,
         locator: usize,
@@ -390,7 +408,7 @@ extern "C" {
         out: *mut u8,
         room: usize,
     ) -> Advertised;
-    pub fn bogtrumpet_path_size(node: *const Node, neighbour: u32) -> u16;
+    pub fn bogtrumpet_path_size(node: *const Node, service: u8, neighbour: u32) -> PathSize;
 
     pub fn bogtrumpet_checksum(start: u32, bytes: *const u8, length: usize) -> u16;
     pub fn bogtrumpet_checksum_right(bytes: *const u8, length: usize) -> bool;
@@ -450,41 +468,64 @@ impl Place {
     };
 }
 
+impl Service {
+    /// The service of empty settings: all values 0.
+    pub const EMPTY: Service = Service {
+        settings: Settings::EMPTY,
+        routers: RouterList { routers: [Router { address: 0, due: 0 }; 16], count: 0 },
+        pieces: Collection { places: [Place::EMPTY; 8] },
+        identification: 0,
+    };
+}
+
+/// The service is 0 or 1. Every other number, and a service that the node has not, gives 11 before the numbers that stand at the call.
 impl Node {
     /// The node of empty settings: all values 0.
     pub const EMPTY: Node = Node {
-        service: Service {
-            settings: Settings::EMPTY,
-            routers: RouterList { routers: [Router { address: 0, due: 0 }; 16], count: 0 },
-            pieces: Collection { places: [Place::EMPTY; 8] },
-            identification: 0,
-        },
+        first: Service::EMPTY,
+        second: Service::EMPTY,
         paths: Paths { neighbours: [0; 64], sizes: [0; 64], times: [0; 64], count: 0 },
         latest: 0,
+        both: 0,
     };
 
-    /// Fills the node, whatever stood there. Numbers: 1.
+    /// Fills the node, whatever stood there: a node of one service. Numbers: 1.
     #[must_use]
     #[inline]
     pub fn set_up(&mut self, settings: Settings) -> u8 {
         unsafe { bogtrumpet_new(self, settings) }
     }
 
+    /// Fills the node, whatever stood there: a node of two services. Numbers: 1.
+    #[must_use]
+    #[inline]
+    pub fn set_up_pair(&mut self, first: Settings, second: Settings) -> u8 {
+        unsafe { bogtrumpet_new_pair(self, first, second) }
+    }
+
     /// Numbers, in this order: 15, 2, 3, 4, 6, 7; then of a piece 30, 29, 28, 27; then of a whole datagram, and of what a piece completes,
     /// 8, 9, 10.
     #[must_use]
     #[inline]
-    pub fn receive(&mut self, datagram: &[u8], interface: u8, time: u32, memory: &mut [u8]) -> Received {
+    pub fn receive(&mut self, service: u8, datagram: &[u8], interface: u8, time: u32, memory: &mut [u8]) -> Received {
         let (bytes, room) = (memory.as_mut_ptr(), memory.len());
-        unsafe { bogtrumpet_receive(self, datagram.as_ptr(), datagram.len(), interface, time, bytes, room) }
+        unsafe { bogtrumpet_receive(self, service, datagram.as_ptr(), datagram.len(), interface, time, bytes, room) }
     }
 
     /// Numbers, in this order: 8, 11, 12, 13, 14, 23, 15.
     #[must_use]
     #[inline]
-    pub fn send(&mut self, packet: &[u8], next_hop: Address, locator: usize, time: u32, out: &mut [u8]) -> Sent {
+    pub fn send(
+        &mut self,
+        service: u8,
+        packet: &[u8],
+        next_hop: Address,
+        locator: usize,
+        time: u32,
+        out: &mut [u8],
+    ) -> Sent {
         let (output, room) = (out.as_mut_ptr(), out.len());
-        unsafe { bogtrumpet_send(self, packet.as_ptr(), packet.len(), next_hop, locator, time, output, room) }
+        unsafe { bogtrumpet_send(self, service, packet.as_ptr(), packet.len(), next_hop, locator, time, output, room) }
     }
 
     /// Numbers, in this order: 16, 17, 18, 19.
@@ -497,39 +538,46 @@ impl Node {
     /// The number: 0, or 1.
     #[must_use]
     #[inline]
-    pub fn replace_routers(&mut self, list: Addresses, time: u32) -> u8 {
-        unsafe { bogtrumpet_replace_routers(self, list, time) }
+    pub fn replace_routers(&mut self, service: u8, list: Addresses, time: u32) -> u8 {
+        unsafe { bogtrumpet_replace_routers(self, service, list, time) }
     }
 
     /// Numbers, in this order: 11, 22, 15.
     #[must_use]
     #[inline]
-    pub fn ask(&mut self, locator: usize, time: u32, out: &mut [u8]) -> Asked {
-        unsafe { bogtrumpet_ask(self, locator, time, out.as_mut_ptr(), out.len()) }
+    pub fn ask(&mut self, service: u8, locator: usize, time: u32, out: &mut [u8]) -> Asked {
+        unsafe { bogtrumpet_ask(self, service, locator, time, out.as_mut_ptr(), out.len()) }
     }
 
     /// Numbers, in this order: 8, 20, 21.
     #[must_use]
     #[inline]
-    pub fn hear(&mut self, packet: &[u8], time: u32) -> Heard {
-        unsafe { bogtrumpet_hear(self, packet.as_ptr(), packet.len(), time) }
+    pub fn hear(&mut self, service: u8, packet: &[u8], time: u32) -> Heard {
+        unsafe { bogtrumpet_hear(self, service, packet.as_ptr(), packet.len(), time) }
     }
 
     /// Numbers, in this order: 8, 11, 24, 25, 26, 15.
     #[must_use]
     #[inline]
-    pub fn advertise(&self, packet: &[u8], locator: usize, advertisement: Advertisement, out: &mut [u8]) -> Advertised {
+    pub fn advertise(
+        &self,
+        service: u8,
+        packet: &[u8],
+        locator: usize,
+        advertisement: Advertisement,
+        out: &mut [u8],
+    ) -> Advertised {
+        let (bytes, room) = (out.as_mut_ptr(), out.len());
         unsafe {
-            let (bytes, room) = (out.as_mut_ptr(), out.len());
-            bogtrumpet_advertise(self, packet.as_ptr(), packet.len(), locator, advertisement, bytes, room)
+            bogtrumpet_advertise(self, service, packet.as_ptr(), packet.len(), locator, advertisement, bytes, room)
         }
     }
 
-    /// The path size in force toward the neighbour at the latest time.
+    /// The path size in force for the service toward the neighbour, at the latest time.
     #[must_use]
     #[inline]
-    pub fn path_size(&self, neighbour: u32) -> u16 {
-        unsafe { bogtrumpet_path_size(self, neighbour) }
+    pub fn path_size(&self, service: u8, neighbour: u32) -> PathSize {
+        unsafe { bogtrumpet_path_size(self, service, neighbour) }
     }
 }
 
@@ -612,10 +660,12 @@ pub fn solicitation(locator: u32, router: u32, out: &mut [u8]) -> Written {
 
 // The header asserts the same of the C structs, and the places of all fields.
 const _: () = {
-    assert!(size_of::<Node>() == 1616 && align_of::<Node>() == 8, "the archive is for 64-bit targets");
-    assert!(offset_of!(Node, paths) == 960 && offset_of!(Node, latest) == 1608);
+    assert!(size_of::<Node>() == 2576 && align_of::<Node>() == 8, "the archive is for 64-bit targets");
+    assert!(offset_of!(Node, second) == 960 && offset_of!(Node, paths) == 1920);
+    assert!(offset_of!(Node, latest) == 2568 && offset_of!(Node, both) == 2572);
     assert!(size_of::<Settings>() == 240 && size_of::<Paths>() == 648 && size_of::<Sent>() == 24);
     assert!(size_of::<Key>() == 12 && size_of::<Place>() == 56 && size_of::<Received>() == 24);
+    assert!(size_of::<PathSize>() == 4 && offset_of!(PathSize, size) == 2);
     assert!(
         size_of::<AdvertisedPrefix>() == 28 && size_of::<AdvertisedRoute>() == 24 && size_of::<Advertisement>() == 440
     );

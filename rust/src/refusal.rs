@@ -44,8 +44,8 @@ macro_rules! refusals {
 }
 
 refusals! {
-    /// Settings or a new router list break the rules.
-    Settings 1 "settings or a new router list break the rules";
+    /// Settings or a new router list break the rules, or two services share a locator address.
+    Settings 1 "settings or a new router list break the rules, or two services share a locator address";
     /// The outer header is malformed.
     OuterMalformed 2 "outer header malformed";
     /// The outer checksum is wrong.
@@ -64,8 +64,8 @@ refusals! {
     InnerSourceBad 9 "inner source bad";
     /// The outer source is wrong for the inner source.
     OuterSourceWrong 10 "outer source wrong for the inner source";
-    /// There is no locator of that number.
-    NoLocator 11 "no locator of that number";
+    /// There is no locator of that number, or the node has no such service.
+    NoLocator 11 "no locator of that number, or no such service";
     /// The next hop is no ISATAP address.
     NextHopNotIsatap 12 "next hop is no ISATAP address";
     /// The tunnel end is forbidden, or a locator's address.

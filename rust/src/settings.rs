@@ -33,7 +33,7 @@ impl From<Ipv6Addr> for Prefix {
     }
 }
 
-/// What an operator sets: what [`Settings::new`] is given, and defaults that each have a method.
+/// What an operator sets of a service: what [`Settings::new`] is given, and defaults that each have a method.
 ///
 /// Settings of any values can be made; [`Node::new`](crate::Node::new) refuses those that break a rule.
 ///

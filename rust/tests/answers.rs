@@ -1,6 +1,7 @@
 //! Each answer of the safe interface against the C interface's own, on calls that meet every refusal that a safe caller can.
 
 use bogtrumpet::rules::{self, link_local, Outer};
+use bogtrumpet::ServiceName::{First, Second};
 use bogtrumpet::{AdvertisedPrefix, AdvertisedRoute, Advertisement, Preference};
 use bogtrumpet::{Locator, Node, Prefix, Received, Refusal, Sent, Settings, MEMORY};
 use std::net::{Ipv4Addr, Ipv6Addr};
@@ -70,8 +71,8 @@ fn settings() {
         assert!(Node::new(&broken).is_err(), "{broken:?}");
     }
     let node = Node::new(&settings.identification(9).routers(&routers[..2])).unwrap();
-    assert_eq!((node.identification(), node.latest(), node.routers().count()), (9, 0, 2));
-    assert_eq!(node.settings(), settings.identification(9).routers(&routers[..2]));
+    assert_eq!((node.identification(First), node.latest(), node.routers(First).unwrap().count()), (Ok(9), 0, 2));
+    assert_eq!(node.settings(First), Ok(settings.identification(9).routers(&routers[..2])));
 }
 
 #[test]
@@ -80,11 +81,11 @@ fn receiving() {
     let mut memory = [0x55; MEMORY];
     let inner = packet(60, link_local(NEIGHBOUR));
     let good = datagram(&inner, NEIGHBOUR);
-    assert_eq!(node.receive(&good, 7, 5, &mut memory), Ok(Received::Whole(&inner)));
-    assert_eq!(node.receive(&good, 8, 5, &mut memory), Err(Refusal::NotForUs));
-    assert_eq!(node.receive(&good[..19], 7, 5, &mut memory), Err(Refusal::OuterMalformed));
-    assert_eq!(node.receive(&[], 7, 5, &mut memory), Err(Refusal::OuterMalformed));
-    assert_eq!(node.receive(&good, 7, 6, &mut memory[1..]), Err(Refusal::OutputShort));
+    assert_eq!(node.receive(First, &good, 7, 5, &mut memory), Ok(Received::Whole(&inner)));
+    assert_eq!(node.receive(First, &good, 8, 5, &mut memory), Err(Refusal::NotForUs));
+    assert_eq!(node.receive(First, &good[..19], 7, 5, &mut memory), Err(Refusal::OuterMalformed));
+    assert_eq!(node.receive(First, &[], 7, 5, &mut memory), Err(Refusal::OuterMalformed));
+    assert_eq!(node.receive(First, &good, 7, 6, &mut memory[1..]), Err(Refusal::OutputShort));
     assert_eq!(node.latest(), 6);
     let mut changed = |at: usize, value: u8| {
         let mut datagram = good.clone();
@@ -92,7 +93,7 @@ fn receiving() {
         if at < 20 {
             repair(&mut datagram[..20], 10, 0);
         }
-        node.receive(&datagram, 7, 5, &mut memory).map(|received| received.packet().len())
+        node.receive(First, &datagram, 7, 5, &mut memory).map(|received| received.packet().len())
     };
     assert_eq!(changed(9, 17), Err(Refusal::OtherProtocol));
     assert_eq!(changed(12, 127), Err(Refusal::OuterSourceForbidden));
@@ -101,7 +102,7 @@ fn receiving() {
     assert_eq!(changed(15, 2), Err(Refusal::OuterSourceWrong));
     let mut wrong = good.clone();
     wrong[10] ^= 1;
-    assert_eq!(node.receive(&wrong, 7, 5, &mut memory), Err(Refusal::OuterChecksum));
+    assert_eq!(node.receive(First, &wrong, 7, 5, &mut memory), Err(Refusal::OuterChecksum));
     assert!(memory == [0x55; MEMORY]);
 }
 
@@ -125,18 +126,18 @@ fn joining() {
     let (first, last) = (piece(&whole, 0..48, true), piece(&whole, 48..100, false));
     for (one, other) in [(&first, &last), (&last, &first)] {
         for _ in 0..2 {
-            assert_eq!(node.receive(one, 7, 5, &mut memory), Err(Refusal::PieceWaits));
+            assert_eq!(node.receive(First, one, 7, 5, &mut memory), Err(Refusal::PieceWaits));
         }
-        assert_eq!(node.receive(other, 7, 34, &mut memory), Ok(Received::Joined(&inner)));
+        assert_eq!(node.receive(First, other, 7, 34, &mut memory), Ok(Received::Joined(&inner)));
         assert_eq!(memory[..100], inner);
-        assert_eq!(node.receive(&whole, 7, 34, &mut memory), Ok(Received::Whole(&inner)));
-        node = Node::new(&node.settings()).unwrap();
+        assert_eq!(node.receive(First, &whole, 7, 34, &mut memory), Ok(Received::Whole(&inner)));
+        node = Node::new(&node.settings(First).unwrap()).unwrap();
     }
     assert!(memory[100..].iter().all(|&byte| byte == 0x55));
     // After 30 s the first piece is gone, and this one is the first of another datagram.
-    assert_eq!(node.receive(&first, 7, 5, &mut memory), Err(Refusal::PieceWaits));
-    assert_eq!(node.receive(&last, 7, 35, &mut memory), Err(Refusal::PieceWaits));
-    assert_eq!(node.receive(&first, 7, 36, &mut memory).map(Received::packet), Ok(&inner[..]));
+    assert_eq!(node.receive(First, &first, 7, 5, &mut memory), Err(Refusal::PieceWaits));
+    assert_eq!(node.receive(First, &last, 7, 35, &mut memory), Err(Refusal::PieceWaits));
+    assert_eq!(node.receive(First, &first, 7, 36, &mut memory).map(Received::packet), Ok(&inner[..]));
 }
 
 #[test]
@@ -145,7 +146,8 @@ fn joining_refused() {
     let mut memory = [0; MEMORY];
     let whole = datagram(&packet(100, link_local(ROUTER)), NEIGHBOUR);
     let (first, last) = (piece(&whole, 0..48, true), piece(&whole, 48..100, false));
-    let mut receive = |piece: &[u8]| node.receive(piece, 7, 5, &mut memory).map(|received| received.packet().len());
+    let mut receive =
+        |piece: &[u8]| node.receive(First, piece, 7, 5, &mut memory).map(|received| received.packet().len());
     assert_eq!(receive(&piece(&whole, 0..47, true)), Err(Refusal::PieceUnfit));
     assert_eq!(receive(&piece(&whole, 0..0, true)), Err(Refusal::PieceUnfit));
     assert_eq!(receive(&first), Err(Refusal::PieceWaits));
@@ -170,18 +172,18 @@ fn sending() {
     let (small, large) = (packet(60, link_local(OWN)), packet(1481, link_local(OWN)));
     let mut out = [0x55; 1600];
     let to = link_local(NEIGHBOUR);
-    let Ok(Sent::Wrapped(written)) = node.send(&small, to, 0, 5, &mut out) else { panic!("60 bytes pass") };
+    let Ok(Sent::Wrapped(written)) = node.send(First, &small, to, 0, 5, &mut out) else { panic!("60 bytes pass") };
     assert_eq!((written.len(), &written[20..]), (80, &small[..]));
     assert!(out[80..].iter().all(|&byte| byte == 0x55));
-    let Ok(Sent::TooBig { size, message: Some(message) }) = node.send(&large, to, 0, 5, &mut out) else {
+    let Ok(Sent::TooBig { size, message: Some(message) }) = node.send(First, &large, to, 0, 5, &mut out) else {
         panic!("1481 bytes are too big")
     };
     assert_eq!((size, message.len()), (1480, 1280));
     let unanswered = packet(1481, Ipv6Addr::UNSPECIFIED);
-    assert_eq!(node.send(&unanswered, to, 0, 5, &mut []), Ok(Sent::TooBig { size: 1480, message: None }));
+    assert_eq!(node.send(First, &unanswered, to, 0, 5, &mut []), Ok(Sent::TooBig { size: 1480, message: None }));
     let mut refused = |packet: &[u8], to, locator, room: usize| {
         let before = out;
-        let refusal = node.send(packet, to, locator, 5, &mut out[..room]).unwrap_err();
+        let refusal = node.send(First, packet, to, locator, 5, &mut out[..room]).unwrap_err();
         assert!(before == out);
         refusal
     };
@@ -191,7 +193,7 @@ fn sending() {
     assert_eq!(refused(&small, link_local(OWN), 0, 80), Refusal::TunnelEndForbidden);
     assert_eq!(refused(&small, to, 0, 79), Refusal::OutputShort);
     assert_eq!(refused(&large, to, 0, 1279), Refusal::OutputShort);
-    assert_eq!((node.identification(), node.latest()), (2, 5));
+    assert_eq!((node.identification(First), node.latest()), (Ok(2), 5));
 }
 
 #[test]
@@ -209,7 +211,7 @@ fn too_big_behind_extension_headers() {
         for &(at, value) in changes {
             packet[at] = value;
         }
-        match node.send(&packet, to, 0, 5, &mut out[..room])? {
+        match node.send(First, &packet, to, 0, 5, &mut out[..room])? {
             Sent::TooBig { size: 1480, message } => Ok(message.map(<[u8]>::len)),
             other => panic!("1481 bytes are too big: {other:?}"),
         }
@@ -233,34 +235,39 @@ fn reports() {
     assert_eq!(node.report(&report(1500, OWN), 1), Err(Refusal::SizeNotBelow));
     let reported = node.report(&report(1400, OWN), 1).unwrap();
     assert_eq!((reported.neighbour, reported.size), (NEIGHBOUR, 1400));
-    assert_eq!((node.path_size(NEIGHBOUR), node.path_size(ROUTER)), (1400, 1500));
+    assert_eq!((node.path_size(First, NEIGHBOUR), node.path_size(First, ROUTER)), (Ok(1400), Ok(1500)));
+}
+
+/// When the routers of the first service are due.
+fn due(node: &Node) -> Vec<u64> {
+    node.routers(First).unwrap().map(|router| router.due).collect()
 }
 
 #[test]
 fn routers() {
     let mut node = node();
     let mut out = [0; 48];
-    assert_eq!(node.ask(1, 10, &mut out), Err(Refusal::NoLocator));
-    assert_eq!(node.ask(0, 10, &mut out[..47]), Err(Refusal::OutputShort));
-    let asked = node.ask(0, 10, &mut out).unwrap();
+    assert_eq!(node.ask(First, 1, 10, &mut out), Err(Refusal::NoLocator));
+    assert_eq!(node.ask(First, 0, 10, &mut out[..47]), Err(Refusal::OutputShort));
+    let asked = node.ask(First, 0, 10, &mut out).unwrap();
     assert_eq!((asked.router, asked.solicitation.len(), asked.solicitation[40]), (ROUTER, 48, 133));
-    assert_eq!(node.ask(0, 11, &mut out), Err(Refusal::NoRouterDue));
-    assert_eq!(node.hear(&[], 12), Err(Refusal::InnerMalformed));
-    assert_eq!(node.hear(&packet(56, link_local(ROUTER)), 12), Err(Refusal::AdvertisementInvalid));
-    assert_eq!(node.hear(&advertisement(NEIGHBOUR), 12), Err(Refusal::AdvertiserNotListed));
-    assert_eq!(node.hear(&advertisement(ROUTER), 12), Ok(ROUTER));
-    assert_eq!(node.routers().map(|router| router.due).collect::<Vec<_>>(), [3612]);
-    assert_eq!(node.replace_routers(&[OWN], 13), Err(Refusal::Settings));
-    assert_eq!(node.replace_routers(&[Ipv4Addr::new(10, 2, 0, 2); 17], 13), Err(Refusal::Settings));
-    assert_eq!(node.replace_routers(&[NEIGHBOUR, ROUTER], 13), Ok(()));
-    assert_eq!(node.routers().map(|router| router.due).collect::<Vec<_>>(), [13, 3612]);
+    assert_eq!(node.ask(First, 0, 11, &mut out), Err(Refusal::NoRouterDue));
+    assert_eq!(node.hear(First, &[], 12), Err(Refusal::InnerMalformed));
+    assert_eq!(node.hear(First, &packet(56, link_local(ROUTER)), 12), Err(Refusal::AdvertisementInvalid));
+    assert_eq!(node.hear(First, &advertisement(NEIGHBOUR), 12), Err(Refusal::AdvertiserNotListed));
+    assert_eq!(node.hear(First, &advertisement(ROUTER), 12), Ok(ROUTER));
+    assert_eq!(due(&node), [3612]);
+    assert_eq!(node.replace_routers(First, &[OWN], 13), Err(Refusal::Settings));
+    assert_eq!(node.replace_routers(First, &[Ipv4Addr::new(10, 2, 0, 2); 17], 13), Err(Refusal::Settings));
+    assert_eq!(node.replace_routers(First, &[NEIGHBOUR, ROUTER], 13), Ok(()));
+    assert_eq!(due(&node), [13, 3612]);
 }
 
 /// The solicitation that a station with the router `OWN` writes, and the station.
 fn asking() -> (Node, [u8; 48]) {
     let mut station = Node::new(&Settings::new(&[Locator::new(NEIGHBOUR, 0)]).routers(&[OWN])).unwrap();
     let mut out = [0; 48];
-    assert_eq!(station.ask(0, 10, &mut out).map(|asked| asked.router), Ok(OWN));
+    assert_eq!(station.ask(First, 0, 10, &mut out).map(|asked| asked.router), Ok(OWN));
     (station, out)
 }
 
@@ -279,19 +286,22 @@ fn advertising() {
     let (prefix, route) = advertised();
     let advertisement = Advertisement::new(1200).managed(true).prefixes(&[prefix]).routes(&[route]);
     let mut out = [0x55; 600];
-    let written = node.advertise(&asks, 0, &advertisement, &mut out).unwrap();
+    let written = node.advertise(First, &asks, 0, &advertisement, &mut out).unwrap();
     assert_eq!((written.len(), &written[8..24], &written[24..40]), (104, &asks[24..40], &asks[8..24]));
     assert_eq!(written[44..56], [0, 0x80, 0x04, 0xb0, 0, 0, 0, 0, 0, 0, 0, 0]);
     assert_eq!(written[56..72], [3, 4, 64, 0x40, 0, 0, 7, 8, 0, 0, 2, 0x58, 0, 0, 0, 0]);
     assert_eq!(written[72..88], [0x20, 1, 0x0d, 0xb8, 0, 1, 0, 2, 0, 0, 0, 0, 0, 0, 0, 0]);
     assert_eq!(written[88..104], [24, 2, 33, 8, 0, 0, 3, 0x84, 0x20, 1, 0x0d, 0xb8, 0x80, 0, 0, 0]);
-    assert_eq!(station.hear(written, 20), Ok(OWN));
+    assert_eq!(station.hear(First, written, 20), Ok(OWN));
     assert!(out[104..].iter().all(|&byte| byte == 0x55));
     let flags = Advertisement::new(0).other(true).routes(&[AdvertisedRoute { preference: Preference::Low, ..route }]);
-    let written = node.advertise(&asks, 0, &flags, &mut out).unwrap();
+    let written = node.advertise(First, &asks, 0, &flags, &mut out).unwrap();
     assert_eq!((written.len(), written[45], written[59]), (72, 0x40, 0x18));
     let full = advertisement.prefixes(&[prefix; 8]).routes(&[AdvertisedRoute { length: 128, ..route }; 8]);
-    assert_eq!(node.advertise(&asks, 0, &full, &mut out).map(<[u8]>::len), Ok(bogtrumpet::MAX_ADVERTISEMENT_LENGTH));
+    assert_eq!(
+        node.advertise(First, &asks, 0, &full, &mut out).map(<[u8]>::len),
+        Ok(bogtrumpet::MAX_ADVERTISEMENT_LENGTH)
+    );
 }
 
 #[test]
@@ -302,7 +312,7 @@ fn advertising_refused() {
     let good = Advertisement::new(1200).prefixes(&[prefix]).routes(&[route]);
     let refused = |packet: &[u8], locator, advertisement: &Advertisement, room| {
         let mut out = [0x55; 104];
-        let refusal = node.advertise(packet, locator, advertisement, &mut out[..room]).unwrap_err();
+        let refusal = node.advertise(First, packet, locator, advertisement, &mut out[..room]).unwrap_err();
         assert!(out == [0x55; 104]);
         refusal
     };
@@ -321,6 +331,96 @@ fn advertising_refused() {
     assert_eq!(refused(&asks, 0, &good.routes(&[route; 9]), 104), Refusal::OptionsBad);
     assert_eq!(refused(&asks, 0, &good.routes(&[AdvertisedRoute { length: 129, ..route }]), 104), Refusal::OptionsBad);
     assert_eq!(refused(&asks, 0, &good, 103), Refusal::OutputShort);
+}
+
+const OTHER: Ipv4Addr = Ipv4Addr::new(10, 0, 0, 2);
+
+/// A second service, on another link, to which the first one's locator is a router.
+fn other() -> Settings {
+    Settings::new(&[Locator::new(OTHER, 7)]).routers(&[OWN]).link_size(9000).identification(9)
+}
+
+fn pair() -> Node {
+    let first = Settings::new(&[Locator::new(OWN, 7)]).routers(&[ROUTER, OTHER]);
+    Node::new_pair(&first, &other()).expect("settings within the rules")
+}
+
+#[test]
+fn two_services() {
+    let mut node = pair();
+    assert_eq!((node.path_size(First, NEIGHBOUR), node.path_size(Second, NEIGHBOUR)), (Ok(1500), Ok(9000)));
+    // A size above the link size of the one is kept for the other alone; a smaller one is for both.
+    assert_eq!(node.report(&report(5000, OWN), 1), Err(Refusal::SizeNotBelow));
+    for (size, in_force) in [(5000, 1500), (1400, 1400)] {
+        let reported = node.report(&report(size, OTHER), 1).unwrap();
+        assert_eq!((reported.neighbour, reported.size), (NEIGHBOUR, size));
+        assert_eq!((node.path_size(First, NEIGHBOUR), node.path_size(Second, NEIGHBOUR)), (Ok(in_force), Ok(size)));
+    }
+    let (packet, mut out) = (packet(60, link_local(OWN)), [0; 80]);
+    // Our own is the named service's alone.
+    assert!(node.send(First, &packet, link_local(OTHER), 0, 2, &mut out).is_ok());
+    assert_eq!(node.send(Second, &packet, link_local(OTHER), 0, 3, &mut out), Err(Refusal::TunnelEndForbidden));
+    assert_eq!((node.identification(First), node.identification(Second), node.latest()), (Ok(2), Ok(9), 3));
+    assert_eq!(node.ask(Second, 0, 4, &mut out).map(|asked| asked.router), Ok(OWN));
+    assert_eq!(node.replace_routers(Second, &[], 5), Ok(()));
+    assert_eq!((node.routers(First).unwrap().count(), node.routers(Second).unwrap().count()), (2, 0));
+    assert_eq!(node.settings(Second), Ok(other()));
+}
+
+#[test]
+fn two_collections() {
+    let mut node = pair();
+    let mut memories = vec![[0; MEMORY]; 2];
+    let inner = packet(100, link_local(NEIGHBOUR));
+    let wholes = [OWN, OTHER].map(|destination| {
+        let mut whole = datagram(&inner, NEIGHBOUR);
+        whole[16..20].copy_from_slice(&destination.octets());
+        repair(&mut whole[..20], 10, 0);
+        whole
+    });
+    for (part, more) in [(0..48, true), (48..100, false)] {
+        for ((service, whole), memory) in [First, Second].into_iter().zip(&wholes).zip(&mut memories) {
+            let piece = piece(whole, part.clone(), more);
+            let other = if service == First { Second } else { First };
+            assert_eq!(node.receive(other, &piece, 7, 5, memory), Err(Refusal::NotForUs));
+            let expected = if more { Err(Refusal::PieceWaits) } else { Ok(Received::Joined(&inner)) };
+            assert_eq!(node.receive(service, &piece, 7, 5, memory), expected);
+        }
+    }
+}
+
+#[test]
+fn no_second_service() {
+    let mut node = node();
+    let (mut out, mut memory) = ([0x55; 48], [0x55; MEMORY]);
+    let absent = Refusal::NoLocator;
+    assert_eq!(node.receive(Second, &[], 7, 1, &mut memory), Err(absent));
+    assert_eq!(node.receive(Second, &[], 7, 2, &mut []), Err(absent));
+    assert_eq!(node.send(Second, &[], link_local(OWN), 0, 3, &mut out), Err(absent));
+    assert_eq!(node.replace_routers(Second, &[OWN], 4), Err(absent));
+    assert_eq!(node.ask(Second, 0, 5, &mut out), Err(absent));
+    assert_eq!(node.hear(Second, &[], 6), Err(absent));
+    assert_eq!(node.advertise(Second, &[], 0, &Advertisement::new(0), &mut out), Err(absent));
+    assert_eq!(node.path_size(Second, NEIGHBOUR), Err(absent));
+    assert_eq!((node.identification(Second), node.settings(Second)), (Err(absent), Err(absent)));
+    assert!(node.routers(Second).is_err() && out == [0x55; 48] && memory == [0x55; MEMORY]);
+    assert_eq!(node.latest(), 6);
+}
+
+#[test]
+fn settings_of_two() {
+    let settings = |address, interface| Settings::new(&[Locator::new(address, interface)]);
+    assert!(Node::new_pair(&settings(OWN, 7), &settings(OTHER, 7)).is_ok());
+    let broken = [
+        (settings(OWN, 7), settings(OWN, 7)),
+        (settings(OWN, 7), settings(OWN, 8)),
+        (settings(OWN, 7).ttl(0), settings(OTHER, 7)),
+        (settings(OWN, 7), settings(OTHER, 7).ttl(0)),
+        (settings(OWN, 7), Settings::new(&[])),
+    ];
+    for (first, second) in broken {
+        assert_eq!(Node::new_pair(&first, &second).unwrap_err(), Refusal::Settings);
+    }
 }
 
 #[test]

@@ -13,7 +13,7 @@ use bogtrumpet::raw::{AdvertisedPrefix, AdvertisedRoute, Advertisement};
 const ASKER: u32 = 0x0a01_0009;
 
 pub fn edges(check: &mut Check) {
-    let mut ends = Ends { writer: node(check, &settings()), hearer: advertised::hearer(check, &settings()) };
+    let mut ends = Ends { writer: node(check, &settings()), hearer: advertised::hearer(check, &[settings()]) };
     counts(check, &mut ends);
     lengths(check, &mut ends);
     bytes(check, &mut ends);
@@ -115,7 +115,7 @@ fn bytes(check: &mut Check, ends: &mut Ends) {
 
 /// Lifetimes that do not count, and those whose half is about the interval: at each place alone and together.
 fn lifetimes(check: &mut Check, ends: &mut Ends) {
-    let interval = u32::from(ends.hearer.plain.settings().interval);
+    let interval = u32::from(ends.hearer.named().settings().interval);
     let values = [0, 1, 2, 2 * interval, 2 * interval + 1, 2 * interval + 2, 7200, 0xffff, u32::MAX - 1, u32::MAX];
     for router in values {
         for valid in values {
@@ -235,7 +235,7 @@ fn locators(check: &mut Check) {
     let mut packet = packets::solicitation(&mut check.random, &link_local(ASKER), &[]);
     for count in 1..=8 {
         full.locator_count = count;
-        let (writer, mut hearer) = (node(check, &full), advertised::hearer(check, &full));
+        let (writer, mut hearer) = (node(check, &full), advertised::hearer(check, &[full]));
         for number in (0..20).chain([255, 256, 1 << 16, 1 << 32, (1 << 32) + 1, usize::MAX]) {
             let advertised = counted(1, 3);
             if let Ok(written) = writer.advertise(check, &packet, number, &advertised, LONGEST) {

@@ -88,12 +88,12 @@ fn lifetime(random: &mut Random) -> u32 {
     }
 }
 
-/// A node that lists the locators of these settings, among others, and has another interval.
-pub fn hearer(check: &mut Check, writer: &Settings) -> Nodes {
+/// A node that lists the locators of these services, among others, and has another interval.
+pub fn hearer(check: &mut Check, writers: &[Settings]) -> Nodes {
     let mut settings = Settings { locator_count: 1, router_count: 2, ..Settings::default() };
     settings.locators[0] = Locator { address: 0x0a05_0001, interface: 0 };
     settings.routers[..2].copy_from_slice(&[0x0a05_0002, 0x0a05_0003]);
-    for locator in &writer.locators[..writer.locator_count] {
+    for locator in writers.iter().flat_map(|writer| &writer.locators[..writer.locator_count]) {
         if !settings.routers[..settings.router_count].contains(&locator.address) {
             settings.routers[settings.router_count] = locator.address;
             settings.router_count += 1;
@@ -113,7 +113,7 @@ pub fn heard(
     time: u32,
 ) {
     let number = hearer.hear(check, written, time);
-    let service = &hearer.library.service;
+    let service = &hearer.library.first;
     let routers = &service.routers.routers[..service.routers.count];
     let given = routers.iter().find(|router| router.address == writer).map(|router| router.due);
     let wait = smallest(advertised).map_or(3600, |lifetime| (lifetime / 2).max(service.settings.interval.into()));

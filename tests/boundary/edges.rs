@@ -11,7 +11,7 @@ use crate::stateless;
 
 pub const LOCATOR: u32 = 0x0a00_0001;
 pub const NEIGHBOUR: u32 = 0x0a01_0001;
-const ROUTER: u32 = 0x0a02_0001;
+pub const ROUTER: u32 = 0x0a02_0001;
 const PREFIX: [u8; 8] = [0x20, 0x01, 0x0d, 0xb8, 0, 0, 0, 1];
 pub const SOURCE: Address = [0x20, 1, 0xd, 0xb8, 0, 0, 0, 9, 0, 0, 0, 0, 0, 0, 0, 9];
 
@@ -87,7 +87,7 @@ fn ages(check: &mut Check) {
             for (size, after) in [(1400, 0), (1400, age / 2), (1401, age / 2), (1399, age), (1500, age), (1499, age)] {
                 let message = report(&mut check.random, size, NEIGHBOUR);
                 nodes.report(check, &message, start.saturating_add(after));
-                nodes.path_size(check, NEIGHBOUR);
+                _ = nodes.path_size(check, NEIGHBOUR);
                 send(check, &mut nodes, 1380, start.saturating_add(after));
             }
             // An earlier time is read as the latest.
@@ -113,7 +113,7 @@ fn neighbours(check: &mut Check) {
             }
             if [1, 2, 61, 62, 63, 64, 65, 66, 127, 128, 130].contains(&other) {
                 for neighbour in 0..=131 {
-                    nodes.path_size(check, NEIGHBOUR + neighbour);
+                    _ = nodes.path_size(check, NEIGHBOUR + neighbour);
                 }
             }
         }
@@ -131,7 +131,7 @@ fn plateaus(check: &mut Check) {
                 let ends = (LOCATOR, NEIGHBOUR);
                 let message = packets::size_report(&mut check.random, size, quoted as u16, ends, 0, 8);
                 nodes.report(check, &message, 1);
-                nodes.path_size(check, NEIGHBOUR);
+                _ = nodes.path_size(check, NEIGHBOUR);
             }
         }
     }

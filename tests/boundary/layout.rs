@@ -5,14 +5,14 @@ use crate::check::same;
 use crate::nodes::{HIGH, LOW};
 use crate::plain::rules::ENTRIES;
 use bogtrumpet::raw::*;
-use bogtrumpet::Refusal;
+use bogtrumpet::{Refusal, ServiceName};
 use std::ffi::{c_char, CStr};
 use std::mem::offset_of;
 
 extern "C" {
     static bogtrumpet_layout: [usize; 0];
     static bogtrumpet_layout_length: usize;
-    static bogtrumpet_constants: [usize; 13];
+    static bogtrumpet_constants: [usize; 15];
     fn bogtrumpet_text(number: u8) -> *const c_char;
 }
 
@@ -42,6 +42,8 @@ pub fn compare() {
         advertised::LONGEST,
         HIGH.into(),
         LOW.into(),
+        ServiceName::First.number().into(),
+        ServiceName::Second.number().into(),
     ];
     // SAFETY: through.c's table has that length.
     same("constants", unsafe { &bogtrumpet_constants }, &constants, &|| "the header, the package and the rules".into());
@@ -75,7 +77,7 @@ fn places() {
         Collection: places;
         Service: settings routers pieces identification;
         Paths: neighbours sizes times count;
-        Node: service paths latest;
+        Node: first second paths latest both;
         Addresses: routers count;
         AdvertisedPrefix: bytes valid preferred length on_link autonomous;
         AdvertisedRoute: bytes lifetime length preference;
@@ -83,6 +85,7 @@ fn places() {
         Received: number joined offset length;
         Sent: number size length message_length;
         Reported: number neighbour size;
+        PathSize: number size;
         Asked: number router;
         Heard: number router;
         Advertised: number length;

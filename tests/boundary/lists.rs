@@ -1,4 +1,4 @@
-//! Random lists of calls on one node: mostly valid, often nearly so.
+//! Random lists of calls on one node, of one service or of two: mostly valid, often nearly so.
 
 use crate::advertised;
 use crate::check::Check;
@@ -20,7 +20,6 @@ struct World {
     nodes: Nodes,
     /// A node that hears what this one advertises.
     hearer: Nodes,
-    settings: Settings,
     neighbours: Vec<u32>,
     routers: Vec<u32>,
     /// Pieces on their way to it.
@@ -29,27 +28,29 @@ struct World {
     pace: usize,
 }
 
+impl World {
+    /// The settings of the service that the next call names; of the first, where the node has none such.
+    fn settings(&self) -> &Settings {
+        self.nodes.named().settings()
+    }
+
+    fn services(&self) -> usize {
+        (0..2).filter(|&service| self.nodes.plain.service(service).is_some()).count()
+    }
+}
+
 /// Makes one node and about `calls` calls on it.
 pub fn list(check: &mut Check, calls: usize) {
-    let random = &mut check.random;
-    let mut settings = settings(random);
-    nodes::defaults(check, &settings);
-    if check.random.once_in(2) {
-        let mut broken = settings;
-        break_settings(&mut check.random, &mut broken);
-        Nodes::new(check, &broken);
-    }
-    if check.random.once_in(8) {
-        settings = settings.defaults();
-    }
-    let Some(nodes) = Nodes::new(check, &settings) else { return };
+    let made = if check.random.once_in(3) { one_service(check) } else { two_services(check) };
+    let Some((nodes, settings)) = made else { return };
     let hearer = advertised::hearer(check, &settings);
     let random = &mut check.random;
     let count = random.one_of(&[2, 10, 40, 63, 64, 65, 66, 80, 130]);
     let neighbours = (0..count).map(|i| 0x0a01_0000 + i as u32).collect();
-    let routers = (0..20).map(|i| 0x0a02_0000 + i).chain(settings.routers).collect();
+    let routers =
+        (0..20).map(|i| 0x0a02_0000 + i).chain(settings.iter().flat_map(|settings| settings.routers)).collect();
     let pace = random.one_of(&[0, 1, 1, 3, 10, 100, 700]);
-    let mut world = World { nodes, hearer, settings, neighbours, routers, parts: Vec::new(), pace };
+    let mut world = World { nodes, hearer, neighbours, routers, parts: Vec::new(), pace };
     // A list has its own habits, so that tables fill in some and age in others.
     let mut weights = [0; 8];
     weights.iter_mut().for_each(|weight| *weight = random.one_of(&[1, 4, 16]));
@@ -60,8 +61,80 @@ pub fn list(check: &mut Check, calls: usize) {
     for _ in 0..calls {
         call(check, &mut world, &weights);
     }
-    for &neighbour in &world.neighbours {
-        world.nodes.path_size(check, neighbour);
+    all_sizes(check, &mut world);
+}
+
+fn one_service(check: &mut Check) -> Option<(Nodes, Vec<Settings>)> {
+    let settings = some_settings(check, 0);
+    if check.random.once_in(2) {
+        let mut broken = settings;
+        break_settings(&mut check.random, &mut broken);
+        Nodes::new(check, &broken);
+    }
+    Some((Nodes::new(check, &settings)?, vec![settings]))
+}
+
+/// Two, of which one may have a locator of the other for a router.
+fn two_services(check: &mut Check) -> Option<(Nodes, Vec<Settings>)> {
+    let mut pair = [some_settings(check, 0), some_settings(check, 1)];
+    for (own, other) in [(0, 1), (1, 0)] {
+        let random = &mut check.random;
+        if pair[own].router_count > 0 && random.once_in(2) {
+            let address = any_locator(random, &pair[other]).address;
+            pair[own].routers[random.below(pair[own].router_count)] = address;
+        }
+    }
+    if check.random.once_in(2) {
+        let mut broken = pair;
+        break_pair(&mut check.random, &mut broken);
+        Nodes::pair(check, &broken[0], &broken[1]);
+    }
+    Some((Nodes::pair(check, &pair[0], &pair[1])?, pair.to_vec()))
+}
+
+/// The settings of a service, whose defaults both have.
+fn some_settings(check: &mut Check, service: u32) -> Settings {
+    let settings = settings(&mut check.random, service);
+    nodes::defaults(check, &settings);
+    if check.random.once_in(8) {
+        settings.defaults()
+    } else {
+        settings
+    }
+}
+
+/// Mostly a locator address that both have, on one interface or on two.
+fn break_pair(random: &mut Random, pair: &mut [Settings; 2]) {
+    let [own, other] = if random.once_in(2) { [0, 1] } else { [1, 0] };
+    if random.once_in(3) {
+        return break_settings(random, &mut pair[own]);
+    }
+    let shared = any_locator(random, &pair[other]);
+    let place = random.below(pair[own].locator_count);
+    pair[own].locators[place] = Locator { interface: random.one_of(&[shared.interface, 3, 254]), ..shared };
+}
+
+fn any_locator(random: &mut Random, settings: &Settings) -> Locator {
+    settings.locators[random.below(settings.locator_count)]
+}
+
+/// The size in force toward every neighbour, of each service.
+fn all_sizes(check: &mut Check, world: &mut World) {
+    for service in 0..2 {
+        world.nodes.service = service;
+        for &neighbour in &world.neighbours {
+            _ = world.nodes.path_size(check, neighbour);
+        }
+    }
+}
+
+/// The service that the next call names: mostly one that the node has.
+fn service(random: &mut Random, world: &World) -> u8 {
+    if random.once_in(30) {
+        let any = random.next() as u8;
+        random.one_of(&[1, 1, 2, 3, 128, 254, 255, any])
+    } else {
+        random.below(world.services()) as u8
     }
 }
 
@@ -72,6 +145,7 @@ fn call(check: &mut Check, world: &mut World, weights: &[usize; 8]) {
         choice -= weights[kind];
         kind += 1;
     }
+    world.nodes.service = service(&mut check.random, world);
     match kind {
         0 => receive(check, world),
         1 => send(check, world),
@@ -83,16 +157,15 @@ fn call(check: &mut Check, world: &mut World, weights: &[usize; 8]) {
         _ => receive_piece(check, world),
     }
     let neighbour = any_address(&mut check.random, world);
-    world.nodes.path_size(check, neighbour);
+    world.nodes.service = service(&mut check.random, world);
+    _ = world.nodes.path_size(check, neighbour);
     if check.random.once_in(250) {
-        for &neighbour in &world.neighbours {
-            world.nodes.path_size(check, neighbour);
-        }
+        all_sizes(check, world);
     }
 }
 
-/// Settings within the rules. What stands behind the counts would break them.
-fn settings(random: &mut Random) -> Settings {
+/// Settings within the rules, of a service with locators of its own. What stands behind the counts would break them.
+fn settings(random: &mut Random, service: u32) -> Settings {
     let mut settings = Settings {
         locator_count: random.between(1, 8),
         prefix_count: random.between(0, 8),
@@ -108,7 +181,8 @@ fn settings(random: &mut Random) -> Settings {
     }
     for (place, locator) in settings.locators.iter_mut().enumerate() {
         // Two places have an address in common, on two interfaces.
-        *locator = Locator { address: 0x0a00_0000 + (place as u32 + 2) / 2, interface: place as u8 % 2 * 255 };
+        let address = 0x0a00_0000 + 16 * service + (place as u32 + 2) / 2;
+        *locator = Locator { address, interface: place as u8 % 2 * 255 };
         if place >= settings.locator_count {
             locator.address = random.one_of(&EDGES);
         }
@@ -122,15 +196,17 @@ fn settings(random: &mut Random) -> Settings {
     for (place, router) in settings.routers.iter_mut().enumerate() {
         *router = if place < settings.router_count { 0x0a02_0000 + place as u32 * 3 } else { random.one_of(&EDGES) };
     }
-    settings.reporting = match random.below(4) {
-        0 => link_local(settings.locators[0].address),
-        1 => [0, 0, 0, 0, 0, 0, 0, 0, 0, 0, 0, 0, 0, 0, 0, 1],
-        _ => random.bytes(),
-    };
-    if settings.reporting[0] == 0xff {
-        settings.reporting[0] = 0xfe;
-    }
+    settings.reporting = reporting(random, settings.locators[0].address);
     settings
+}
+
+/// A reporting address: the default of the locator, the loopback address, or any other that is allowed.
+fn reporting(random: &mut Random, locator: u32) -> Address {
+    let mut any: Address = random.bytes();
+    if any[0] == 0xff {
+        any[0] = 0xfe;
+    }
+    random.one_of(&[link_local(locator), [0, 0, 0, 0, 0, 0, 0, 0, 0, 0, 0, 0, 0, 0, 0, 1], any, any])
 }
 
 /// Changes one thing, in most cases to what the rules refuse.
@@ -163,7 +239,7 @@ pub fn break_settings(random: &mut Random, settings: &mut Settings) {
 fn time(random: &mut Random, world: &World) -> u32 {
     let latest = world.nodes.plain.latest();
     let reports = world.nodes.plain.reports();
-    let routers = world.nodes.plain.routers();
+    let routers = world.nodes.named().routers();
     match random.below(24) {
         0 => latest.wrapping_sub(random.one_of(&[1, 2, 600, 1 << 31])).min(latest),
         1 => random.one_of(&[0, latest]),
@@ -177,7 +253,7 @@ fn time(random: &mut Random, world: &World) -> u32 {
         }
         4 if random.once_in(400) => u32::MAX - random.below(3) as u32,
         6 => {
-            let first = random.one_of(world.nodes.plain.places()).first;
+            let first = random.one_of(world.nodes.named().places()).first;
             later(latest, u64::from(first) + random.between(28, 31) as u64, 60)
         }
         5 if random.once_in(40) => latest.saturating_add(random.one_of(&[599, 600, 601, 3600])),
@@ -199,7 +275,11 @@ fn any_address(random: &mut Random, world: &World) -> u32 {
     match random.below(20) {
         0 => random.next() as u32,
         1 => random.one_of(&EDGES),
-        2 => random.one_of(&world.settings.locators).address,
+        2 => {
+            // Of either service.
+            let service = world.nodes.plain.service(random.below(2) as u8).unwrap_or(world.nodes.named());
+            random.one_of(&service.settings().locators).address
+        }
         3..=5 => random.one_of(&world.routers),
         _ => random.one_of(&world.neighbours),
     }
@@ -256,7 +336,7 @@ fn length(random: &mut Random) -> usize {
 /// A packet, mostly one that is delivered.
 fn inner(random: &mut Random, world: &World, source: u32, length: usize) -> Vec<u8> {
     let inner_source =
-        if random.once_in(6) { other_source(random) } else { embedding(random, &world.settings, source) };
+        if random.once_in(6) { other_source(random) } else { embedding(random, world.settings(), source) };
     let next_header = random.next() as u8;
     let mut inner = packets::packet(random, length, next_header, &inner_source);
     match random.below(16) {
@@ -270,7 +350,7 @@ fn inner(random: &mut Random, world: &World, source: u32, length: usize) -> Vec<
 
 /// A destination and an interface, mostly of a locator.
 fn arrival(random: &mut Random, world: &World) -> (u32, u8) {
-    let locator = world.settings.locators[random.below(world.settings.locator_count)];
+    let locator = any_locator(random, world.settings());
     let destination = if random.once_in(20) { any_address(random, world) } else { locator.address };
     let interface = if random.once_in(12) { random.one_of(&[0, 255, 1]) } else { locator.interface };
     (destination, interface)
@@ -281,7 +361,7 @@ fn room(random: &mut Random, world: &World) -> usize {
     if random.once_in(30) {
         random.one_of(&[MEMORY, MEMORY - 1, MEMORY - 2048, 1, 0])
     } else {
-        world.nodes.memory.len()
+        world.nodes.memory().len()
     }
 }
 
@@ -314,6 +394,10 @@ fn receive_piece(check: &mut Check, world: &mut World) {
     let random = &mut check.random;
     let Some(place) = world.parts.len().checked_sub(1).map(|last| random.between(0, last)) else { return };
     let mut part = world.parts[place].clone();
+    if world.nodes.plain.service(world.nodes.service).is_some() && !random.once_in(12) {
+        // To the service that it is for.
+        world.nodes.service = world.nodes.owner(part.key.destination).unwrap_or(world.nodes.service);
+    }
     if !random.once_in(5) {
         world.parts.swap_remove(place);
     }
@@ -327,7 +411,7 @@ fn receive_piece(check: &mut Check, world: &mut World) {
     if random.once_in(60) {
         // Somebody writes into the memory.
         let at = random.below(MEMORY);
-        world.nodes.memory[at] ^= 1;
+        world.nodes.memory_mut()[at] ^= 1;
     }
     let (time, room) = (time(random, world), room(random, world));
     _ = world.nodes.receive_in(check, &piece, interface, time, room);
@@ -377,7 +461,7 @@ fn damage_datagram(random: &mut Random, datagram: &mut Vec<u8>) {
 fn send(check: &mut Check, world: &mut World) {
     let random = &mut check.random;
     let end = any_address(random, world);
-    let next_hop = embedding(random, &world.settings, end);
+    let next_hop = embedding(random, world.settings(), end);
     let limit = world.nodes.limit(end);
     let length = match random.below(6) {
         0 => limit + random.below(4) - 1,
@@ -418,7 +502,7 @@ fn sent_packet(random: &mut Random, length: usize) -> Vec<u8> {
 }
 
 fn locator_number(random: &mut Random, world: &World) -> usize {
-    let count = world.settings.locator_count;
+    let count = world.settings().locator_count;
     match random.below(24) {
         0 => random.one_of(&[count, count + 1, 8, 255, 256, 1 << 32, usize::MAX]),
         1 => random.below(10),
@@ -428,8 +512,11 @@ fn locator_number(random: &mut Random, world: &World) -> usize {
 
 fn report(check: &mut Check, world: &mut World) {
     let random = &mut check.random;
+    // The service that it belongs to, mostly; the sizes are about the one in force for it, or for the other.
+    world.nodes.service = random.below(world.services()) as u8;
     let neighbour = any_address(random, world);
-    let in_force = world.nodes.plain.path_size(neighbour);
+    let judge = if random.once_in(4) { 1 - world.nodes.service } else { world.nodes.service };
+    let in_force = world.nodes.plain.path_size(judge, neighbour).unwrap_or(world.nodes.size(neighbour));
     let quoted = match random.below(4) {
         0 => random.one_of(&PLATEAUS).wrapping_add(random.below(3) as u16).wrapping_sub(1),
         1 => random.one_of(&[0, 20, 67, 68, 69, 70]),
@@ -442,7 +529,7 @@ fn report(check: &mut Check, world: &mut World) {
         4 => random.next() as u16,
         _ => in_force.saturating_sub(random.between(1, 30) as u16),
     };
-    let locator = world.settings.locators[random.below(world.settings.locator_count)].address;
+    let locator = any_locator(random, world.settings()).address;
     let source = if random.once_in(30) { any_address(random, world) } else { locator };
     let words = if random.once_in(4) { random.between(0, 10) } else { 0 };
     let rest = random.one_of(&[0, 0, 8, 1, 7, 20, 548]);
@@ -498,20 +585,20 @@ fn ask(check: &mut Check, world: &mut World) {
 
 fn hear(check: &mut Check, world: &mut World) {
     let random = &mut check.random;
-    let router = match world.nodes.plain.routers() {
+    let router = match world.nodes.named().routers() {
         routers if !routers.is_empty() && !random.once_in(8) => random.one_of(routers).address,
         _ => any_address(random, world),
     };
     let source = if random.once_in(12) {
-        embedding(random, &world.settings, router)
+        embedding(random, world.settings(), router)
     } else {
         packets::address(&LINK_LOCAL, random.one_of(&[0, 2]), router)
     };
     let mut options = Vec::new();
     for _ in 0..option_count(random) {
-        options.extend(option(random, world.settings.interval));
+        options.extend(option(random, world.settings().interval));
     }
-    let router_lifetime = lifetime(random, world.settings.interval).min(65535) as u16;
+    let router_lifetime = lifetime(random, world.settings().interval).min(65535) as u16;
     let mut packet = packets::advertisement(random, &source, router_lifetime, &options);
     if random.once_in(4) {
         damage_message(random, &mut packet, 56);
@@ -577,7 +664,8 @@ fn advertise(check: &mut Check, world: &mut World) {
     let locator = locator_number(random, world);
     let advertised = advertised::any(random);
     let needed = nodes::plain_advertisement(&advertised);
-    let needed = world.nodes.plain.advertise(&packet, locator, &needed, &mut [0; advertised::LONGEST]);
+    let longest = &mut [0; advertised::LONGEST];
+    let needed = world.nodes.plain.advertise(world.nodes.service, &packet, locator, &needed, longest);
     let room = match (needed, random.below(12)) {
         (Ok(length), 0) => length - 1,
         (Ok(length), 1) => length + random.between(1, 300),
@@ -587,7 +675,7 @@ fn advertise(check: &mut Check, world: &mut World) {
     let written = world.nodes.advertise(check, &packet, locator, &advertised, room);
     if let Ok(written) = written {
         let time = time(&mut check.random, world);
-        let writer = world.settings.locators[locator].address;
+        let writer = world.settings().locators[locator].address;
         advertised::heard(check, &mut world.hearer, writer, &advertised, &written, time);
     }
 }
@@ -598,7 +686,7 @@ fn solicitation(random: &mut Random, world: &World) -> Vec<u8> {
     let asker = match random.below(12) {
         0 => [0; 16],
         1 => other_source(random),
-        2 => embedding(random, &world.settings, embedded),
+        2 => embedding(random, world.settings(), embedded),
         _ => packets::address(&LINK_LOCAL, random.one_of(&[0, 2]), embedded),
     };
     let mut options = Vec::new();

@@ -28,6 +28,7 @@ mod pieces;
 mod plain;
 mod random;
 mod rules;
+mod service_edges;
 mod stack;
 mod stateless;
 mod totals;
@@ -54,6 +55,7 @@ fn compare(check: &mut Check, calls: u64, with_edges: bool) {
         chain_edges::edges(check);
         advertise_edges::edges(check);
         piece_edges::edges(check);
+        service_edges::edges(check);
         rules::edges(check);
     }
     let all = check.totals.calls + calls;

@@ -1,19 +1,23 @@
-//! A node of the library beside one of plain Rust. Each call is made on both; answers, next states and outputs must be the same.
+//! A node of the library beside one of plain Rust. Each call is made on both; answers, next states and outputs must be the same, and the
+//! service that a call does not name stays as it was.
 
 use crate::check::{hex, same, same_input, same_node, Check};
 use crate::packets::{is_extended, is_piece};
 use crate::plain::pieces::{Key, Place, MEMORY};
-use crate::plain::rules::{address_at, no_host, u32_at, Preference, Prefix, Route};
+use crate::plain::rules::{address_at, no_host, u16_at, u32_at, Preference, Prefix, Route};
 use crate::plain::{self, Address, Refusal};
-use crate::totals::{Call, CHAIN_SHORT, CHAIN_SILENT, CHAIN_TOLD, IGNORED, JOINED, TOO_BIG_SILENT};
-use bogtrumpet::raw::{self, Advertised, Asked, Heard, Received, Reported, Sent};
+use crate::totals::{Call, ABSENT, CHAIN_SHORT, CHAIN_SILENT, CHAIN_TOLD, IGNORED, JOINED, TOO_BIG_SILENT};
+use crate::totals::{BY_FIRST, BY_SECOND, LOWERS_OTHER, NINE_LIVE, NOT_BELOW_OWN};
+use bogtrumpet::raw::{self, Advertised, Asked, Heard, PathSize, Received, Reported, Sent};
 
 #[derive(Clone)]
 pub struct Nodes {
     pub library: raw::Node,
     pub plain: plain::Node,
-    /// What receiving is lent, as both left it.
-    pub memory: Vec<u8>,
+    /// What receiving of each service is lent, as both left it.
+    memories: [Vec<u8>; 2],
+    /// The service that calls name.
+    pub service: u8,
 }
 
 /// The number of an answer, 0 where it is no refusal.
@@ -52,6 +56,14 @@ fn boundary_place(place: &Place) -> raw::Place {
         end: place.end,
         reach: place.reach,
         used: place.used.into(),
+    }
+}
+
+/// The service of that number, 0 or 1, as the boundary has it.
+pub fn boundary_service(node: &mut raw::Node, number: u8) -> &mut raw::Service {
+    match number {
+        0 => &mut node.first,
+        _ => &mut node.second,
     }
 }
 
@@ -102,31 +114,80 @@ pub fn defaults(check: &mut Check, settings: &plain::Settings) {
 }
 
 impl Nodes {
-    /// Nodes of these settings, or `None` where both refuse them. The library's is made where another one stood.
+    /// Nodes of one service with these settings, or `None` where both refuse them.
     pub fn new(check: &mut Check, settings: &plain::Settings) -> Option<Nodes> {
-        let mut stood = raw::Node::EMPTY;
-        stood.service.settings.locators[3].address = check.random.next() as u32;
+        let call = || format!("new {settings:?}");
+        let set_up = |node: &mut raw::Node| node.set_up(boundary_settings(settings));
+        Nodes::made(check, Call::New, plain::Node::new(settings), set_up, &call)
+    }
+
+    /// The same of two services.
+    pub fn pair(check: &mut Check, first: &plain::Settings, second: &plain::Settings) -> Option<Nodes> {
+        let call = || format!("new_pair {first:?} {second:?}");
+        let set_up = |node: &mut raw::Node| node.set_up_pair(boundary_settings(first), boundary_settings(second));
+        Nodes::made(check, Call::NewPair, plain::Node::new_pair(first, second), set_up, &call)
+    }
+
+    /// The library's node is made where another one stood.
+    fn made(
+        check: &mut Check,
+        kind: Call,
+        plain: Result<plain::Node, Refusal>,
+        set_up: impl Fn(&mut raw::Node) -> u8,
+        call: &dyn Fn() -> String,
+    ) -> Option<Nodes> {
+        let mut stood = raw::Node { both: check.random.next() as u8, ..raw::Node::EMPTY };
+        stood.first.settings.locators[3].address = check.random.next() as u32;
+        stood.second.identification = check.random.next() as u16;
         (stood.paths.sizes, stood.latest) = ([7; 64], check.random.next() as u32);
         let (_, node) = check.lend_node(&stood, &[], 0);
-        let given = node.set_up(boundary_settings(settings));
+        let given = set_up(node);
         let library = *node;
-        let plain = plain::Node::new(settings);
-        let call = || format!("new {settings:?}");
-        same("number", &number(&plain), &given, &call);
-        check.totals.count(Call::New, given.into());
+        same("number", &number(&plain), &given, call);
+        check.totals.count(kind, given.into());
         let Ok(plain) = plain else {
-            same("node of refused settings", &raw::Node::EMPTY, &library, &call);
+            same("node of refused settings", &raw::Node::EMPTY, &library, call);
             return None;
         };
         let surplus = check.random.one_of(&[0, 0, 1, 9000]);
-        let nodes = Nodes { library, plain, memory: check.pattern(MEMORY + surplus) };
-        nodes.same_state(&call);
+        let memories = [check.pattern(MEMORY + surplus), check.pattern(MEMORY + surplus)];
+        let nodes = Nodes { library, plain, memories, service: 0 };
+        nodes.same_state(call);
         Some(nodes)
+    }
+
+    /// The same nodes, whose calls name that service from now on.
+    pub fn through(&mut self, service: u8) -> &mut Nodes {
+        self.service = service;
+        self
+    }
+
+    /// The service that calls name; the first, where the node has none such.
+    pub fn named(&self) -> &plain::Service {
+        self.plain.service(self.service).or(self.plain.service(0)).expect("every node has a first service")
+    }
+
+    /// What receiving of the named service is lent.
+    pub fn memory(&self) -> &Vec<u8> {
+        &self.memories[usize::from(self.service.min(1))]
+    }
+
+    pub fn memory_mut(&mut self) -> &mut Vec<u8> {
+        &mut self.memories[usize::from(self.service.min(1))]
+    }
+
+    /// What a call that gave the number is counted as.
+    fn answer(&self, number: u8) -> usize {
+        if self.plain.service(self.service).is_some() {
+            number.into()
+        } else {
+            ABSENT
+        }
     }
 
     /// Receiving with all of the memory: the packet that is delivered, or the number.
     pub fn receive(&mut self, check: &mut Check, datagram: &[u8], interface: u8, time: u32) -> Result<Vec<u8>, u8> {
-        self.receive_in(check, datagram, interface, time, self.memory.len())
+        self.receive_in(check, datagram, interface, time, self.memory().len())
     }
 
     /// Receiving with so many bytes of the memory.
@@ -139,9 +200,10 @@ impl Nodes {
         room: usize,
     ) -> Result<Vec<u8>, u8> {
         let before = self.state_before();
-        let (loan, node) = check.lend_memory(&self.library, datagram, &self.memory[..room]);
-        let library = node.receive(loan.input, interface, time, loan.library);
-        let plain = self.plain.receive(datagram, interface, time, loan.plain);
+        let service = self.service;
+        let (loan, node) = check.lend_memory(&self.library, datagram, &self.memory()[..room]);
+        let library = node.receive(service, loan.input, interface, time, loan.library);
+        let plain = self.plain.receive(service, datagram, interface, time, loan.plain);
         let call = || format!("receive {} interface {interface} time {time} memory {room}, {before}", hex(datagram));
         let (joined, part) = match plain.clone() {
             Ok(plain::Received::Whole(part)) => (false, part),
@@ -152,19 +214,20 @@ impl Nodes {
         same("answer", &Received { number, joined, offset, length }, &library, &call);
         loan.same_output(datagram, &call);
         let packet = if joined { loan.library[part].to_vec() } else { loan.input[part].to_vec() };
-        let collected = before.0.places() != self.plain.places();
-        let written = self.memory[..room] != *loan.library;
+        let collected = before.node.service(service) != self.plain.service(service);
+        let written = self.memory()[..room] != *loan.library;
         let (collects, writes) = may_change(datagram, number);
         same("collection changed", &false, &(collected && !collects), &call);
         same("memory changed", &false, &(written && !writes), &call);
-        self.memory[..room].copy_from_slice(loan.library);
+        self.memory_mut()[..room].copy_from_slice(loan.library);
         self.next_collected(collected, *node, time, &call);
         let answer = match number {
             0 if joined => JOINED,
             27 if !collected => IGNORED,
-            _ => number.into(),
+            _ => self.answer(number),
         };
         check.totals.count(if is_piece(datagram) { Call::Piece } else { Call::Receive }, answer);
+        self.count_live(check);
         plain.map(|_| packet).map_err(|refusal| refusal as u8)
     }
 
@@ -179,8 +242,9 @@ impl Nodes {
     ) -> u8 {
         let before = self.state_before();
         let (loan, node) = check.lend_node(&self.library, packet, room);
-        let library = node.send(loan.input, raw::Address { bytes: next_hop }, locator, time, loan.library);
-        let plain = self.plain.send(packet, &next_hop, locator, time, loan.plain);
+        let hop = raw::Address { bytes: next_hop };
+        let library = node.send(self.service, loan.input, hop, locator, time, loan.library);
+        let plain = self.plain.send(self.service, packet, &next_hop, locator, time, loan.plain);
         let call = || {
             let arguments = format!("to {} locator {locator} time {time} room {room}", hex(&next_hop));
             format!("send {} {arguments}, {before}", hex(packet))
@@ -198,9 +262,26 @@ impl Nodes {
         library.number
     }
 
+    /// Counts eight datagrams live in one collection, and one or more in the other.
+    fn count_live(&self, check: &mut Check) {
+        let is_live = |place: &&Place| place.is_live(self.plain.latest());
+        let live = [0, 1].map(|service| {
+            self.plain.service(service).map_or(0, |service| service.places().iter().filter(is_live).count())
+        });
+        if live.contains(&8) && !live.contains(&0) {
+            check.totals.met(Call::Two, NINE_LIVE);
+        }
+    }
+
+    /// The size in force toward the neighbour for the named service; for the first, where the node has none such.
+    pub fn size(&self, neighbour: u32) -> u16 {
+        let size = self.plain.path_size(self.service, neighbour).or_else(|_| self.plain.path_size(0, neighbour));
+        size.expect("every node has a first service")
+    }
+
     /// The largest packet that passes to the tunnel end.
     pub fn limit(&self, end: u32) -> usize {
-        usize::from(self.plain.path_size(end)).saturating_sub(20).max(1280)
+        usize::from(self.size(end)).saturating_sub(20).max(1280)
     }
 
     /// What sending is counted as. 15 in the place of 14 is told by the packet's length.
@@ -211,7 +292,7 @@ impl Nodes {
             (14, 0) => TOO_BIG_SILENT,
             (14, _) if chain => CHAIN_TOLD,
             (15, _) if chain && packet.len() > self.limit(u32_at(next_hop, 12)) => CHAIN_SHORT,
-            (number, _) => number.into(),
+            (number, _) => self.answer(number),
         }
     }
 
@@ -226,7 +307,35 @@ impl Nodes {
         same_input(message, loan.input, &call);
         self.next(library.number, *node, time, &call);
         check.totals.count(Call::Report, library.number.into());
+        self.count_between(check, &before.node, message, library.number);
         library.number
+    }
+
+    /// Counts what a report came to on a node of two services: whose it was, whether it lowered the size of the other, and whether it would
+    /// have been below the size of the other alone.
+    fn count_between(&self, check: &mut Check, before: &plain::Node, message: &[u8], number: u8) {
+        if self.plain.service(1).is_none() || !matches!(number, 0 | 19) {
+            return;
+        }
+        let (size, source, neighbour) = (u16_at(message, 6), u32_at(message, 20), u32_at(message, 24));
+        let (own, other) = if self.owner(source) == Some(0) { (0, 1) } else { (1, 0) };
+        // The other's size at the report's time, without the report.
+        let was = before.path_size(other, neighbour).unwrap_or(0);
+        let is = self.plain.path_size(other, neighbour).unwrap_or(0);
+        if number == 19 && size != 0 && size < is {
+            check.totals.met(Call::Two, NOT_BELOW_OWN);
+        }
+        if number == 0 {
+            check.totals.met(Call::Two, [BY_FIRST, BY_SECOND][own]);
+            if is < was {
+                check.totals.met(Call::Two, LOWERS_OTHER);
+            }
+        }
+    }
+
+    /// The service that has a locator of the address.
+    pub fn owner(&self, address: u32) -> Option<u8> {
+        (0..2).find(|&service| self.plain.service(service).is_some_and(|service| service.settings().is_own(address)))
     }
 
     /// More than 16 routers are a list whose count is too large, by one or by far.
@@ -235,46 +344,46 @@ impl Nodes {
         let mut list = raw::Addresses { routers: [0; 16], count: routers.len() };
         // What stands behind the count is not read.
         for (place, router) in list.routers.iter_mut().enumerate() {
-            let unread = [0, u32::MAX, self.plain.settings().locators[0].address];
+            let unread = [0, u32::MAX, self.named().settings().locators[0].address];
             *router = routers.get(place).copied().unwrap_or_else(|| check.random.one_of(&unread));
         }
         if routers.len() > list.routers.len() {
             list.count = check.random.one_of(&[routers.len(), 1 << 32, usize::MAX]);
         }
         let (_, node) = check.lend_node(&self.library, &[], 0);
-        let library = node.replace_routers(list, time);
+        let library = node.replace_routers(self.service, list, time);
         let after = *node;
-        let plain = self.plain.replace_routers(routers, time);
+        let plain = self.plain.replace_routers(self.service, routers, time);
         let call = || format!("replace_routers {routers:?} time {time}, {before}");
         same("number", &number(&plain), &library, &call);
         self.next(library, after, time, &call);
-        check.totals.count(Call::Replace, library.into());
+        check.totals.count(Call::Replace, self.answer(library));
         library
     }
 
     pub fn ask(&mut self, check: &mut Check, locator: usize, time: u32, room: usize) -> u8 {
         let before = self.state_before();
         let (loan, node) = check.lend_node(&self.library, &[], room);
-        let library = node.ask(locator, time, loan.library);
-        let plain = self.plain.ask(locator, time, loan.plain);
+        let library = node.ask(self.service, locator, time, loan.library);
+        let plain = self.plain.ask(self.service, locator, time, loan.plain);
         let call = || format!("ask locator {locator} time {time} room {room}, {before}");
         same("answer", &Asked { number: number(&plain), router: plain.unwrap_or(0) }, &library, &call);
         loan.same_output(&[], &call);
         self.next(library.number, *node, time, &call);
-        check.totals.count(Call::Ask, library.number.into());
+        check.totals.count(Call::Ask, self.answer(library.number));
         library.number
     }
 
     pub fn hear(&mut self, check: &mut Check, packet: &[u8], time: u32) -> u8 {
         let before = self.state_before();
         let (loan, node) = check.lend_node(&self.library, packet, 0);
-        let library = node.hear(loan.input, time);
-        let plain = self.plain.hear(packet, time);
+        let library = node.hear(self.service, loan.input, time);
+        let plain = self.plain.hear(self.service, packet, time);
         let call = || format!("hear {} time {time}, {before}", hex(packet));
         same("answer", &Heard { number: number(&plain), router: plain.unwrap_or(0) }, &library, &call);
         same_input(packet, loan.input, &call);
         self.next(library.number, *node, time, &call);
-        check.totals.count(Call::Hear, library.number.into());
+        check.totals.count(Call::Hear, self.answer(library.number));
         library.number
     }
 
@@ -288,8 +397,8 @@ impl Nodes {
         room: usize,
     ) -> Result<Vec<u8>, u8> {
         let (loan, node) = check.lend_node(&self.library, packet, room);
-        let library = node.advertise(loan.input, locator, *advertised, loan.library);
-        let plain = self.plain.advertise(packet, locator, &plain_advertisement(advertised), loan.plain);
+        let library = node.advertise(self.service, loan.input, locator, *advertised, loan.library);
+        let plain = self.plain.advertise(self.service, packet, locator, &plain_advertisement(advertised), loan.plain);
         let call = || {
             let arguments = format!("locator {locator} {advertised:?} room {room}");
             format!("advertise {} {arguments}, {}", hex(packet), self.state())
@@ -299,20 +408,21 @@ impl Nodes {
         loan.same_output(packet, &call);
         same_node(&self.library, node, &call);
         let written = loan.library[..library.length].to_vec();
-        check.totals.count(Call::Advertise, library.number.into());
+        check.totals.count(Call::Advertise, self.answer(library.number));
         plain.map(|_| written).map_err(|refusal| refusal as u8)
     }
 
-    pub fn path_size(&self, check: &mut Check, neighbour: u32) -> u16 {
+    /// The size in force, or the number.
+    pub fn path_size(&self, check: &mut Check, neighbour: u32) -> Result<u16, u8> {
         let (_, node) = check.lend_node(&self.library, &[], 0);
-        let library = node.path_size(neighbour);
-        let plain = self.plain.path_size(neighbour);
+        let library = node.path_size(self.service, neighbour);
+        let plain = self.plain.path_size(self.service, neighbour);
         let call = || format!("path_size {neighbour:#x}, {}", self.state());
-        same("size", &plain, &library, &call);
+        same("answer", &PathSize { number: number(&plain), size: plain.unwrap_or(0) }, &library, &call);
         same_node(&self.library, node, &call);
-        let reported = plain != self.plain.settings().link_size;
-        check.totals.count(Call::PathSize, reported.into());
-        plain
+        let reported = plain.is_ok_and(|size| size != self.named().settings().link_size);
+        check.totals.count(Call::PathSize, self.answer(reported.into()));
+        plain.map_err(|refusal| refusal as u8)
     }
 
     /// Takes the next state over and compares it.
@@ -325,11 +435,12 @@ impl Nodes {
         self.same_state(call);
     }
 
-    /// The same of receiving, which changes the latest time and what is collected alone.
-    fn next_collected(&mut self, collected: bool, node: raw::Node, time: u32, call: &dyn Fn() -> String) {
-        let pieces = if collected { node.service.pieces } else { self.library.service.pieces };
-        let service = raw::Service { pieces, ..self.library.service };
-        let kept = raw::Node { service, latest: self.library.latest.max(time), ..self.library };
+    /// The same of receiving, which changes the latest time and what the named service collects alone.
+    fn next_collected(&mut self, collected: bool, mut node: raw::Node, time: u32, call: &dyn Fn() -> String) {
+        let mut kept = raw::Node { latest: self.library.latest.max(time), ..self.library };
+        if collected {
+            boundary_service(&mut kept, self.service).pieces = boundary_service(&mut node, self.service).pieces;
+        }
         same("node but for what is collected", &kept, &node, call);
         self.library = node;
         self.same_state(call);
@@ -338,24 +449,10 @@ impl Nodes {
     /// Every field that a later call can read: entries behind a list's count are not among them.
     fn same_state(&self, call: &dyn Fn() -> String) {
         let (plain, library) = (&self.plain, &self.library);
-        let service = &library.service;
-        same("settings", &boundary_settings(plain.settings()), &service.settings, call);
-        same("identification", &plain.identification(), &service.identification, call);
+        same_service("first", plain.service(0), &library.first, call);
+        same_service("second", plain.service(1), &library.second, call);
+        same("two services", &plain.service(1).is_some(), &(library.both != 0), call);
         same("latest time", &plain.latest(), &library.latest, call);
-        same("count of routers", &plain.routers().len(), &service.routers.count, call);
-        for (place, router) in plain.routers().iter().enumerate() {
-            let given = &service.routers.routers[place];
-            if (given.address, given.due) != (router.address, router.due) {
-                same(&format!("router {place}"), &(router.address, router.due), &(given.address, given.due), call);
-            }
-        }
-        for (number, (place, given)) in plain.places().iter().zip(&service.pieces.places).enumerate() {
-            // What a free place has is not read.
-            let differs = if place.used { boundary_place(place) != *given } else { given.used != 0 };
-            if differs {
-                same(&format!("place {number}"), &boundary_place(place), given, call);
-            }
-        }
         let paths = &library.paths;
         same("count of paths", &plain.reports().len(), &paths.count, call);
         for (place, report) in plain.reports().iter().enumerate() {
@@ -367,19 +464,45 @@ impl Nodes {
     }
 
     fn state(&self) -> String {
-        format!("on {:?}", self.plain)
+        format!("service {} on {:?}", self.service, self.plain)
     }
 
-    /// The state for a report of a difference, put into words only then.
+    /// The state and the named service for a report of a difference, put into words only then.
     fn state_before(&self) -> Before {
-        Before(self.plain)
+        Before { node: self.plain, service: self.service }
     }
 }
 
-struct Before(plain::Node);
+struct Before {
+    node: plain::Node,
+    service: u8,
+}
 
 impl std::fmt::Display for Before {
     fn fmt(&self, f: &mut std::fmt::Formatter<'_>) -> std::fmt::Result {
-        write!(f, "on {:?}", self.0)
+        write!(f, "service {} on {:?}", self.service, self.node)
+    }
+}
+
+/// A service that the node has not is one of empty settings.
+fn same_service(name: &str, plain: Option<&plain::Service>, library: &raw::Service, call: &dyn Fn() -> String) {
+    let Some(plain) = plain else {
+        return same(&format!("{name} service"), &raw::Service::EMPTY, library, call);
+    };
+    same(&format!("{name} settings"), &boundary_settings(plain.settings()), &library.settings, call);
+    same(&format!("{name} identification"), &plain.identification(), &library.identification, call);
+    same(&format!("{name} count of routers"), &plain.routers().len(), &library.routers.count, call);
+    for (place, router) in plain.routers().iter().enumerate() {
+        let given = &library.routers.routers[place];
+        if (given.address, given.due) != (router.address, router.due) {
+            same(&format!("{name} router {place}"), &(router.address, router.due), &(given.address, given.due), call);
+        }
+    }
+    for (number, (place, given)) in plain.places().iter().zip(&library.pieces.places).enumerate() {
+        // What a free place has is not read.
+        let differs = if place.used { boundary_place(place) != *given } else { given.used != 0 };
+        if differs {
+            same(&format!("{name} place {number}"), &boundary_place(place), given, call);
+        }
     }
 }

@@ -23,18 +23,18 @@ pub fn null_slices(check: &mut Check, settings: Settings) {
         let (loan, _) = check.lend_node(&start, &packet, 100);
         let (bytes, length) = (loan.input.as_ptr(), loan.input.len());
         let (out, room) = (loan.library.as_mut_ptr(), loan.library.len());
-        numbers[0] = bogtrumpet_receive(&mut node, null(), 0, 0, 0, memory.as_mut_ptr(), MEMORY).number;
-        numbers[1] = bogtrumpet_send(&mut node, null(), 0, hop, 0, 0, out, room).number;
-        numbers[2] = bogtrumpet_send(&mut node, bytes, length, hop, 0, 0, null_mut(), 0).number;
+        numbers[0] = bogtrumpet_receive(&mut node, 0, null(), 0, 0, 0, memory.as_mut_ptr(), MEMORY).number;
+        numbers[1] = bogtrumpet_send(&mut node, 0, null(), 0, hop, 0, 0, out, room).number;
+        numbers[2] = bogtrumpet_send(&mut node, 0, bytes, length, hop, 0, 0, null_mut(), 0).number;
         numbers[3] = bogtrumpet_report(&mut node, null(), 0, 0).number;
-        numbers[4] = bogtrumpet_ask(&mut node, 0, 0, null_mut(), 0).number;
-        numbers[5] = bogtrumpet_hear(&mut node, null(), 0, 0).number;
+        numbers[4] = bogtrumpet_ask(&mut node, 0, 0, 0, null_mut(), 0).number;
+        numbers[5] = bogtrumpet_hear(&mut node, 0, null(), 0, 0).number;
         numbers[6] = bogtrumpet_read_outer(null(), 0).number;
         numbers[7] = bogtrumpet_unwrap(null(), 0).number;
         numbers[8] = bogtrumpet_too_big(hop, 1280, null(), 0, out, room).number;
         numbers[9] = bogtrumpet_too_big(hop, 1280, bytes, length, null_mut(), 0).number;
         numbers[10] = bogtrumpet_solicitation(1, 2, null_mut(), 0).number;
-        numbers[11] = bogtrumpet_receive(&mut node, bytes, length, 0, 0, null_mut(), 0).number;
+        numbers[11] = bogtrumpet_receive(&mut node, 0, bytes, length, 0, 0, null_mut(), 0).number;
         let call = || "an output beside a null input".into();
         loan.same_output(&packet, &call);
     }
@@ -42,11 +42,31 @@ pub fn null_slices(check: &mut Check, settings: Settings) {
     same("numbers", &[2, 8, 15, 16, 15, 8, 2, 2, 8, 15, 15, 15], &numbers, &call);
     same("node", &start, &node, &call);
     same("memory", &vec![0x55; MEMORY], &memory, &call);
+    absent(&mut node, hop);
     large_and_silent(&mut node, hop);
     advertises(check, &node, hop);
     sums(check);
     wraps(check);
     check.totals.count(Call::Null, 0);
+}
+
+/// A service that the node has not needs no bytes at all.
+fn absent(node: &mut Node, hop: Address) {
+    let (start, none) = (*node, Advertisement::default());
+    for service in [1, 2, 255] {
+        let numbers = unsafe {
+            [
+                bogtrumpet_receive(node, service, null(), 0, 0, 0, null_mut(), 0).number,
+                bogtrumpet_send(node, service, null(), 0, hop, 0, 0, null_mut(), 0).number,
+                bogtrumpet_ask(node, service, 0, 0, null_mut(), 0).number,
+                bogtrumpet_hear(node, service, null(), 0, 0).number,
+                bogtrumpet_advertise(node, service, null(), 0, 0, none, null_mut(), 0).number,
+            ]
+        };
+        let call = || format!("each call of service {service} with (NULL, 0)");
+        same("numbers", &[11; 5], &numbers, &call);
+        same("node", &start, node, &call);
+    }
 }
 
 /// Too Big without a message, for the packet's source or for its extension headers, needs no output.
@@ -55,7 +75,7 @@ fn large_and_silent(node: &mut Node, hop: Address) {
         let mut packet = vec![0; 9300];
         (packet[0], packet[4], packet[5]) = (0x60, 0x24, 0x2c);
         packet[at] = value;
-        let answer = unsafe { bogtrumpet_send(node, packet.as_ptr(), packet.len(), hop, 0, 0, null_mut(), 0) };
+        let answer = unsafe { bogtrumpet_send(node, 0, packet.as_ptr(), packet.len(), hop, 0, 0, null_mut(), 0) };
         let call = || format!("send 9300 {why} to (NULL, 0)");
         same("no message", &(14, 0), &(answer.number, answer.message_length), &call);
     }
@@ -68,8 +88,8 @@ fn advertises(check: &mut Check, node: &Node, asker: Address) {
     let (none, all) = (Advertisement::default(), (loan.input.as_ptr(), loan.input.len()));
     let (out, room) = (loan.library.as_mut_ptr(), loan.library.len());
     let (unasked, unlent) = unsafe {
-        let unasked = bogtrumpet_advertise(node, null(), 0, 0, none, out, room);
-        (unasked, bogtrumpet_advertise(node, all.0, all.1, 0, none, null_mut(), 0))
+        let unasked = bogtrumpet_advertise(node, 0, null(), 0, 0, none, out, room);
+        (unasked, bogtrumpet_advertise(node, 0, all.0, all.1, 0, none, null_mut(), 0))
     };
     let call = || "advertise (NULL, 0), and to (NULL, 0)".into();
     same("numbers", &(8, 15), &(unasked.number, unlent.number), &call);

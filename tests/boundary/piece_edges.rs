@@ -83,7 +83,7 @@ impl Cut {
 
     /// Whether each place is in use.
     fn used(&self) -> [bool; 8] {
-        self.nodes.library.service.pieces.places.map(|place| place.used != 0)
+        self.nodes.library.first.pieces.places.map(|place| place.used != 0)
     }
 
     fn nothing_waits(&self) {
@@ -211,7 +211,7 @@ fn repeats(check: &mut Check) {
             for in_memory in [false, true] {
                 cut.gives(check, WAITS, bytes.clone(), more);
                 cut.gives(check, WAITS, bytes.clone(), more);
-                let changed = if in_memory { &mut cut.nodes.memory[at] } else { &mut cut.payload[at] };
+                let changed = if in_memory { &mut cut.nodes.memory_mut()[at] } else { &mut cut.payload[at] };
                 *changed ^= 1 << check.random.below(8);
                 cut.gives(check, APART, bytes.clone(), more);
                 cut.nothing_waits();
@@ -319,7 +319,7 @@ fn places(check: &mut Check) {
     }
     for (identification, place) in [(20, 2), (21, 6)] {
         first(&mut cut, check, identification, WAITS);
-        let given = cut.nodes.library.service.pieces.places[place].key.identification;
+        let given = cut.nodes.library.first.pieces.places[place].key.identification;
         same("the key there", &identification, &given, &|| format!("place {place}"));
     }
     first(&mut cut, check, 22, FULL);
@@ -342,7 +342,7 @@ fn full(check: &mut Check) {
     cut.piece(check, WAITS, 48..56);
     (cut.key.identification, cut.time) = (8, 30);
     cut.piece(check, WAITS, 0..48);
-    let given = cut.nodes.library.service.pieces.places.map(|place| place.key.identification);
+    let given = cut.nodes.library.first.pieces.places.map(|place| place.key.identification);
     same("keys", &[8, 1, 2, 3, 4, 5, 6, 7], &given, &|| "the ninth has the first one's place".into());
     // The pieces of keys 0 to 2 are gone; the others still wait.
     for (identification, number) in [(8, 0), (0, WAITS), (1, WAITS), (2, WAITS), (3, 0), (7, 0)] {
@@ -442,7 +442,7 @@ fn memory(check: &mut Check) {
         }
     }
     for room in [MEMORY, MEMORY + 1, MEMORY + 9000] {
-        cut.nodes.memory.resize(room, 0x77);
+        cut.nodes.memory_mut().resize(room, 0x77);
         let mut nodes = cut.nodes.clone();
         let joined = nodes.receive(check, &last, 7, 0);
         same("joined", &Ok(cut.payload.clone()), &joined, &|| format!("memory of {room}"));

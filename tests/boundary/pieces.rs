@@ -87,7 +87,7 @@ fn shuffled(random: &mut Random, mut parts: Vec<Part>) -> (Vec<Part>, Part) {
 pub fn joins(check: &mut Check, nodes: &Nodes, key: Key, payload: &[u8], interface: u8) {
     let parts = cut(&mut check.random, key, payload);
     let latest = nodes.plain.latest();
-    let live = || nodes.plain.places().iter().filter(|place| place.is_live(latest));
+    let live = || nodes.named().places().iter().filter(|place| place.is_live(latest));
     if parts.len() < 2 || payload.len() > ROOM || live().count() == 8 || live().any(|place| place.key == key) {
         return;
     }
@@ -100,6 +100,9 @@ pub fn joins(check: &mut Check, nodes: &Nodes, key: Key, payload: &[u8], interfa
         if check.random.once_in(3) {
             other_piece(check, &mut nodes, &part, interface);
         }
+        if check.random.once_in(3) {
+            piece_of_other_service(check, &mut nodes, &part);
+        }
     }
     let (whole, last) = (Part::whole(key, payload).bytes(&mut check.random), last.bytes(&mut check.random));
     let time = in_time(&mut check.random, latest);
@@ -108,7 +111,8 @@ pub fn joins(check: &mut Check, nodes: &Nodes, key: Key, payload: &[u8], interfa
     let call = || format!("the pieces of {}, the last of which {}", hex(&whole), hex(&last));
     same("joined", &expected, &joined, &call);
     let before = match expected {
-        Err(number @ (4 | 6 | 7)) => Err(number),
+        // 11 where the node has no such service.
+        Err(number @ (4 | 6 | 7 | 11)) => Err(number),
         _ => Err(27),
     };
     same("before the last", &vec![before; numbers.len()], &numbers, &call);
@@ -126,4 +130,15 @@ fn other_piece(check: &mut Check, nodes: &mut Nodes, part: &Part, interface: u8)
     part.key.identification ^= 1 << check.random.below(16);
     let piece = part.bytes(&mut check.random);
     _ = nodes.receive(check, &piece, interface, 0);
+}
+
+/// The same piece for the other service, if there is one, to which it is sent.
+fn piece_of_other_service(check: &mut Check, nodes: &mut Nodes, part: &Part) {
+    let named = nodes.service;
+    let other = u8::from(named == 0);
+    let locator = nodes.through(other).named().settings().locators[0];
+    let part = Part { key: Key { destination: locator.address, ..part.key }, ..part.clone() };
+    let piece = part.bytes(&mut check.random);
+    _ = nodes.receive(check, &piece, locator.interface, 0);
+    nodes.service = named;
 }

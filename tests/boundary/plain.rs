@@ -1,154 +1,21 @@
-//! One tunnel end in plain Rust, written from the rules (docs/RULES.md) alone: the second implementation that the proved library is compared
-//! with, and the baseline of the benchmarks. No heap; each call changes the node in place.
+//! One tunnel end, or two in one box, in plain Rust, written from the rules (docs/RULES.md) alone: the second implementation that the proved
+//! library is compared with, and the baseline of the benchmarks. No heap; each call changes the node in place.
 
 #[path = "plain_pieces.rs"]
 pub mod pieces;
 #[path = "plain_rules.rs"]
 pub mod rules;
+#[path = "plain_service.rs"]
+mod service;
 
-use pieces::{Collection, Piece, Place, MEMORY};
-use rules::{address_at, forbidden, isatap, u16_at, u32_at, Outer, OuterRead, OUTER_HEADER, TUNNELLED};
+use rules::{forbidden, u16_at, u32_at, OUTER_HEADER, TUNNELLED};
 pub use rules::{Address, Advertisement, Refusal};
-use std::ops::Range;
+pub use service::{Locator, Received, Sent, Service, Settings};
 
-pub const LOCATORS: usize = 8;
-pub const PREFIXES: usize = 8;
-pub const ROUTERS: usize = 16;
 pub const NEIGHBOURS: usize = 64;
 /// Seconds after which a size report is no longer in force.
 const REPORT_AGE: u32 = 600;
-/// The smallest size of an IPv6 link, which no tunnel goes below.
-const LEAST: usize = 1280;
-/// When to ask a router again whose advertisement has no lifetime that counts.
-const RENEWAL: u32 = 3600;
 const PLATEAUS: [u16; 11] = [65535, 32000, 17914, 8166, 4352, 2002, 1492, 1006, 508, 296, 68];
-
-#[derive(Clone, Copy, Debug, Default, PartialEq, Eq)]
-pub struct Locator {
-    pub address: u32,
-    pub interface: u8,
-}
-
-/// What an operator sets; a count above its array's length is refused with the rest.
-#[derive(Clone, Copy, Debug, Default, PartialEq, Eq)]
-pub struct Settings {
-    pub locators: [Locator; LOCATORS],
-    pub locator_count: usize,
-    pub prefixes: [[u8; 8]; PREFIXES],
-    pub prefix_count: usize,
-    pub routers: [u32; ROUTERS],
-    pub router_count: usize,
-    pub link_size: u16,
-    pub ttl: u8,
-    pub interval: u16,
-    pub identification: u16,
-    pub reporting: Address,
-}
-
-impl Settings {
-    pub const LINK_SIZE: u16 = 1500;
-    pub const TTL: u8 = 64;
-    pub const INTERVAL: u16 = 120;
-    pub const IDENTIFICATION: u16 = 1;
-
-    /// The same locators, prefixes and routers, and the defaults for the rest.
-    pub fn defaults(self) -> Settings {
-        Settings {
-            link_size: Settings::LINK_SIZE,
-            ttl: Settings::TTL,
-            interval: Settings::INTERVAL,
-            identification: Settings::IDENTIFICATION,
-            reporting: rules::link_local(self.locators[0].address),
-            ..self
-        }
-    }
-
-    fn locators(&self) -> &[Locator] {
-        &self.locators[..self.locator_count]
-    }
-
-    fn prefixes(&self) -> &[[u8; 8]] {
-        &self.prefixes[..self.prefix_count]
-    }
-
-    /// Whether a locator, on whatever interface, has the address.
-    fn is_own(&self, address: u32) -> bool {
-        self.locators().iter().any(|locator| locator.address == address)
-    }
-
-    fn allowed(&self) -> bool {
-        let (Some(locators), Some(routers)) =
-            (self.locators.get(..self.locator_count), self.routers.get(..self.router_count))
-        else {
-            return false;
-        };
-        !locators.is_empty()
-            && self.prefix_count <= PREFIXES
-            && !locators.iter().any(|locator| forbidden(locator.address))
-            && distinct(locators)
-            && self.routers_allowed(routers)
-            && (576..=9216).contains(&self.link_size)
-            && self.ttl != 0
-            && (1..=3600).contains(&self.interval)
-            && !rules::no_host(&self.reporting)
-    }
-
-    fn routers_allowed(&self, routers: &[u32]) -> bool {
-        routers.len() <= ROUTERS
-            && !routers.iter().any(|&router| forbidden(router) || self.is_own(router))
-            && distinct(routers)
-    }
-}
-
-fn distinct<T: PartialEq>(items: &[T]) -> bool {
-    (1..items.len()).all(|i| !items[..i].contains(&items[i]))
-}
-
-#[derive(Clone, Copy, Debug, Default, PartialEq, Eq)]
-pub struct Router {
-    pub address: u32,
-    /// Exact, so it may lie past the last 32-bit second.
-    pub due: u64,
-}
-
-/// The routers in force.
-#[derive(Clone, Copy, Debug, Default, PartialEq, Eq)]
-pub struct RouterList {
-    routers: [Router; ROUTERS],
-    count: usize,
-}
-
-impl RouterList {
-    pub fn as_slice(&self) -> &[Router] {
-        &self.routers[..self.count]
-    }
-
-    fn find(&self, address: u32) -> Option<&Router> {
-        self.as_slice().iter().find(|router| router.address == address)
-    }
-
-    fn find_mut(&mut self, address: u32) -> Option<&mut Router> {
-        self.routers[..self.count].iter_mut().find(|router| router.address == address)
-    }
-
-    /// The list of these addresses: a router of this list keeps its due time, a new one is due at `now`.
-    fn replaced(&self, addresses: &[u32], now: u32) -> RouterList {
-        let mut next = RouterList { count: addresses.len(), ..RouterList::default() };
-        for (place, &address) in next.routers.iter_mut().zip(addresses) {
-            let due = self.find(address).map_or(u64::from(now), |router| router.due);
-            *place = Router { address, due };
-        }
-        next
-    }
-
-    /// The router with the earliest due time that is not in the future, the lowest place on a tie.
-    fn due_first(&mut self, now: u32) -> Option<&mut Router> {
-        self.routers[..self.count]
-            .iter_mut()
-            .filter(|router| router.due <= u64::from(now))
-            .min_by_key(|router| router.due)
-    }
-}
 
 /// An accepted size report.
 #[derive(Clone, Copy, Debug, Default, PartialEq, Eq)]
@@ -178,7 +45,7 @@ impl PathTable {
         self.as_slice().iter().position(|report| report.neighbour == neighbour)
     }
 
-    /// The reported size toward the neighbour that is in force.
+    /// The reported size toward the neighbour that is kept.
     pub fn size(&self, neighbour: u32, now: u32) -> Option<u16> {
         let report = &self.reports[self.place(neighbour)?];
         (now - report.time < REPORT_AGE).then_some(report.size)
@@ -199,111 +66,90 @@ impl PathTable {
     }
 }
 
-/// Where the inner packet stands of a datagram that is delivered: in the datagram, or in the memory of what was joined.
-#[derive(Clone, Debug, PartialEq, Eq)]
-pub enum Received {
-    Whole(Range<usize>),
-    Joined(Range<usize>),
-}
-
-/// What sending answers when it does not refuse; `TooBig` is number 14.
+/// The services of a node, numbered from 0.
 #[derive(Clone, Copy, Debug, PartialEq, Eq)]
-pub enum Sent {
-    Wrapped { length: usize },
-    TooBig { size: u16, length: usize },
+struct Services {
+    first: Service,
+    second: Option<Service>,
 }
 
-/// One tunnel end.
+impl Services {
+    /// The service of that number; 11.
+    fn get(&self, number: u8) -> Result<&Service, Refusal> {
+        match (number, &self.second) {
+            (0, _) => Ok(&self.first),
+            (1, Some(second)) => Ok(second),
+            _ => Err(Refusal::NoSuchNumber),
+        }
+    }
+
+    fn get_mut(&mut self, number: u8) -> Result<&mut Service, Refusal> {
+        match (number, &mut self.second) {
+            (0, _) => Ok(&mut self.first),
+            (1, Some(second)) => Ok(second),
+            _ => Err(Refusal::NoSuchNumber),
+        }
+    }
+
+    /// The first that has a locator of the address.
+    fn owner(&self, address: u32) -> Option<&Service> {
+        [Some(&self.first), self.second.as_ref()]
+            .into_iter()
+            .flatten()
+            .find(|service| service.settings().is_own(address))
+    }
+}
+
+/// A node of one service or of two. Every call but a report names its service; one that the node has not gives 11, before all else.
 #[derive(Clone, Copy, Debug, PartialEq, Eq)]
 pub struct Node {
-    settings: Settings,
-    routers: RouterList,
-    pieces: Collection,
-    identification: u16,
+    services: Services,
     paths: PathTable,
     latest: u32,
 }
 
 impl Node {
-    /// A node with these settings, all routers due at 0; 1.
+    /// A node of one service with these settings, all routers due at 0; 1.
     pub fn new(settings: &Settings) -> Result<Node, Refusal> {
         if !settings.allowed() {
             return Err(Refusal::Settings);
         }
-        Ok(Node {
-            settings: *settings,
-            routers: RouterList::default().replaced(&settings.routers[..settings.router_count], 0),
-            pieces: Collection::default(),
-            identification: settings.identification,
-            paths: PathTable::new(),
-            latest: 0,
-        })
+        Ok(Node::of(Services { first: Service::new(settings), second: None }))
     }
 
-    /// Where the inner packet stands, also of a datagram that a piece completes; 15, 2, 3, 4, 6, 7, then for a piece 30, 29, 28, 27, and 8,
-    /// 9, 10.
+    /// A node of two services with these settings, all routers due at 0; 1.
+    pub fn new_pair(first: &Settings, second: &Settings) -> Result<Node, Refusal> {
+        if !first.allowed() || !second.allowed() || !first.is_apart(second) {
+            return Err(Refusal::Settings);
+        }
+        Ok(Node::of(Services { first: Service::new(first), second: Some(Service::new(second)) }))
+    }
+
+    fn of(services: Services) -> Node {
+        Node { services, paths: PathTable::new(), latest: 0 }
+    }
+
     pub fn receive(
         &mut self,
+        service: u8,
         datagram: &[u8],
         interface: u8,
         time: u32,
         memory: &mut [u8],
     ) -> Result<Received, Refusal> {
         self.raise(time);
-        let memory = memory.first_chunk_mut::<MEMORY>().ok_or(Refusal::Room)?;
-        let outer = rules::read_any_outer(datagram)?;
-        self.arrives(&outer, interface)?;
-        let payload = outer.payload(datagram);
-        if !outer.is_piece() {
-            let start = usize::from(outer.header);
-            let length = self.admitted(outer.source, payload)?;
-            return Ok(Received::Whole(start..start + length));
-        }
-        let joined = self.pieces.take(&Piece::new(&outer, payload), self.latest, memory)?;
-        let length = self.admitted(outer.source, &memory[joined.clone()])?;
-        Ok(Received::Joined(joined.start..joined.start + length))
+        self.services.get_mut(service)?.receive(datagram, interface, self.latest, memory)
     }
 
     /// The part of the datagram that holds the inner packet, empty where it is refused, and for a piece.
-    pub fn received_part<'d>(&self, datagram: &'d [u8], interface: u8) -> &'d [u8] {
-        let judged = || {
-            let outer = rules::read_outer(datagram)?;
-            self.arrives(&outer, interface)?;
-            let payload = outer.payload(datagram);
-            self.admitted(outer.source, payload).map(|length| &payload[..length])
-        };
-        judged().unwrap_or(&[])
+    pub fn received_part<'d>(&self, service: u8, datagram: &'d [u8], interface: u8) -> &'d [u8] {
+        let part = self.services.get(service).and_then(|service| service.received_part(datagram, interface));
+        part.unwrap_or(&[])
     }
 
-    /// Whether the datagram is for us, from an address that may send; 6, 7.
-    fn arrives(&self, outer: &OuterRead, interface: u8) -> Result<(), Refusal> {
-        let ours = Locator { address: outer.destination, interface };
-        if !self.settings.locators().contains(&ours) {
-            return Err(Refusal::NotOurs);
-        }
-        if forbidden(outer.source) {
-            return Err(Refusal::OuterSource);
-        }
-        Ok(())
-    }
-
-    /// The length of the inner packet at the start of a datagram's payload, whose outer source may send it; 8, 9, 10.
-    fn admitted(&self, outer_source: u32, payload: &[u8]) -> Result<usize, Refusal> {
-        let length = rules::inner_length(payload)?;
-        let source = address_at(payload, 8);
-        if rules::bad_source(&source) {
-            return Err(Refusal::InnerSource);
-        }
-        let embedded = isatap(self.settings.prefixes(), &source) == Some(outer_source);
-        if !embedded && self.routers.find(outer_source).is_none() {
-            return Err(Refusal::SourcesDiffer);
-        }
-        Ok(length)
-    }
-
-    /// Wraps the packet for the next hop, or answers Too Big; 8, 11, 12, 13, 23, 15.
     pub fn send(
         &mut self,
+        service: u8,
         packet: &[u8],
         next_hop: &Address,
         locator: usize,
@@ -311,48 +157,16 @@ impl Node {
         out: &mut [u8],
     ) -> Result<Sent, Refusal> {
         self.raise(time);
-        if rules::inner_length(packet)? != packet.len() {
-            return Err(Refusal::InnerMalformed);
-        }
-        let source = self.locator(locator)?;
-        let end = isatap(self.settings.prefixes(), next_hop).ok_or(Refusal::NextHop)?;
-        if forbidden(end) || self.settings.is_own(end) {
-            return Err(Refusal::TunnelEnd);
-        }
-        let passed = usize::from(self.path_size(end)) - OUTER_HEADER;
-        let limit = passed.max(LEAST);
-        if packet.len() > limit {
-            return self.answer_too_big(limit as u16, packet, out);
-        }
-        let outer = Outer {
-            identification: self.identification,
-            dont_fragment: passed > LEAST,
-            ttl: self.settings.ttl,
-            protocol: TUNNELLED,
-            source,
-            destination: end,
-        };
-        let length = rules::wrap(&outer, packet, out)?;
-        self.identification = self.identification.wrapping_add(1);
-        Ok(Sent::Wrapped { length })
+        self.services.get_mut(service)?.send(packet, next_hop, locator, &self.paths, self.latest, out)
     }
 
-    fn answer_too_big(&self, size: u16, packet: &[u8], out: &mut [u8]) -> Result<Sent, Refusal> {
-        let length =
-            if rules::unanswered(packet) { 0 } else { rules::too_big(&self.settings.reporting, size, packet, out)? };
-        Ok(Sent::TooBig { size, length })
-    }
-
-    /// Takes an ICMPv4 message in, and gives the neighbour and its size; 16 to 19.
+    /// Takes an ICMPv4 message in, which belongs to the service whose locator it quotes, and gives the neighbour and its size; 16 to 19.
     pub fn report(&mut self, message: &[u8], time: u32) -> Result<(u32, u16), Refusal> {
         self.raise(time);
         let quote = quoted_header(message)?;
         let (protocol, source, neighbour) = (quote[9], u32_at(quote, 12), u32_at(quote, 16));
-        if protocol != TUNNELLED
-            || !self.settings.is_own(source)
-            || forbidden(neighbour)
-            || self.settings.is_own(neighbour)
-        {
+        let service = self.services.owner(source).ok_or(Refusal::ForeignQuote)?;
+        if protocol != TUNNELLED || forbidden(neighbour) || service.settings().is_own(neighbour) {
             return Err(Refusal::ForeignQuote);
         }
         let size = match u16_at(message, 6) {
@@ -360,88 +174,54 @@ impl Node {
             1..=67 => return Err(Refusal::UnusableSize),
             size => size,
         };
-        if size >= self.path_size(neighbour) {
+        if size >= service.path_size(&self.paths, neighbour, self.latest) {
             return Err(Refusal::SizeNotBelow);
         }
         self.paths.accept(Report { neighbour, size, time: self.latest });
         Ok((neighbour, size))
     }
 
-    /// Replaces the router list; 1.
-    pub fn replace_routers(&mut self, routers: &[u32], time: u32) -> Result<(), Refusal> {
+    pub fn replace_routers(&mut self, service: u8, routers: &[u32], time: u32) -> Result<(), Refusal> {
         self.raise(time);
-        if !self.settings.routers_allowed(routers) {
-            return Err(Refusal::Settings);
-        }
-        self.routers = self.routers.replaced(routers, self.latest);
-        Ok(())
+        self.services.get_mut(service)?.replace_routers(routers, self.latest)
     }
 
-    /// Writes a solicitation to the router that is due first, and names it; 11, 22, 15.
-    pub fn ask(&mut self, locator: usize, time: u32, out: &mut [u8]) -> Result<u32, Refusal> {
+    pub fn ask(&mut self, service: u8, locator: usize, time: u32, out: &mut [u8]) -> Result<u32, Refusal> {
         self.raise(time);
-        let source = self.locator(locator)?;
-        let router = self.routers.due_first(self.latest).ok_or(Refusal::NoneDue)?;
-        rules::solicitation(source, router.address, out)?;
-        router.due = u64::from(self.latest) + u64::from(self.settings.interval);
-        Ok(router.address)
+        self.services.get_mut(service)?.ask(locator, self.latest, out)
     }
 
-    /// Takes a router advertisement in, and names the router; 8, 20, 21.
-    pub fn hear(&mut self, packet: &[u8], time: u32) -> Result<u32, Refusal> {
+    pub fn hear(&mut self, service: u8, packet: &[u8], time: u32) -> Result<u32, Refusal> {
         self.raise(time);
-        let packet = &packet[..rules::inner_length(packet)?];
-        let lifetime = rules::advertised_lifetime(packet)?;
-        let advertiser = isatap(&[], &address_at(packet, 8)).ok_or(Refusal::Unlisted)?;
-        let router = self.routers.find_mut(advertiser).ok_or(Refusal::Unlisted)?;
-        let wait = lifetime.map_or(RENEWAL, |lifetime| (lifetime / 2).max(u32::from(self.settings.interval)));
-        router.due = u64::from(self.latest) + u64::from(wait);
-        Ok(advertiser)
+        self.services.get_mut(service)?.hear(packet, self.latest)
     }
 
-    /// Writes the operator's advertisement for the packet that asks and gives its length; 8, 11, 24, 25, 26, 15.
     pub fn advertise(
         &self,
+        service: u8,
         packet: &[u8],
         locator: usize,
         advertised: &Advertisement,
         out: &mut [u8],
     ) -> Result<usize, Refusal> {
-        let packet = &packet[..rules::inner_length(packet)?];
-        let source = self.locator(locator)?;
-        let asker = rules::solicited(packet)?;
-        isatap(&[], &asker).ok_or(Refusal::Asker)?;
-        rules::advertisement(source, &asker, advertised, out)
+        self.services.get(service)?.advertise(packet, locator, advertised, out)
     }
 
-    /// The size in force toward the neighbour at the latest time.
-    pub fn path_size(&self, neighbour: u32) -> u16 {
-        self.paths.size(neighbour, self.latest).unwrap_or(self.settings.link_size)
+    /// The size in force for the service toward the neighbour, at the latest time; 11.
+    pub fn path_size(&self, service: u8, neighbour: u32) -> Result<u16, Refusal> {
+        Ok(self.services.get(service)?.path_size(&self.paths, neighbour, self.latest))
     }
 
-    pub fn settings(&self) -> &Settings {
-        &self.settings
+    pub fn service(&self, number: u8) -> Option<&Service> {
+        self.services.get(number).ok()
     }
 
-    pub fn routers(&self) -> &[Router] {
-        self.routers.as_slice()
+    pub fn service_mut(&mut self, number: u8) -> Option<&mut Service> {
+        self.services.get_mut(number).ok()
     }
 
     pub fn reports(&self) -> &[Report] {
         self.paths.as_slice()
-    }
-
-    /// The places of the datagrams that are collected.
-    pub fn places(&self) -> &[Place] {
-        &self.pieces.places
-    }
-
-    pub fn places_mut(&mut self) -> &mut [Place] {
-        &mut self.pieces.places
-    }
-
-    pub fn identification(&self) -> u16 {
-        self.identification
     }
 
     pub fn latest(&self) -> u32 {
@@ -450,11 +230,6 @@ impl Node {
 
     fn raise(&mut self, time: u32) {
         self.latest = self.latest.max(time);
-    }
-
-    /// The address of the locator of that number; 11.
-    fn locator(&self, number: usize) -> Result<u32, Refusal> {
-        self.settings.locators().get(number).map(|locator| locator.address).ok_or(Refusal::LocatorNumber)
     }
 }
 

@@ -19,7 +19,8 @@ pub enum Refusal {
     InnerMalformed = 8,
     InnerSource = 9,
     SourcesDiffer = 10,
-    LocatorNumber = 11,
+    /// Of a locator or of a service.
+    NoSuchNumber = 11,
     NextHop = 12,
     TunnelEnd = 13,
     Room = 15,

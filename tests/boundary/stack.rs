@@ -68,30 +68,53 @@ pub fn stack(limit: usize) -> bool {
 
 fn all() -> Needs {
     let (mut needs, mut random) = (Needs(Vec::new()), Random::new(1));
-    let settings = settings();
-    needs.call("defaults", || settings.defaults());
+    let [first, second] = [settings(0), settings(1)];
+    needs.call("defaults", || first.defaults());
     let mut node = Node::EMPTY;
-    needs.call("new", || node.set_up(Settings { ttl: 0, ..settings }));
-    needs.call("new", || node.set_up(settings));
+    needs.call("new", || node.set_up(Settings { ttl: 0, ..first }));
+    needs.call("new", || node.set_up(first));
+    needs.call("new_pair", || node.set_up_pair(first, Settings { ttl: 0, ..second }));
+    needs.call("new_pair", || node.set_up_pair(first, Settings { locators: first.locators, ..second }));
+    needs.call("new_pair", || node.set_up_pair(first, second));
     for neighbour in 0..64 {
         let message = packets::size_report(&mut random, 1400, 1500, (LOCATOR, NEIGHBOUR + neighbour), 0, 8);
         assert_eq!(node.report(&message, 1000).number, 0);
     }
-    receiving(&mut needs, &mut random, node);
-    joining(&mut needs, &mut random, node);
-    sending(&mut needs, &mut random, node);
-    reports(&mut needs, &mut random, node);
-    routers(&mut needs, &mut random, node);
-    advertising(&mut needs, &mut random, &node);
+    for service in [0, 1] {
+        receiving(&mut needs, &mut random, node, service);
+        joining(&mut needs, &mut random, node, service);
+        sending(&mut needs, &mut random, node, service);
+        reports(&mut needs, &mut random, node, service);
+        routers(&mut needs, &mut random, node, service);
+        advertising(&mut needs, &mut random, &node, service);
+    }
+    absent(&mut needs, node);
     rules(&mut needs, &mut random);
     needs
 }
 
+/// Calls of a service that no node has.
+fn absent(needs: &mut Needs, mut node: Node) {
+    let (list, none) = (Addresses { routers: [0; 16], count: 0 }, Advertisement::default());
+    needs.call("receive", || node.receive(2, &[], 0, 0, &mut []));
+    needs.call("send", || node.send(2, &[], Address { bytes: [0; 16] }, 0, 0, &mut []));
+    needs.call("path_size", || node.path_size(2, 0));
+    needs.call("replace_routers", || node.replace_routers(2, list, 0));
+    needs.call("ask", || node.ask(2, 0, 0, &mut []));
+    needs.call("hear", || node.hear(2, &[], 0));
+    needs.call("advertise", || node.advertise(2, &[], 0, none, &mut []));
+}
+
+/// The last locator of the service.
+fn last_locator(service: u8) -> u32 {
+    settings(service).locators[7].address
+}
+
 /// As many of everything as there can be.
-fn settings() -> Settings {
+fn settings(service: u8) -> Settings {
     let mut settings = Settings { locator_count: 8, prefix_count: 8, router_count: 16, ..Settings::EMPTY };
     for (place, locator) in settings.locators.iter_mut().enumerate() {
-        *locator = Locator { address: LOCATOR + place as u32, interface: place as u8 };
+        *locator = Locator { address: LOCATOR + 8 * u32::from(service) + place as u32, interface: place as u8 };
     }
     for (place, prefix) in settings.prefixes.chunks_exact_mut(8).enumerate() {
         prefix.copy_from_slice(&PREFIX);
@@ -104,15 +127,15 @@ fn settings() -> Settings {
 }
 
 /// Sources of every kind: by the last prefix, a listed router's, one that is refused at the end of all lists.
-fn receiving(needs: &mut Needs, random: &mut Random, mut node: Node) {
+fn receiving(needs: &mut Needs, random: &mut Random, mut node: Node, service: u8) {
     let mut memory = vec![0; MEMORY];
     for source in [NEIGHBOUR, ROUTER + 15, NEIGHBOUR + 1, 0x7f00_0001] {
         for (length, words) in [(40, 0), (65_475, 10), (65_515, 0)] {
             let inner = packets::packet(random, length, 58, &packets::address(&PREFIX, 2, NEIGHBOUR));
-            let mut datagram = packets::datagram(random, (source, LOCATOR + 7), words, &inner, 70_000);
+            let mut datagram = packets::datagram(random, (source, last_locator(service)), words, &inner, 70_000);
             for _ in 0..2 {
-                needs.call("receive", || node.receive(&datagram, 7, 1001, &mut memory));
-                needs.call("receive", || node.receive(&datagram, 7, 1001, &mut []));
+                needs.call("receive", || node.receive(service, &datagram, 7, 1001, &mut memory));
+                needs.call("receive", || node.receive(service, &datagram, 7, 1001, &mut []));
                 needs.call("read_outer", || raw::read_outer(&datagram));
                 needs.call("unwrap", || raw::unwrap(&datagram));
                 datagram[10] ^= 1;
@@ -122,27 +145,27 @@ fn receiving(needs: &mut Needs, random: &mut Random, mut node: Node) {
 }
 
 /// Datagrams that the last prefix admits, the last router, and neither, in pieces of each length.
-fn joining(needs: &mut Needs, random: &mut Random, start: Node) {
+fn joining(needs: &mut Needs, random: &mut Random, start: Node, service: u8) {
     for source in [NEIGHBOUR, ROUTER + 15, NEIGHBOUR + 1] {
         for step in [8, 64, 1024] {
-            joining_by(needs, random, start, source, step);
+            joining_by(needs, random, start, service, source, step);
         }
     }
 }
 
 /// Eight datagrams of the longest payload in pieces of that length, and a ninth that finds no place; at both ends each piece twice; then one
 /// that overlaps, one that is unfit, and the last pieces.
-fn joining_by(needs: &mut Needs, random: &mut Random, mut node: Node, source: u32, step: usize) {
-    let mut memory = vec![0; MEMORY];
+fn joining_by(needs: &mut Needs, random: &mut Random, mut node: Node, service: u8, source: u32, step: usize) {
+    let (mut memory, destination) = (vec![0; MEMORY], last_locator(service));
     let payload = packets::packet(random, ROOM, 58, &packets::address(&PREFIX, 2, NEIGHBOUR));
     let mut receive = |identification: u16, bytes: Range<usize>| {
-        let key = Key { source, destination: LOCATOR + 7, identification, protocol: 41 };
+        let key = Key { source, destination, identification, protocol: 41 };
         let piece = packets::piece(random, &key, bytes.start / 8, bytes.end < ROOM, &payload[bytes.clone()]);
         if (2 * step..ROOM - 2 * step).contains(&bytes.start) {
             // Painting takes its time, and the pieces between are like the others.
-            _ = node.receive(&piece, 7, 1001, &mut memory);
+            _ = node.receive(service, &piece, 7, 1001, &mut memory);
         } else {
-            (0..2).for_each(|_| needs.call("receive", || node.receive(&piece, 7, 1001, &mut memory)));
+            (0..2).for_each(|_| needs.call("receive", || node.receive(service, &piece, 7, 1001, &mut memory)));
         }
     };
     for at in (0..ROOM - step).step_by(step) {
@@ -153,27 +176,27 @@ fn joining_by(needs: &mut Needs, random: &mut Random, mut node: Node, source: u3
     (1..8).for_each(|identification| receive(identification, ROOM - step..ROOM));
 }
 
-fn sending(needs: &mut Needs, random: &mut Random, start: Node) {
+fn sending(needs: &mut Needs, random: &mut Random, start: Node, service: u8) {
     let mut out = vec![0; 70_000];
-    for neighbour in [NEIGHBOUR, NEIGHBOUR + 63, NEIGHBOUR + 64, LOCATOR + 7] {
+    for neighbour in [NEIGHBOUR, NEIGHBOUR + 63, NEIGHBOUR + 64, last_locator(service)] {
         let next_hop = Address { bytes: packets::address(&PREFIX, 2, neighbour) };
         for length in [40, 1380, 1381, 9196, 9197, 65_575] {
             for source in [link_local(LOCATOR), [0; 16]] {
                 let packet = packets::packet(random, length, 58, &source);
                 for room in [0, 70_000] {
                     let mut node = start;
-                    needs.call("send", || node.send(&packet, next_hop, 7, 1001, &mut out[..room]));
-                    needs.call("send", || node.send(&packet, next_hop, 8, 1601, &mut out[..room]));
+                    needs.call("send", || node.send(service, &packet, next_hop, 7, 1001, &mut out[..room]));
+                    needs.call("send", || node.send(service, &packet, next_hop, 8, 1601, &mut out[..room]));
                 }
             }
         }
-        needs.call("path_size", || start.path_size(neighbour));
+        needs.call("path_size", || start.path_size(service, neighbour));
     }
-    chains(needs, random, start);
+    chains(needs, random, start, service);
 }
 
 /// The longest packet with as many extension headers as there can be: up to an error, up to what draws a message, and past the end.
-fn chains(needs: &mut Needs, random: &mut Random, start: Node) {
+fn chains(needs: &mut Needs, random: &mut Random, start: Node, service: u8) {
     let next_hop = Address { bytes: packets::address(&PREFIX, 2, NEIGHBOUR) };
     let mut out = vec![0; 1280];
     for turns in packets::TURNS {
@@ -182,20 +205,21 @@ fn chains(needs: &mut Needs, random: &mut Random, start: Node) {
             let mut packet = packets::packet(random, 65_575, 0, &link_local(NEIGHBOUR));
             packets::put_chain(&mut packet, &headers, upper, &[kind]);
             let mut node = start;
-            let sent = node.send(&packet, next_hop, 7, 1001, &mut out);
+            let sent = node.send(service, &packet, next_hop, 7, 1001, &mut out);
             assert_eq!((sent.number, sent.message_length), (14, drawn), "all headers are followed");
             for room in [0, 1280] {
-                needs.call("send", || node.send(&packet, next_hop, 7, 1001, &mut out[..room]));
+                needs.call("send", || node.send(service, &packet, next_hop, 7, 1001, &mut out[..room]));
             }
         }
     }
 }
 
-fn reports(needs: &mut Needs, random: &mut Random, start: Node) {
-    for neighbour in [NEIGHBOUR, NEIGHBOUR + 63, NEIGHBOUR + 64, LOCATOR + 7] {
+fn reports(needs: &mut Needs, random: &mut Random, start: Node, service: u8) {
+    let locator = last_locator(service);
+    for neighbour in [NEIGHBOUR, NEIGHBOUR + 63, NEIGHBOUR + 64, locator] {
         for size in [0, 67, 68, 1399, 1400] {
             for (words, rest) in [(0, 0), (10, 65_467), (10, 139_000)] {
-                let mut message = packets::size_report(random, size, 69, (LOCATOR + 7, neighbour), words, rest);
+                let mut message = packets::size_report(random, size, 69, (locator, neighbour), words, rest);
                 let mut node = start;
                 needs.call("report", || node.report(&message, 1001));
                 message[2] ^= 1;
@@ -205,24 +229,25 @@ fn reports(needs: &mut Needs, random: &mut Random, start: Node) {
     }
 }
 
-fn routers(needs: &mut Needs, random: &mut Random, start: Node) {
+fn routers(needs: &mut Needs, random: &mut Random, start: Node, service: u8) {
     let mut out = [0; 48];
-    let mut list = Addresses { routers: start.service.settings.routers, count: 16 };
+    let mut list = Addresses { routers: settings(service).routers, count: 16 };
     list.routers.reverse();
-    for first in [ROUTER + 15, ROUTER + 40, LOCATOR + 7] {
+    for first in [ROUTER + 15, ROUTER + 40, last_locator(service)] {
         list.routers[0] = first;
         let mut node = start;
-        needs.call("replace_routers", || node.replace_routers(list, 1001));
+        needs.call("replace_routers", || node.replace_routers(service, list, 1001));
     }
     let mut node = start;
     for _ in 0..17 {
-        needs.call("ask", || node.ask(7, 1001, &mut out));
-        needs.call("ask", || node.ask(7, 1001, &mut []));
+        needs.call("ask", || node.ask(service, 7, 1001, &mut out));
+        needs.call("ask", || node.ask(service, 7, 1001, &mut []));
     }
     for router in [ROUTER + 15, NEIGHBOUR] {
         for (kind, units) in KINDS {
             let options = options(random, kind, units, OPTIONS);
-            advertisements(needs, &packets::advertisement(random, &link_local(router), 1800, &options), start);
+            let packet = packets::advertisement(random, &link_local(router), 1800, &options);
+            advertisements(needs, &packet, start, service);
         }
     }
 }
@@ -241,9 +266,10 @@ fn options(random: &mut Random, kind: u8, units: usize, size: usize) -> Vec<u8> 
 }
 
 /// The longest advertisement as it is, and with each thing wrong that is judged before or behind its options.
-fn advertisements(needs: &mut Needs, packet: &[u8], start: Node) {
+fn advertisements(needs: &mut Needs, packet: &[u8], start: Node, service: u8) {
     let mut node = start;
-    assert!(packet.len() == 65_568 && matches!(node.hear(packet, 1001).number, 0 | 21), "the longest, and valid");
+    let number = node.hear(service, packet, 1001).number;
+    assert!(packet.len() == 65_568 && matches!(number, 0 | 21), "the longest, and valid");
     let last = packet.len() - 7;
     for (at, value) in [(0, 0x60), (0, 0x40), (6, 59), (7, 64), (8, 0x20), (41, 1), (last, 0), (57, 0), (42, 0)] {
         for repaired in [true, false] {
@@ -252,14 +278,14 @@ fn advertisements(needs: &mut Needs, packet: &[u8], start: Node) {
             if repaired {
                 packets::repair_icmpv6(&mut packet);
             }
-            needs.call("hear", || node.hear(&packet, 1001));
+            needs.call("hear", || node.hear(service, &packet, 1001));
         }
     }
 }
 
 /// As much as there can be, to the longest solicitations, from an asker and from `::`, and to the longest packet; as they are, and with
 /// each thing wrong that is judged before or behind their options.
-fn advertising(needs: &mut Needs, random: &mut Random, node: &Node) {
+fn advertising(needs: &mut Needs, random: &mut Random, node: &Node, service: u8) {
     let mut full = advertised::any(random);
     (full.prefix_count, full.route_count) = (8, 8);
     for place in 0..8 {
@@ -271,20 +297,20 @@ fn advertising(needs: &mut Needs, random: &mut Random, node: &Node) {
             let mut options = options(random, kind, units, ASKED_OPTIONS);
             options.resize(ASKED_OPTIONS + surplus, kind);
             let packet = packets::solicitation(random, &source, &options);
-            let number = node.advertise(&packet, 7, full, &mut out).number;
+            let number = node.advertise(service, &packet, 7, full, &mut out).number;
             assert!(number == 0 || surplus > 0 || source == [0; 16], "the longest that is answered");
             let last = packet.len() - surplus - 7;
             for (at, value) in [(0, 0x60), (0, 0x40), (6, 59), (7, 64), (8, 0x20), (41, 1), (last, 0), (49, 0), (42, 0)]
             {
                 let mut packet = packet.clone();
                 packet[at] = value;
-                needs.call("advertise", || node.advertise(&packet, 7, full, &mut out));
+                needs.call("advertise", || node.advertise(service, &packet, 7, full, &mut out));
                 packets::repair_icmpv6(&mut packet);
-                needs.call("advertise", || node.advertise(&packet, 7, full, &mut out));
+                needs.call("advertise", || node.advertise(service, &packet, 7, full, &mut out));
             }
             for advertised in [full, Advertisement { route_count: 9, ..full }, Advertisement::default()] {
                 for (locator, room) in [(7, 0), (7, advertised::LONGEST - 1), (8, 0)] {
-                    needs.call("advertise", || node.advertise(&packet, locator, advertised, &mut out[..room]));
+                    needs.call("advertise", || node.advertise(service, &packet, locator, advertised, &mut out[..room]));
                 }
             }
         }
@@ -296,7 +322,7 @@ fn rules(needs: &mut Needs, random: &mut Random) {
     random.fill(&mut bytes);
     let outer =
         Outer { identification: 1, dont_fragment: 1, ttl: 64, protocol: 41, source: LOCATOR, destination: NEIGHBOUR };
-    let prefixes = Prefixes { bytes: settings().prefixes, count: 8 };
+    let prefixes = Prefixes { bytes: settings(0).prefixes, count: 8 };
     for length in [0, 1, 20, 39, 40, 1232, 1500, 65_515, 65_516, 140_000] {
         let bytes = &bytes[..length];
         needs.call("checksum", || raw::checksum(u32::MAX, bytes));

@@ -16,21 +16,26 @@ typedef const uint8_t *bytes_t;
 
 FORWARD(struct bogtrumpet_settings, defaults, (struct bogtrumpet_settings s), (s))
 FORWARD(uint8_t, new, (node_t *n, struct bogtrumpet_settings s), (n, s))
+FORWARD(uint8_t, new_pair, (node_t *n, struct bogtrumpet_settings first, struct bogtrumpet_settings second), (n, first, second))
 FORWARD(struct bogtrumpet_received, receive,
-        (node_t *n, bytes_t d, size_t length, uint8_t i, uint32_t time, uint8_t *memory, size_t memory_length),
-        (n, d, length, i, time, memory, memory_length))
+        (node_t *n, uint8_t service, bytes_t d, size_t length, uint8_t i, uint32_t time, uint8_t *memory, size_t memory_length),
+        (n, service, d, length, i, time, memory, memory_length))
 FORWARD(struct bogtrumpet_sent, send,
-        (node_t *n, bytes_t p, size_t length, address_t hop, size_t locator, uint32_t time, uint8_t *out, size_t room),
-        (n, p, length, hop, locator, time, out, room))
+        (node_t *n, uint8_t service, bytes_t p, size_t length, address_t hop, size_t locator, uint32_t time, uint8_t *out, size_t room),
+        (n, service, p, length, hop, locator, time, out, room))
 FORWARD(struct bogtrumpet_reported, report, (node_t *n, bytes_t m, size_t length, uint32_t time), (n, m, length, time))
-FORWARD(uint8_t, replace_routers, (node_t *n, struct bogtrumpet_addresses list, uint32_t time), (n, list, time))
-FORWARD(struct bogtrumpet_asked, ask, (node_t *n, size_t locator, uint32_t time, uint8_t *out, size_t room),
-        (n, locator, time, out, room))
-FORWARD(struct bogtrumpet_heard, hear, (node_t *n, bytes_t p, size_t length, uint32_t time), (n, p, length, time))
+FORWARD(uint8_t, replace_routers, (node_t *n, uint8_t service, struct bogtrumpet_addresses list, uint32_t time),
+        (n, service, list, time))
+FORWARD(struct bogtrumpet_asked, ask,
+        (node_t *n, uint8_t service, size_t locator, uint32_t time, uint8_t *out, size_t room),
+        (n, service, locator, time, out, room))
+FORWARD(struct bogtrumpet_heard, hear, (node_t *n, uint8_t service, bytes_t p, size_t length, uint32_t time),
+        (n, service, p, length, time))
 FORWARD(struct bogtrumpet_advertised, advertise,
-        (const node_t *n, bytes_t p, size_t length, size_t locator, struct bogtrumpet_advertisement a, uint8_t *out, size_t room),
-        (n, p, length, locator, a, out, room))
-FORWARD(uint16_t, path_size, (const node_t *n, uint32_t neighbour), (n, neighbour))
+        (const node_t *n, uint8_t service, bytes_t p, size_t length, size_t locator, struct bogtrumpet_advertisement a, uint8_t *out,
+         size_t room),
+        (n, service, p, length, locator, a, out, room))
+FORWARD(struct bogtrumpet_sized, path_size, (const node_t *n, uint8_t service, uint32_t neighbour), (n, service, neighbour))
 FORWARD(uint16_t, checksum, (uint32_t start, bytes_t b, size_t length), (start, b, length))
 FORWARD(bool, checksum_right, (bytes_t b, size_t length), (b, length))
 FORWARD(bool, forbidden, (uint32_t address), (address))
@@ -50,11 +55,11 @@ FORWARD(struct bogtrumpet_written, solicitation, (uint32_t locator, uint32_t rou
 const char *bogtrumpet_text(uint8_t number);
 const char *bogtrumpet_text(uint8_t number) { return bogtrumpet_number_text(number); }
 
-const size_t bogtrumpet_constants[13] = {
+const size_t bogtrumpet_constants[15] = {
     BOGTRUMPET_MAX_LOCATORS, BOGTRUMPET_MAX_PREFIXES, BOGTRUMPET_MAX_ROUTERS, BOGTRUMPET_MAX_NEIGHBOURS,
     BOGTRUMPET_OUTER_HEADER_LENGTH, BOGTRUMPET_SOLICITATION_LENGTH, BOGTRUMPET_MAX_TOO_BIG_LENGTH,
     BOGTRUMPET_MAX_SENT_LENGTH, BOGTRUMPET_MEMORY, BOGTRUMPET_MAX_ADVERTISED, BOGTRUMPET_MAX_ADVERTISEMENT_LENGTH,
-    BOGTRUMPET_PREFERENCE_HIGH, BOGTRUMPET_PREFERENCE_LOW,
+    BOGTRUMPET_PREFERENCE_HIGH, BOGTRUMPET_PREFERENCE_LOW, BOGTRUMPET_FIRST, BOGTRUMPET_SECOND,
 };
 
 /* The place of each field and the size of each struct, in the header's order; layout.rs has the same list. */
@@ -74,7 +79,7 @@ const size_t bogtrumpet_layout[] = {
     AT(collection, places), SIZE(collection),
     AT(service, settings), AT(service, routers), AT(service, pieces), AT(service, identification), SIZE(service),
     AT(paths, neighbours), AT(paths, sizes), AT(paths, times), AT(paths, count), SIZE(paths),
-    AT(node, service), AT(node, paths), AT(node, latest), SIZE(node),
+    AT(node, first), AT(node, second), AT(node, paths), AT(node, latest), AT(node, both), SIZE(node),
     AT(addresses, routers), AT(addresses, count), SIZE(addresses),
     AT(advertised_prefix, bytes), AT(advertised_prefix, valid), AT(advertised_prefix, preferred),
     AT(advertised_prefix, length), AT(advertised_prefix, on_link), AT(advertised_prefix, autonomous), SIZE(advertised_prefix),
@@ -85,6 +90,7 @@ const size_t bogtrumpet_layout[] = {
     AT(received, number), AT(received, joined), AT(received, offset), AT(received, length), SIZE(received),
     AT(sent, number), AT(sent, size), AT(sent, length), AT(sent, message_length), SIZE(sent),
     AT(reported, number), AT(reported, neighbour), AT(reported, size), SIZE(reported),
+    AT(sized, number), AT(sized, size), SIZE(sized),
     AT(asked, number), AT(asked, router), SIZE(asked),
     AT(heard, number), AT(heard, router), SIZE(heard),
     AT(advertised, number), AT(advertised, length), SIZE(advertised),

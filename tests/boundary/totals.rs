@@ -7,15 +7,23 @@ struct Kind {
     answers: &'static [usize],
 }
 
-/// Counted apart, behind the last number: Too Big with no message, of 14; a piece that is ignored, of 27; what is joined, of 0. And of a
-/// packet from a host with extension headers, Too Big with a message, with none, and 15 in its place.
+/// Counted apart, behind the last number: Too Big with no message, of 14; a piece that is ignored, of 27; what is joined, of 0. Of a
+/// packet from a host with extension headers, Too Big with a message, with none, and 15 in its place. Of 11, no such service.
 pub const TOO_BIG_SILENT: usize = 31;
 pub const IGNORED: usize = 32;
 pub const JOINED: usize = 33;
 pub const CHAIN_TOLD: usize = 34;
 pub const CHAIN_SILENT: usize = 35;
 pub const CHAIN_SHORT: usize = 36;
-const ANSWERS: usize = 37;
+pub const ABSENT: usize = 37;
+/// What can come about between two services: a report that is accepted for the first, and for the second; one that lowers the size in force
+/// of the other; 19 for a size that is below the other's alone; eight datagrams live in one collection and more in the other.
+pub const BY_FIRST: usize = 38;
+pub const BY_SECOND: usize = 39;
+pub const LOWERS_OTHER: usize = 40;
+pub const NOT_BELOW_OWN: usize = 41;
+pub const NINE_LIVE: usize = 42;
+const ANSWERS: usize = 43;
 
 macro_rules! kinds {
     ($($constant:ident $name:literal $answers:expr;)*) => {
@@ -28,17 +36,19 @@ macro_rules! kinds {
 kinds! {
     Defaults "defaults" [0];
     New "new" [0, 1];
-    Receive "receive" [0, 2, 3, 4, 6, 7, 8, 9, 10, 15];
-    Piece "receive of a piece" [JOINED, 2, 3, 4, 6, 7, 8, 9, 10, 15, 27, IGNORED, 28, 29, 30];
+    NewPair "new_pair" [0, 1];
+    Receive "receive" [0, 2, 3, 4, 6, 7, 8, 9, 10, 15, ABSENT];
+    Piece "receive of a piece" [JOINED, 2, 3, 4, 6, 7, 8, 9, 10, 15, 27, IGNORED, 28, 29, 30, ABSENT];
     Joined "joined as whole" [0, 4, 6, 7, 8, 9, 10];
-    Send "send" [0, 8, 11, 12, 13, 14, TOO_BIG_SILENT, 15, CHAIN_TOLD, CHAIN_SILENT, CHAIN_SHORT];
+    Send "send" [0, 8, 11, 12, 13, 14, TOO_BIG_SILENT, 15, CHAIN_TOLD, CHAIN_SILENT, CHAIN_SHORT, ABSENT];
     Report "report" [0, 16, 17, 18, 19];
-    Replace "replace_routers" [0, 1];
-    Ask "ask" [0, 11, 22, 15];
-    Hear "hear" [0, 8, 20, 21];
-    Advertise "advertise" [0, 8, 11, 24, 25, 26, 15];
+    Replace "replace_routers" [0, 1, ABSENT];
+    Ask "ask" [0, 11, 22, 15, ABSENT];
+    Hear "hear" [0, 8, 20, 21, ABSENT];
+    Advertise "advertise" [0, 8, 11, 24, 25, 26, 15, ABSENT];
     RoundTrip "heard as written" [0];
-    PathSize "path_size" [0, 1];
+    PathSize "path_size" [0, 1, ABSENT];
+    Two "of two services" [BY_FIRST, BY_SECOND, LOWERS_OTHER, NOT_BELOW_OWN, NINE_LIVE];
     Checksum "checksum" [0];
     ChecksumRight "checksum_right" [0, 1];
     Forbidden "forbidden" [0, 1];
@@ -51,7 +61,7 @@ kinds! {
     TooBig "too_big" [0, 8, 15];
     Solicitation "solicitation" [0, 15];
     Null "with (NULL, 0)" [0];
-    AnyNode "on any node" [0, JOINED, 1, 8, 10, 11, 14, TOO_BIG_SILENT, 15, 17, 19, 21, 22, 24, 25, 26, 27, 28, 29, 30];
+    AnyNode "on any node" [0, JOINED, 1, 8, 10, 11, 14, TOO_BIG_SILENT, 15, 17, 19, 21, 22, 24, 25, 26, 27, 28, 29, 30, ABSENT, BY_FIRST, BY_SECOND];
 }
 
 pub struct Totals {
@@ -65,8 +75,13 @@ impl Totals {
     }
 
     pub fn count(&mut self, call: Call, answer: usize) {
-        self.counts[call as usize][answer] += 1;
+        self.met(call, answer);
         self.calls += 1;
+    }
+
+    /// Counts what a call that is counted already has brought about.
+    pub fn met(&mut self, call: Call, answer: usize) {
+        self.counts[call as usize][answer] += 1;
     }
 
     /// One line: the calls by kind, and in brackets the answers by number.
@@ -100,6 +115,12 @@ fn answer_name(answer: usize) -> String {
         CHAIN_TOLD => "14 behind headers".into(),
         CHAIN_SILENT => "14 silent behind headers".into(),
         CHAIN_SHORT => "15 behind headers".into(),
+        ABSENT => "11 no such service".into(),
+        BY_FIRST => "report of the first".into(),
+        BY_SECOND => "report of the second".into(),
+        LOWERS_OTHER => "size lowered by the other's report".into(),
+        NOT_BELOW_OWN => "19 by its own size alone".into(),
+        NINE_LIVE => "nine datagrams live".into(),
         _ => answer.to_string(),
     }
 }
