@@ -6,6 +6,7 @@ use Rattle.checksum.specs.Sum.{onesSumFrom}
 use Rattle.node.specs.Receive.{receiveOf, receiveMemory}
 use Rattle.node.specs.Send.{sendOf, sendOutput}
 use Rattle.node.specs.declared.Node.{Node}
+use Rattle.node.specs.declared.ServiceName.the-variants.{First}
 use Rattle.node.specs.declared.receive.Receipt.{Receipt}
 use Rattle.paths.specs.Kept.{inForce}
 use Rattle.paths.specs.Table.{keptIn}
@@ -54,10 +55,10 @@ pub record Receiving : Type 0 where
 -- a datagram more, received on an interface at a time
 unfoldable pub receivedMore : Receiving → List ℕ → ℕ → ℕ → Receiving
 receivedMore before d interface time =
-    let receipt : Receipt = receiveOf (before .node) d interface time (before .memory) in
+    let receipt : Receipt = receiveOf (before .node) First d interface time (before .memory) in
     record {
       node = receipt .node;
-      memory = receiveMemory (before .node) d interface time (before .memory);
+      memory = receiveMemory (before .node) First d interface time (before .memory);
       sum = added (before .sum) (receivedWorth (receipt .answer));
     }
 
@@ -71,17 +72,17 @@ module _ (node : Node) (all : List ℕ) (size : ℕ) (hop : List ℕ) (k time : 
   -- the node after n packets
   abbrev pub afterSending : ℕ → ℕ → Node
   afterSending room zero = node
-  afterSending room (suc n) = sendOf (afterSending room n) (partAt all size n) hop k time room .node
+  afterSending room (suc n) = sendOf (afterSending room n) First (partAt all size n) hop k time room .node
 
   -- what n packets answer
   abbrev pub sentMany : ℕ → ℕ → ℕ
   sentMany room zero = 0
-  sentMany room (suc n) = added (sentMany room n) (sentWorth (sendOf (afterSending room n) (partAt all size n) hop k time room .answer))
+  sentMany room (suc n) = added (sentMany room n) (sentWorth (sendOf (afterSending room n) First (partAt all size n) hop k time room .answer))
 
   -- what they leave in the output
   abbrev pub sentManyOutput : List ℕ → ℕ → List ℕ
   sentManyOutput out zero = out
-  sentManyOutput out (suc n) = sendOutput (afterSending (length out) n) (partAt all size n) hop k time (sentManyOutput out n)
+  sentManyOutput out (suc n) = sendOutput (afterSending (length out) n) First (partAt all size n) hop k time (sentManyOutput out n)
 
 -- the neighbours first, first + 1, ..: the one at i; addresses wrap
 abbrev pub neighbourAt : ℕ → ℕ → ℕ

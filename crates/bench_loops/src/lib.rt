@@ -1,6 +1,7 @@
 // Loops for timing: many calls in one, so that what is timed is the library and not the crossing from C. The answer is the sum, modulo
 // 2^64, of what the calls answer: a refused one its number, another its length or size.
 use node::Node;
+use node::ServiceName;
 use paths::PathTable;
 use receiving::Received;
 use sending::SendAnswer;
@@ -81,7 +82,13 @@ pub extern "C" fn bench_receive(
     let mut sum: u64 = 0;
     let mut i: u32 = 0;
     while i < count {
-        let receipt = next.receive(part_at(datagrams, size, i), interface, time, memory);
+        let receipt = next.receive(
+            ServiceName::First,
+            part_at(datagrams, size, i),
+            interface,
+            time,
+            memory,
+        );
         next = receipt.node;
         let answer = receipt.answer;
         sum = std::num::wrapping_add_u64(sum, received_worth(answer));
@@ -111,7 +118,14 @@ pub extern "C" fn bench_send(
     let mut sum: u64 = 0;
     let mut i: u32 = 0;
     while i < count {
-        let sent = next.send(part_at(packets, size, i), hop, locator, time, out);
+        let sent = next.send(
+            ServiceName::First,
+            part_at(packets, size, i),
+            hop,
+            locator,
+            time,
+            out,
+        );
         next = sent.node;
         let answer = sent.answer;
         sum = std::num::wrapping_add_u64(sum, sent_worth(answer));

@@ -125,7 +125,7 @@ lines-fit : (k : ℕ) (node : Node) (memory : List ℕ) (ds : List Datagram) →
 unfolding linesFrom receiptOf receiveOf collectedBy
 lines-fit k node memory [] h = omega arith
 lines-fit k node memory (d ∷ ds) h =
-    let service = node .service in
+    let service = node .first in
     let f = collected-fits k (omega arith) (service .settings) (live (service .routers)) (d .bytes) (d .interface) (service .pieces) (max (node .latest) 0) memory in
     simp length-append (omega (arith, f, lines-fit (suc k) (receiptOf node memory d .node) (memoryAfter node memory d) ds (omega arith)))
 

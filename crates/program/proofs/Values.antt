@@ -16,8 +16,8 @@ use Rattle.units.specs.Held.{marksIn, heldOf, anyHeld, allHeld, heldWith}
 use Rattle.pieces.specs.Places.{unfit, isSame, isLive, isFree, isOf, endsApart, extendedTo, isWhole}
 use Rattle.pieces.specs.Take.{planHeld, planIn, planNew, planOf, settled, takenOf, memoryOf}
 use Rattle.receiving.specs.Collect.{wholeOf, pieceOf, takenPiece, takenMemory, fragmentOf, fragmentMemory, collectedOf, collectedMemory}
-use Rattle.node.specs.Node.{nodeOf, setupOf}
-use Rattle.node.specs.Receive.{collectedBy, receiveOf, receiveMemory}
+use Rattle.node.specs.Node.{serviceFrom, nodeOf, setupOf}
+use Rattle.node.specs.Receive.{collectedBy, collectedThrough, receiveOf, receiveMemory}
 use Rattle.input.specs.Section.{recordsOf, locatorOf, filled, locatorsIn, prefixesIn, routersIn}
 use Rattle.input.specs.Recording.{datagramsOf, isRecording}
 use Rattle.input.specs.Input.{prefixSection, routerSection, behindSettings, areSectionsWhole, settingsOf, isWellFormed}
@@ -65,7 +65,7 @@ pub program-worked : (textFor example ≡ textOf (Deliver 40 ∷ Refuse 10 ∷ [
     × (textFor (example ++ (0 ∷ [])) ≡ badInput)
     × (textFor (take 138 example) ≡ badInput)
     × (textFor (replicate 8 0) ≡ badInput)
-unfolding textFor takenText linesOf receiptOf memoryAfter ownMemory onesSumFrom isRightFrom isForbidden lastQuad isUnder isOnLink isIdentifier embeddedIn linkLocalOf isMulticastOrUnspecified isBadSourceWith wordAt quadAt addressAt outerOf isOuterMalformed isSumWrong payloadOf innerOf isInnerMalformed areDistinct defaultsFor forbiddenTo isOurLocator isBadEnd embeddedTo areLocatorsRight areRoutersRight areNumbersRight isAccepted embeds marksIn heldOf anyHeld allHeld heldWith unfit isSame isLive isFree isOf endsApart extendedTo isWhole planHeld planIn planNew planOf settled takenOf memoryOf writtenAt wholeOf pieceOf takenPiece takenMemory fragmentOf fragmentMemory collectedOf collectedMemory nodeOf setupOf collectedBy receiveOf receiveMemory recordsOf locatorOf filled locatorsIn prefixesIn routersIn datagramsOf isRecording prefixSection routerSection behindSettings areSectionsWhole settingsOf isWellFormed
+unfolding textFor takenText linesOf receiptOf memoryAfter ownMemory onesSumFrom isRightFrom isForbidden lastQuad isUnder isOnLink isIdentifier embeddedIn linkLocalOf isMulticastOrUnspecified isBadSourceWith wordAt quadAt addressAt outerOf isOuterMalformed isSumWrong payloadOf innerOf isInnerMalformed areDistinct defaultsFor forbiddenTo isOurLocator isBadEnd embeddedTo areLocatorsRight areRoutersRight areNumbersRight isAccepted embeds marksIn heldOf anyHeld allHeld heldWith unfit isSame isLive isFree isOf endsApart extendedTo isWhole planHeld planIn planNew planOf settled takenOf memoryOf writtenAt wholeOf pieceOf takenPiece takenMemory fragmentOf fragmentMemory collectedOf collectedMemory nodeOf setupOf collectedBy collectedThrough serviceFrom receiveOf receiveMemory recordsOf locatorOf filled locatorsIn prefixesIn routersIn datagramsOf isRecording prefixSection routerSection behindSettings areSectionsWhole settingsOf isWellFormed
 program-worked = (refl, refl, refl, refl, refl, refl, refl, refl)
 
 -- "datagrams 2", "1 deliver 40", "2 refuse 10"; "datagrams 0"

@@ -13,6 +13,7 @@ use Rattle.receiving.specs.declared.Received.the-variants.{Delivered, Joined, R
 use Rattle.node.specs.Node.{setupOf}
 use Rattle.node.specs.Receive.{receiveOf, receiveMemory}
 use Rattle.node.specs.declared.Node.{Node}
+use Rattle.node.specs.declared.ServiceName.the-variants.{First}
 use Rattle.node.specs.declared.receive.Receipt.{Receipt}
 use Rattle.node.specs.declared.SetupAnswer.{SetupAnswer}
 use Rattle.node.specs.declared.SetupAnswer.the-variants as setup
@@ -28,13 +29,13 @@ lineWith (Delivered offset size) = Deliver size
 lineWith (Joined offset size) = Deliver size
 lineWith (Refused refusal) = Refuse (numberOf refusal)
 
--- R17.3: a datagram comes at time 0, on this node and with this memory
+-- R17.3, R26.10: a datagram comes at time 0, to the one service of this node and with this memory
 unfoldable pub receiptOf : Node → List ℕ → Datagram → Receipt
-receiptOf node memory d = receiveOf node (d .bytes) (d .interface) 0 memory
+receiptOf node memory d = receiveOf node First (d .bytes) (d .interface) 0 memory
 
 -- what then stands in the memory
 unfoldable pub memoryAfter : Node → List ℕ → Datagram → List ℕ
-memoryAfter node memory d = receiveMemory node (d .bytes) (d .interface) 0 memory
+memoryAfter node memory d = receiveMemory node First (d .bytes) (d .interface) 0 memory
 
 -- R17.4: a line for each datagram in its order; the node and the memory that one leaves are handed on to the next
 abbrev pub linesFor : Node → List ℕ → List Datagram → List Line

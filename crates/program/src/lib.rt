@@ -5,6 +5,7 @@ mod text;
 use input::recording;
 use lines::Line;
 use node::Node;
+use node::ServiceName;
 use node::SetupAnswer;
 use receiving::Received;
 ghost use mathlib.Core.Path.{_≡_};
@@ -71,6 +72,7 @@ fn put_lines(node: Node, r: &[u8], memory: &mut [u8], out: &mut [u8], from: usiz
     let mut k: usize = 0;
     while k < n {
         let receipt = next.receive(
+            ServiceName::First,
             recording::datagram(rest),
             recording::interface(rest),
             0,

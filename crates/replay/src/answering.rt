@@ -1,5 +1,6 @@
 // The call that answers a solicitation, up to the packet that asks. Its lists may be longer than what is held of the input, so they are
 // read at their own places.
+use crate::calls;
 use crate::spool;
 use crate::spool::Spool;
 use crate::start;
@@ -17,13 +18,14 @@ const PREFIX: u8 = 26;
 const ROUTE: u8 = 22;
 
 // Where the list of prefixes stands in the call.
-const PREFIXES: usize = 7;
+const PREFIXES: usize = 8;
 
 pub(crate) struct Answering {
+    pub(crate) service: u8,
     pub(crate) locator: usize,
     pub(crate) room: usize,
     pub(crate) advertisement: Advertisement,
-    // Whether each preference is one that there is.
+    // Whether the service and each preference is one that there is.
     pub(crate) known: bool,
     // The index of the packet's length.
     pub(crate) packet: usize,
@@ -44,10 +46,11 @@ pub(crate) fn read(spool: Spool, at: usize) -> Answering {
 fn joined(numbers: Section, prefixes: Section, routes: Section, seen: Seen) -> Answering {
     let head = numbers.bytes;
     Answering {
-        locator: fields::byte(&head, 1) as usize,
-        room: fields::word(&head, 2) as usize,
+        service: fields::byte(&head, 1),
+        locator: fields::byte(&head, 2) as usize,
+        room: fields::word(&head, 3) as usize,
         advertisement: advertisement(&head, prefixes, routes),
-        known: seen.known,
+        known: seen.known & calls::service_known(fields::byte(&head, 1)),
         packet: routes.behind,
         failed: numbers.failed | prefixes.failed | routes.failed | seen.failed,
     }
@@ -59,9 +62,9 @@ fn advertisement(head: &[u8], prefixes: Section, routes: Section) -> Advertiseme
     let p = prefixes.bytes;
     let r = routes.bytes;
     Advertisement {
-        managed: first_flag(fields::byte(head, 4)),
-        other: second_flag(fields::byte(head, 4)),
-        lifetime: fields::word(head, 5),
+        managed: first_flag(fields::byte(head, 5)),
+        other: second_flag(fields::byte(head, 5)),
+        lifetime: fields::word(head, 6),
         prefixes: first_prefixes(&p),
         prefix_count: fields::word(&p, 0) as usize,
         routes: first_routes(&r),

@@ -7,6 +7,7 @@ use header::wrap::Written;
 use hearing::HeardAnswer;
 use input::section;
 use node::router_list::ListAnswer;
+use node::size::SizeAnswer;
 use receiving::Received;
 use reports::ReportAnswer;
 use sending::SendAnswer;
@@ -90,6 +91,9 @@ pub(crate) fn advertise(answer: Written, digest: u32) -> Line {
     }
 }
 
-pub(crate) fn size(size: u16) -> Line {
-    Line::new(b"size").number(size as u64)
+pub(crate) fn size(answer: SizeAnswer) -> Line {
+    match answer {
+        SizeAnswer::Size(size) => Line::new(b"size").number(size as u64),
+        SizeAnswer::Refused(refusal) => Line::new(b"size refuse").refusal(refusal),
+    }
 }

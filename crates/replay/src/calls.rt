@@ -1,4 +1,5 @@
-// The calls. Each function takes the bytes from the call's kind on; a byte past the end reads as 0.
+// The calls. Each function takes the bytes from the call's kind on, behind which the service stands in every call but a report; a byte past
+// the end reads as 0.
 use crate::answering::Answering;
 use crate::answers;
 use crate::line::Line;
@@ -7,13 +8,19 @@ use crate::spool;
 use header::fields;
 use input::section;
 use node::Node;
+use node::ServiceName;
 
 // The bytes of the longest call that is read whole, a sending. Of a longer list of routers no more than the first sixteen are read, and of
 // the call that answers a solicitation the packet alone.
-pub(crate) const LONGEST: usize = 26 + 65535;
+pub(crate) const LONGEST: usize = 27 + 65535;
 
-// The kind of the call that answers a solicitation.
+// The kind of the call that answers a solicitation, and of the one that names no service.
 const ADVERTISE: u8 = 8;
+
+const REPORT: u8 = 3;
+
+// The bytes of each service's memory, one behind the other.
+pub(crate) const MEMORY: usize = 65535;
 
 // A call's line, and the next node.
 pub(crate) struct Made {
@@ -26,20 +33,52 @@ pub(crate) fn advertises(c: &[u8]) -> bool {
     fields::byte(c, 0) == ADVERTISE
 }
 
-// The bytes of the call with its kind; 0 where the kind is unknown.
+// The bytes of the call with its kind; 0 where the kind or the service is unknown.
 pub(crate) fn size_of(c: &[u8]) -> usize {
     let kind = fields::byte(c, 0);
+    if kind == REPORT {
+        return 7 + fields::word(c, 5) as usize;
+    }
+    if !service_known(fields::byte(c, 1)) {
+        return 0;
+    }
     match kind {
-        1 => 10 + fields::word(c, 8) as usize,
-        2 => 26 + fields::word(c, 24) as usize,
-        3 | 6 => 7 + fields::word(c, 5) as usize,
-        4 => 7 + 4 * fields::word(c, 5) as usize,
-        5 => 8,
-        7 => 5,
-        9 => 1,
-        10 => 4 + fields::word(c, 2) as usize,
+        1 => 11 + fields::word(c, 9) as usize,
+        2 => 27 + fields::word(c, 25) as usize,
+        6 => 8 + fields::word(c, 6) as usize,
+        4 => 8 + 4 * fields::word(c, 6) as usize,
+        5 => 9,
+        7 => 6,
+        9 => 2,
+        10 => 5 + fields::word(c, 3) as usize,
         _ => 0,
     }
+}
+
+// Whether there is a service of that number.
+pub(crate) fn service_known(number: u8) -> bool {
+    number <= 1
+}
+
+// The service of that number.
+pub(crate) fn service_named(number: u8) -> ServiceName {
+    if number == 1 {
+        ServiceName::Second
+    } else {
+        ServiceName::First
+    }
+}
+
+// The service that the call names.
+fn service_of(c: &[u8]) -> ServiceName {
+    service_named(fields::byte(c, 1))
+}
+
+// Where the memory of the call's service stands.
+fn memory_at(c: &[u8]) -> usize
+    ensures { λ r. ⌜ r ≤ 65535 ⌝ }
+{
+    if fields::byte(c, 1) == 1 { MEMORY } else { 0 }
 }
 
 // The bytes of the call at an index that answers the solicitation behind its length; 0 where a preference is unknown.
@@ -70,7 +109,7 @@ pub(crate) fn make(node: Node, c: &[u8], space: &mut [u8], memory: &mut [u8]) ->
         4 => routers(node, c),
         2 | 5 => writing(node, c, space),
         6 => advertisement(node, c),
-        9 => whole_memory(node, memory),
+        9 => whole_memory(node, c, memory),
         10 => part(node, c),
         _ => size(node, c),
     }
@@ -82,17 +121,22 @@ fn counted(c: &[u8], k: u8) -> &[u8] {
     section::front(fields::tail(c, at + 2), fields::word(c, at) as usize)
 }
 
-// Of the memory as many bytes are lent as the call says.
+// Of the service's memory as many bytes are lent as the call says.
 fn receive(node: Node, c: &[u8], memory: &mut [u8]) -> Made {
-    let room = lists::least(fields::word(c, 6) as usize, memory.len());
-    receive_with(node, c, &mut memory[..room])
+    let from = lists::least(memory_at(c), memory.len());
+    let end = lists::least(from + fields::word(c, 7) as usize, memory.len());
+    if end < from {
+        return receive_with(node, c, &mut memory[..0]);
+    }
+    receive_with(node, c, &mut memory[from..end])
 }
 
 fn receive_with(node: Node, c: &[u8], memory: &mut [u8]) -> Made {
     let received = node.receive(
-        counted(c, 8),
-        fields::byte(c, 1),
-        fields::quad(c, 2),
+        service_of(c),
+        counted(c, 9),
+        fields::byte(c, 2),
+        fields::quad(c, 3),
         memory,
     );
     let answer = received.answer;
@@ -101,14 +145,14 @@ fn receive_with(node: Node, c: &[u8], memory: &mut [u8]) -> Made {
     Made { line, node: next }
 }
 
-// No call of the node: all of the memory as it stands.
-fn whole_memory(node: Node, memory: &[u8]) -> Made {
-    let line = answers::memory(memory);
+// No call of the node: all of the service's memory as it stands.
+fn whole_memory(node: Node, c: &[u8], memory: &[u8]) -> Made {
+    let line = answers::memory(section::front(fields::tail(memory, memory_at(c)), MEMORY));
     Made { line, node }
 }
 
 fn part(node: Node, c: &[u8]) -> Made {
-    let line = answers::part(node.received_part(counted(c, 2), fields::byte(c, 1)));
+    let line = answers::part(node.received_part(service_of(c), counted(c, 3), fields::byte(c, 2)));
     Made { line, node }
 }
 
@@ -121,8 +165,8 @@ fn writing(node: Node, c: &[u8], space: &mut [u8]) -> Made {
 fn room(c: &[u8]) -> u16 {
     let kind = fields::byte(c, 0);
     match kind {
-        2 => fields::word(c, 22),
-        _ => fields::word(c, 6),
+        2 => fields::word(c, 23),
+        _ => fields::word(c, 7),
     }
 }
 
@@ -136,9 +180,16 @@ fn writing_to(node: Node, c: &[u8], out: &mut [u8]) -> Made {
 }
 
 fn send(node: Node, c: &[u8], out: &mut [u8]) -> Made {
-    let locator = fields::byte(c, 1) as usize;
-    let next_hop = fields::address(c, 6);
-    let sent = node.send(counted(c, 24), next_hop, locator, fields::quad(c, 2), out);
+    let locator = fields::byte(c, 2) as usize;
+    let next_hop = fields::address(c, 7);
+    let sent = node.send(
+        service_of(c),
+        counted(c, 25),
+        next_hop,
+        locator,
+        fields::quad(c, 3),
+        out,
+    );
     let answer = sent.answer;
     let line = answers::send(answer, outputs::digest(out));
     let next = sent.node;
@@ -154,9 +205,14 @@ fn report(node: Node, c: &[u8]) -> Made {
 }
 
 fn routers(node: Node, c: &[u8]) -> Made {
-    let list = fields::tail(c, 5);
+    let list = fields::tail(c, 6);
     let count = section::count(list);
-    let replaced = node.replace_routers(section::routers(list), count, fields::quad(c, 1));
+    let replaced = node.replace_routers(
+        service_of(c),
+        section::routers(list),
+        count,
+        fields::quad(c, 2),
+    );
     let answer = replaced.answer;
     let line = answers::routers(answer, count);
     let next = replaced.node;
@@ -164,7 +220,12 @@ fn routers(node: Node, c: &[u8]) -> Made {
 }
 
 fn ask(node: Node, c: &[u8], out: &mut [u8]) -> Made {
-    let asked = node.ask(fields::byte(c, 1) as usize, fields::quad(c, 2), out);
+    let asked = node.ask(
+        service_of(c),
+        fields::byte(c, 2) as usize,
+        fields::quad(c, 3),
+        out,
+    );
     let answer = asked.answer;
     let line = answers::ask(answer, outputs::digest(out));
     let next = asked.node;
@@ -172,7 +233,7 @@ fn ask(node: Node, c: &[u8], out: &mut [u8]) -> Made {
 }
 
 fn advertisement(node: Node, c: &[u8]) -> Made {
-    let heard = node.hear(counted(c, 5), fields::quad(c, 1));
+    let heard = node.hear(service_of(c), counted(c, 6), fields::quad(c, 2));
     let answer = heard.answer;
     let line = answers::advertisement(answer);
     let next = heard.node;
@@ -188,13 +249,19 @@ pub(crate) fn advertise(node: Node, call: Answering, c: &[u8], space: &mut [u8])
 fn advertise_to(node: Node, call: Answering, c: &[u8], out: &mut [u8]) -> Made {
     outputs::blank(out);
     let advertisement = call.advertisement;
-    let answer = node.advertise(counted(c, 0), call.locator, advertisement, out);
+    let answer = node.advertise(
+        service_named(call.service),
+        counted(c, 0),
+        call.locator,
+        advertisement,
+        out,
+    );
     let line = answers::advertise(answer, outputs::digest(out));
     Made { line, node }
 }
 
-// The size in force toward a neighbour.
+// The size in force for a service toward a neighbour.
 fn size(node: Node, c: &[u8]) -> Made {
-    let line = answers::size(node.path_size(fields::quad(c, 1)));
+    let line = answers::size(node.path_size(service_of(c), fields::quad(c, 2)));
     Made { line, node }
 }

@@ -1,4 +1,4 @@
-// Reads one node's settings and a list of calls from standard input, makes each call and writes a line for each: docs/REPLAY.md has
+// Reads the settings of one node's services and a list of calls from standard input, makes each call and writes a line for each: docs/REPLAY.md has
 // the format. Where a read or a write fails it stops and says so on standard error; input that was not read to its end gets no answer.
 mod answering;
 mod answers;
@@ -11,6 +11,7 @@ mod walk;
 
 use line::Line;
 use node::Node;
+use node::Setup;
 use node::SetupAnswer;
 use spool::Spool;
 use start::Start;
@@ -20,8 +21,8 @@ ghost use lib.ListN.{length};
 // The part of the input that is held at a time: the longest call, and so much more that it is not read again for each short one.
 const WINDOW: usize = calls::LONGEST + 8192;
 
-// The memory for what is collected.
-const MEMORY: usize = 65535;
+// The memories for what the two services collect, one behind the other.
+const MEMORIES: usize = calls::MEMORY + calls::MEMORY;
 
 fn main() {
     let spool = spool::input();
@@ -36,21 +37,31 @@ fn main() {
 }
 
 fn window() -> [u8; WINDOW]
-    ensures { λ r. ⌜ 73753 ≡ length r ⌝ }
+    ensures { λ r. ⌜ 73754 ≡ length r ⌝ }
 {
     [0; WINDOW]
 }
 
-fn memory() -> [u8; MEMORY]
-    ensures { λ r. ⌜ 65535 ≡ length r ⌝ }
+fn memory() -> [u8; MEMORIES]
+    ensures { λ r. ⌜ 131070 ≡ length r ⌝ }
 {
-    [outputs::BLANK; MEMORY]
+    [outputs::BLANK; MEMORIES]
+}
+
+// The node of the start.
+fn setup(start: Start) -> Setup {
+    let first = start.first;
+    if start.two {
+        let second = start.second;
+        Node::new_pair(first, second)
+    } else {
+        Node::new(first)
+    }
 }
 
 // Reads all calls through, and then makes them.
 fn run(spool: Spool, start: Start) {
-    let settings = start.settings;
-    let setup = Node::new(settings);
+    let setup = setup(start);
     let node = setup.node;
     let mut window = window();
     let mut out = io::large_buffer();

@@ -15,9 +15,21 @@ pub(crate) struct Section {
     pub(crate) failed: bool,
 }
 
-pub(crate) struct Start {
-    pub(crate) settings: Settings,
+// The settings of one service, and the index behind them.
+struct Part {
+    settings: Settings,
     // Whether the reporting flag is 0 or 1.
+    known: bool,
+    behind: usize,
+    failed: bool,
+}
+
+pub(crate) struct Start {
+    pub(crate) first: Settings,
+    // The first's where there is one service.
+    pub(crate) second: Settings,
+    pub(crate) two: bool,
+    // Whether the number of services and each reporting flag are ones that there are.
     pub(crate) known: bool,
     // The index of the first call, past the end of an input that is cut off before it.
     pub(crate) calls: usize,
@@ -25,7 +37,29 @@ pub(crate) struct Start {
 }
 
 pub(crate) fn read(spool: Spool) -> Start {
-    let locators = section_at(spool, 0, section::LOCATOR);
+    let head = section_at(spool, 0, 0);
+    let bytes = head.bytes;
+    let services = fields::byte(&bytes, 0);
+    let first = part_at(spool, 1);
+    let two = services == 2;
+    let second = if two {
+        part_at(spool, first.behind)
+    } else {
+        first
+    };
+    Start {
+        first: first.settings,
+        second: second.settings,
+        two,
+        known: (1 <= services) & (services <= 2) & first.known & second.known,
+        calls: second.behind,
+        failed: head.failed | first.failed | second.failed,
+    }
+}
+
+// The settings at an index.
+fn part_at(spool: Spool, at: usize) -> Part {
+    let locators = section_at(spool, at, section::LOCATOR);
     let prefixes = section_at(spool, locators.behind, section::PREFIX);
     let routers = section_at(spool, prefixes.behind, section::ROUTER);
     let numbers = section_at(spool, routers.behind, 0);
@@ -33,10 +67,10 @@ pub(crate) fn read(spool: Spool) -> Start {
     let flag = fields::byte(&head, 7);
     let sections = sections(locators, prefixes, routers);
     let settings = with_numbers(sections, &head);
-    Start {
+    Part {
         settings,
         known: flag <= 1,
-        calls: spool::inside(routers.behind) + 8 + 16 * flag as usize,
+        behind: spool::inside(routers.behind) + 8 + 16 * flag as usize,
         failed: locators.failed | prefixes.failed | routers.failed | numbers.failed,
     }
 }
