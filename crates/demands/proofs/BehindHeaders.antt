@@ -21,7 +21,7 @@ use Rattle.sending.specs.Sending.{identificationAfter, sentOf, sentOutput}
 use Rattle.sending.specs.declared.judging.Plan.{Plan}
 use Rattle.sending.specs.declared.judging.Plan.the-variants.{Wrap, Tell, Silent, Refuse}
 use Rattle.settings.specs.declared.Settings.{Settings}
-use Rattle.node.specs.Send.{pathSizeToward, sentBy, sentThrough, sendOf, sendOutput}
+use Rattle.node.specs.Send.{pathSizeToward, sendOf, sendOutput}
 use Rattle.node.specs.Node.{serviceOf}
 use Rattle.node.specs.declared.Node.{Node}
 use Rattle.node.specs.declared.ServiceName.{ServiceName}

@@ -1,7 +1,7 @@
 -- The plain record keeps up with the node: the same settings and latest time, and the table of the record's entries. Assumes nothing.
 use Prim.Native.Nat.{ℕ, max}
 use mathlib.Core.Path.{_≡_, refl, sym, ap, _∙_}
-use mathlib.Core.Bool.{Bool, true, false, cond, _&&_}
+use mathlib.Core.Bool.{Bool, true, false, cond}
 use mathlib.Core.List.{List, [], _∷_}
 use mathlib.Core.Option.{Option, none, some}
 use native.Mathlib.Omega.{arith}
@@ -14,7 +14,6 @@ use Rattle.paths.proofs.Claim.{tableOf}
 use Rattle.paths.specs.declared.PathTable.{PathTable}
 use Rattle.paths.proofs.Answers.{same-in-force}
 use Rattle.sending.specs.Sending.{sentOf, sendGiven}
-use Rattle.sending.specs.declared.SendAnswer.{SendAnswer}
 use Rattle.reports.specs.Report.{judgedOf, neighbourIn, answerAt, answerToward, reportGiven}
 use Rattle.reports.specs.declared.ReportAnswer.{ReportAnswer}
 use Rattle.reports.specs.declared.ReportAnswer.the-variants.{Accepted, Refused}

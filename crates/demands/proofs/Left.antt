@@ -1,7 +1,7 @@
 -- What every call leaves: the settings of both services, the latest time raised, and the path table but for an accepted report. Assumes
 -- nothing.
 use Prim.Native.Nat.{ℕ, max}
-use mathlib.Core.Path.{_≡_, refl, sym, ap, _∙_}
+use mathlib.Core.Path.{_≡_, refl, sym, _∙_}
 use mathlib.Core.Bool.{Bool, true, false, cond, _&&_}
 use mathlib.Core.List.{List, [], _∷_}
 use native.Mathlib.Nat.{max-zero}
@@ -9,7 +9,6 @@ use lib.ListN.{length}
 use Rattle.sending.specs.Sending.{sendGiven}
 use Rattle.reports.specs.Report.{reportGiven}
 use Rattle.settings.specs.Settings.{areRoutersRight}
-use Rattle.settings.specs.declared.Settings.{Settings}
 use Rattle.node.specs.Node.{serviceOf, hasService, nodeWith, raisedTo}
 use Rattle.node.specs.Receive.{receiveOf}
 use Rattle.node.specs.Send.{sendOf}

@@ -13,6 +13,7 @@ pub mod Readings
 pub mod Two
 pub mod BehindHeaders
 pub mod Fair
+pub mod NonInterference
 pub mod RoundTrip
 pub mod Corrected
 pub mod Fragments

@@ -19,22 +19,22 @@ use Rattle.node.specs.declared.ServiceName.the-variants.{First, Second}
 use Rattle.demands.specs.Calls.{NodeCall, receiving, receivingPart, sending, reporting, relisting, asking, hearing, advertising, outcomeOf, viewOf}
 use Rattle.demands.proofs.Left.{chosen}
 
--- the two names differ
+-- a mark for each of the names
+abbrev marked : Option ServiceName → ℕ
+marked none = 2
+marked (some First) = 0
+marked (some Second) = 1
+
+-- the two names differ, and no name is none of them
 pub not-same : some Second ≡ some First → ⊥
 not-same e = let z : _≡_ {A = ℕ} 1 0 = ap marked e in omega arith
-  where
-    marked : Option ServiceName → ℕ
-    marked none = 2
-    marked (some First) = 0
-    marked (some Second) = 1
 
 pub not-same-back : some First ≡ some Second → ⊥
 not-same-back e = let z : _≡_ {A = ℕ} 0 1 = ap marked e in omega arith
-  where
-    marked : Option ServiceName → ℕ
-    marked none = 2
-    marked (some First) = 0
-    marked (some Second) = 1
+
+pub no-name : (w : ServiceName) → none ≡ some w → ⊥
+no-name First e = let z : _≡_ {A = ℕ} 2 0 = ap marked e in omega arith
+no-name Second e = let z : _≡_ {A = ℕ} 2 1 = ap marked e in omega arith
 
 pub raised-service : (n : Node) (time : ℕ) (w : ServiceName) → serviceOf (raisedTo n time) w ≡ serviceOf n w
 unfolding raisedTo

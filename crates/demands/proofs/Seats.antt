@@ -1,16 +1,14 @@
 -- What a call that names a service works on: the service, whether it is there, and the latest time; and what each call is to the collection of a
 -- service. Assumes nothing.
 use Prim.Native.Nat.{ℕ, max}
-use mathlib.Core.Path.{_≡_, refl, sym}
-use mathlib.Core.Bool.{Bool, cond, _&&_}
+use mathlib.Core.Path.{_≡_, refl}
+use mathlib.Core.Bool.{Bool, _&&_}
 use mathlib.Core.List.{List}
-use native.Mathlib.Nat.{max-zero}
-use Rattle.pieces.specs.declared.Collection.{Collection}
 use Rattle.receiving.specs.Collect.{Collected}
 use Rattle.receiving.specs.Receive.{receivedGiven}
 use Rattle.settings.specs.Settings.{areRoutersRight}
 use Rattle.node.specs.Node.{serviceOf, hasService, nodeWith, raisedTo}
-use Rattle.node.specs.Receive.{withPieces, collectedBy, collectedThrough, receiveOf, receiveMemory}
+use Rattle.node.specs.Receive.{collectedBy, collectedThrough, receiveOf, receiveMemory}
 use Rattle.node.specs.Send.{sendOf}
 use Rattle.node.specs.Report.{reportOf}
 use Rattle.node.specs.RouterList.{replaceOf}
@@ -20,7 +18,7 @@ use Rattle.node.specs.declared.Node.{Node}
 use Rattle.node.specs.declared.Service.{Service}
 use Rattle.node.specs.declared.ServiceName.{ServiceName}
 use Rattle.node.specs.declared.ServiceName.the-variants.{First, Second}
-use Rattle.demands.specs.Calls.{NodeCall, receiving, receivingPart, sending, reporting, relisting, asking, hearing, advertising, Outcome, outcomeOf, OfPieces, aDatagram, noDatagram, piecesOf, viewOf}
+use Rattle.demands.specs.Calls.{NodeCall, receiving, receivingPart, sending, reporting, relisting, asking, hearing, advertising, Outcome, outcomeOf, OfPieces, aDatagram, noDatagram, piecesOf}
 use Rattle.demands.proofs.Left.{chosen}
 
 pub record Seat : Type 0 where

@@ -8,6 +8,7 @@ pub mod Plain
 pub mod Sender
 pub mod Three
 pub mod Fair
+pub mod NonInterference
 pub mod RoundTrip
 pub mod Collecting
 pub mod Cuttings

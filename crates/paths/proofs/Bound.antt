@@ -10,7 +10,7 @@ use borrow.Author.Tests.{ltb-true, eqb-true}
 use lib.Dec.{ltb, eqb}
 use Rattle.paths.specs.Candidate.{isBelow}
 use Rattle.paths.specs.Kept.{Report}
-use Rattle.paths.proofs.Calls.{PathCall, clock, report, send, Answer, accepted, notBelow, tooBig, other, plain, sizeToward, remembered, latest, answer, history}
+use Rattle.paths.proofs.Calls.{PathCall, clock, report, send, Answer, tooBig, other, plain, sizeToward, remembered, latest, answer, history}
 use Rattle.paths.specs.Sender.{Event, told, passed, lowered, nothing, AtMostAll, Heeds, tooBigs, reports, Bound}
 use Rattle.paths.proofs.Events.{packetEvent, eventOf, eventsOf}
 use Rattle.paths.proofs.Claim.{Grows}

@@ -1,5 +1,4 @@
 -- `node::Node::received_part` meets its contract: the part that the number call names, or an empty one. Assumes nothing.
-use borrow.Author.Needs.{needs}
 use native.Mathlib.Omega.{arith}
 use Rattle.node.specs.Receive.{partIn}
 use Rattle.node.proofs.Node.received_part.Statement.{statement}

@@ -1,5 +1,4 @@
 -- `node::router_list::list_refusal` meets its contract: by cases. Assumes nothing.
-use borrow.Author.Needs.{needs}
 use Rattle.node.proofs.router_list.list_refusal.Statement.{statement}
 use Rattle.node.proofs.router_list.list_refusal.Tie as tie
 
