@@ -94,7 +94,7 @@ module _ (v : ServiceName) where
       ∙ sym (append-assoc (stepsOf v n x) (allSteps v (outcomeOf n x .node) xs) (allSteps v (nodeAfter (outcomeOf n x .node) xs) ys))
 
 -- a call that names the service hands its datagram in to it
-own-call : (v : ServiceName) (e : List ℕ) (i t : ℕ) (m : List ℕ) → piecesOf v (receiving v e i t m) ≡ aDatagram e i t m
+pub own-call : (v : ServiceName) (e : List ℕ) (i t : ℕ) (m : List ℕ) → piecesOf v (receiving v e i t m) ≡ aDatagram e i t m
 own-call First e i t m = refl
 own-call Second e i t m = refl
 
