@@ -9,6 +9,7 @@ use header::fields;
 use input::section;
 use node::Node;
 use node::ServiceName;
+ghost use Prim.Native.Nat.{_≤_};
 
 // The bytes of the longest call that is read whole, a sending. Of a longer list of routers no more than the first sixteen are read, and of
 // the call that answers a solicitation the packet alone.
@@ -125,9 +126,6 @@ fn counted(c: &[u8], k: u8) -> &[u8] {
 fn receive(node: Node, c: &[u8], memory: &mut [u8]) -> Made {
     let from = lists::least(memory_at(c), memory.len());
     let end = lists::least(from + fields::word(c, 7) as usize, memory.len());
-    if end < from {
-        return receive_with(node, c, &mut memory[..0]);
-    }
     receive_with(node, c, &mut memory[from..end])
 }
 

@@ -47,9 +47,11 @@ pub(crate) fn read(spool: Spool) -> Start {
     } else {
         first
     };
+    let a = first.settings;
+    let b = second.settings;
     Start {
-        first: first.settings,
-        second: second.settings,
+        first: a,
+        second: b,
         two,
         known: (1 <= services) & (services <= 2) & first.known & second.known,
         calls: second.behind,
