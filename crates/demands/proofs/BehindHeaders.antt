@@ -27,7 +27,8 @@ use Rattle.node.specs.declared.Node.{Node}
 use Rattle.node.specs.declared.ServiceName.{ServiceName}
 use Rattle.demands.specs.Two.{Has}
 use Rattle.demands.specs.BehindHeaders.{mayDrawByFirst, planByFirst, Due, Tells, answerByFirst, outputByFirst, BehindHeaders}
-use Rattle.demands.proofs.Two.{decides-has, stored, sent-answer, sent-identification, sent-output, demand-two}
+use Rattle.demands.proofs.Others.{decides-has}
+use Rattle.demands.proofs.Two.{stored, sent-answer, sent-identification, sent-output, demand-two}
 
 -- M is 1,280 at least
 largest-least : (P : ℕ) → 1280 ≤ largestPacket P

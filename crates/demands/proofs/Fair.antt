@@ -41,14 +41,14 @@ use Rattle.node.specs.declared.Node.{Node}
 use Rattle.node.specs.declared.Service.{Service}
 use Rattle.node.specs.declared.ServiceName.{ServiceName}
 use Rattle.node.specs.declared.ServiceName.the-variants.{First, Second}
-use Rattle.node.proofs.Services.{put-same}
+use Rattle.node.proofs.Services.{put-same, put-kept, raised-service}
 use Rattle.demands.specs.Starts.{Start, acceptedWith, isRight, startOf, settingsOf}
 use Rattle.demands.specs.Calls.{NodeCall, receiving, receivingPart, sending, reporting, relisting, asking, hearing, advertising, outcomeOf, OfRouters, anAsking, anAdvertisement, aList, routersOf, viewOf, nodeAfter}
 use Rattle.demands.specs.Fair.{serves, servedBy, Quiet, AllQuiet, FairNode}
 use Rattle.demands.proofs.Left.{left, settings-kept}
 use Rattle.demands.specs.Plain.{freshPlain}
 use Rattle.demands.proofs.Follows.{same-some, no-some, its-settings, fresh-follows}
-use Rattle.demands.proofs.Others.{others-left, raised-service, not-same, not-same-back}
+use Rattle.demands.proofs.Others.{others-left, not-same, not-same-back}
 
 -- what a call does to the router list of a service, now: it leaves it, asks one of its routers, puts one of them off, or is not quiet
 data Turn (q : Service) (now : ℕ) (c : OfRouters) (g : Given) (after : RouterList) : Type 0 where
@@ -95,12 +95,9 @@ own-turn : (n : Node) (w : ServiceName) (time : ℕ) (routers : RouterList) (c :
     → Turn (serviceOf n w) (max (n .latest) time) c g (serviceOf (nodeWith n w (withRouters (serviceOf n w) routers) time) w .routers)
 own-turn n w time routers c g t = rw (put-same n w (withRouters (serviceOf n w) routers) time) t
 
--- a call of another service leaves the list
+-- a call that leaves the service's routers leaves those of both
 put-routers : (n : Node) (v : ServiceName) (q : Service) (time : ℕ) → q .routers ≡ serviceOf n v .routers → (w : ServiceName) → serviceOf (nodeWith n v q time) w .routers ≡ serviceOf n w .routers
-put-routers n First q time e First = e
-put-routers n First q time e Second = refl
-put-routers n Second q time e First = refl
-put-routers n Second q time e Second = e
+put-routers = put-kept (λ (q : Service). q .routers)
 
 asked-turn : (w : ServiceName) (n : Node) (k time : ℕ) (out : List ℕ)
     → Turn (serviceOf n w) (max (n .latest) time) anAsking (outcomeOf n (asking w k time out) .given) (serviceOf (outcomeOf n (asking w k time out) .node) w .routers)

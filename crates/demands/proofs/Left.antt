@@ -1,7 +1,7 @@
 -- What every call leaves: the settings of both services, the latest time raised, and the path table but for an accepted report. Assumes
 -- nothing.
 use Prim.Native.Nat.{ℕ, max}
-use mathlib.Core.Path.{_≡_, refl, sym, _∙_}
+use mathlib.Core.Path.{_≡_, refl, sym, ap, _∙_}
 use mathlib.Core.Bool.{Bool, true, false, cond, _&&_}
 use mathlib.Core.List.{List, [], _∷_}
 use native.Mathlib.Nat.{max-zero}
@@ -21,6 +21,7 @@ use Rattle.node.specs.declared.Service.{Service}
 use Rattle.node.specs.declared.ServiceName.{ServiceName}
 use Rattle.node.specs.declared.ServiceName.the-variants.{First, Second}
 use Rattle.node.specs.declared.router_list.Replaced.{Replaced}
+use Rattle.node.proofs.Services.{put-kept, raised-service}
 use Rattle.demands.specs.Calls.{NodeCall, receiving, receivingPart, sending, reporting, relisting, asking, hearing, advertising, Outcome, outcomeOf, OfSizes, aSending, aReport, noSize, viewOf, nodeAfter}
 
 -- what holds of the node of either of two answers holds of the chosen one
@@ -46,15 +47,7 @@ pub record Left (n : Node) (time room : ℕ) (c : OfSizes) (o : Outcome) : Type 
 -- a service that is put back with its settings leaves both services theirs
 put-settings : (n : Node) (v : ServiceName) (s : Service) (time : ℕ) → s .settings ≡ serviceOf n v .settings
     → (w : ServiceName) → serviceOf (nodeWith n v s time) w .settings ≡ serviceOf n w .settings
-put-settings n First s time e First = e
-put-settings n First s time e Second = refl
-put-settings n Second s time e First = refl
-put-settings n Second s time e Second = e
-
-raised-settings : (n : Node) (time : ℕ) (w : ServiceName) → serviceOf (raisedTo n time) w .settings ≡ serviceOf n w .settings
-unfolding raisedTo
-raised-settings n time First = refl
-raised-settings n time Second = refl
+put-settings = put-kept (λ (s : Service). s .settings)
 
 pub left : (n : Node) (x : NodeCall) → Left n (viewOf x .time) (length (viewOf x .lent)) (viewOf x .sizes) (outcomeOf n x)
 unfolding receiveOf sendOf reportOf replaceOf raisedTo askOf hearOf
@@ -65,7 +58,7 @@ left n (reporting m time) = record { settings = λ w. refl; both = refl; latest 
 left n (relisting v addresses count time) =
     let right = hasService n v && areRoutersRight (serviceOf n v .settings) addresses count in
     record {
-      settings = λ w. chosen right _ _ (λ m. serviceOf m w .settings ≡ serviceOf n w .settings) (put-settings n v _ time refl w) (raised-settings n time w);
+      settings = λ w. chosen right _ _ (λ m. serviceOf m w .settings ≡ serviceOf n w .settings) (put-settings n v _ time refl w) (ap (λ (s : Service). s .settings) (raised-service n time w));
       both = chosen right _ _ (λ m. m .both ≡ n .both) refl refl;
       latest = chosen right _ _ (λ m. m .latest ≡ max (n .latest) time) refl refl;
       sizes = chosen right _ _ (λ m. m .paths ≡ n .paths) refl refl;

@@ -40,6 +40,7 @@ use Rattle.demands.specs.Joining.{Hands, HandsIn, memoryAfter, Untouched
 use Rattle.demands.proofs.Left.{left, has-kept}
 use Rattle.demands.specs.Collecting.{keyOf, partIn}
 use Rattle.demands.proofs.PieceOf.{is-same, same-is, key-trans, key-back, same-parts, parts-same, in-parts}
+use Rattle.demands.proofs.Others.{decides-has}
 use Rattle.demands.proofs.Seats.{Seat, seatOf, collectedAt, PiecesLeft, pieces-left}
 use Rattle.demands.proofs.Steps.{arrival, stepAt, stepBy, stepsAt, stateOf, answered-step}
 use Rattle.demands.proofs.Handed.{number}
@@ -74,28 +75,6 @@ in-either : (q : Part) (xs ys : List Part) → In q (xs ++ ys) → In q xs ⊎ I
 in-either q [] ys i = inr i
 in-either q (x ∷ xs) ys i = ⊎-elim (λ e. inl (inl e)) (λ j. ⊎-elim (λ k. inl (inr k)) (λ k. inr k) (in-either q xs ys j)) i
 
--- the time of a datagram is its call's
-abbrev Timed : ℕ → OfPieces → Type 0
-Timed t (aDatagram e j time memory) = t ≡ time
-Timed t noDatagram = Unit {0}
-
-timed : (v : ServiceName) (x : NodeCall) → Timed (viewOf x .time) (piecesOf v x)
-timed First (receiving First e j time memory) = refl
-timed First (receiving Second e j time memory) = tt
-timed Second (receiving First e j time memory) = tt
-timed Second (receiving Second e j time memory) = refl
-timed v (receivingPart w e j) = tt
-timed v (sending w packet hop k time out) = tt
-timed v (reporting m time) = tt
-timed v (relisting w addresses count time) = tt
-timed v (asking w k time out) = tt
-timed v (hearing w packet time) = tt
-timed v (advertising w packet k a out) = tt
-
-there-has : (n : Node) (v : ServiceName) → hasService n v ≡ true → Has n v
-there-has n First h = tt
-there-has n Second h = λ z. let l = ltb-true 0 (n .both) h in omega arith
-
 -- no call changes what 11, 4, 6 and 7 ask
 pub judge-next : (v : ServiceName) (n : Node) (x : NodeCall) → judgeOf (seatOf v (outcomeOf n x .node)) ≡ judgeOf (seatOf v n)
 judge-next v n x = rw (has-kept n (outcomeOf n x .node) (left n x .both) v, left n x .settings v)
@@ -118,30 +97,30 @@ module _ (v : ServiceName) (i : ℕ) (d : List ℕ) (ps : List (List ℕ)) (cut 
       → isSame (keyOf d) (keyOf e) ≡ true → Some (Repeats e) ps × (j ≡ i)
   own-step n e j time memory own a b k =
       let f = passed (seatOf v n) e j memory a in
-      own (there-has n v (f .there)) (f .right) (same-is e d k) (decides-piece e .holds b) (f .encapsulates) (f .forUs) (f .allowed)
+      own (decides-has n v .holds (f .there)) (f .right) (same-is e d k) (decides-piece e .holds b) (f .encapsulates) (f .forUs) (f .allowed)
 
   in-own : (e : List ℕ) → Some (Repeats e) ps → In (partIn e) (map partIn ps)
   in-own e r = rw (same-parts (r .2)) (in-parts (r .0) ps (r .1))
 
   -- ---- times and pieces
 
-  call-arrives : (n : Node) (c : OfPieces) → OneOf v i d ps n c → (now : ℕ) → now ≤ n .latest → (t : ℕ) → Timed t c → (rest : List Step)
-      → ((from : ℕ) → from ≤ max (n .latest) t → pieces.Arrive (keyOf d) (map partIn ps) from rest) → pieces.Arrive (keyOf d) (map partIn ps) now (stepsAt (seatOf v n) c ++ rest)
-  call-arrives n (aDatagram e j time memory) own now h t at rest next = go (arrival (seatOf v n) e j memory) refl (isPiece (outerOf e)) refl
+  call-arrives : (n : Node) (c : OfPieces) (o : Outcome) → PiecesLeft v n c o → n .latest ≤ o .node .latest → OneOf v i d ps n c → (now : ℕ) → now ≤ n .latest → (rest : List Step)
+      → ((from : ℕ) → from ≤ o .node .latest → pieces.Arrive (keyOf d) (map partIn ps) from rest) → pieces.Arrive (keyOf d) (map partIn ps) now (stepsAt (seatOf v n) c ++ rest)
+  call-arrives n (aDatagram e j time memory) o p later own now h rest next = go (arrival (seatOf v n) e j memory) refl (isPiece (outerOf e)) refl
     where
       go : (c : Check) → arrival (seatOf v n) e j memory ≡ c → (b : Bool) → isPiece (outerOf e) ≡ b
           → pieces.Arrive (keyOf d) (map partIn ps) now (stepBy c b (stepAt (max (n .latest) time) e) ++ rest)
       go Pass a true b =
-          (omega arith, λ k. in-own e (own-step n e j time memory own a b k .0), next (max (n .latest) time) (omega (arith, at)))
+          (omega arith, λ k. in-own e (own-step n e j time memory own a b k .0), next (max (n .latest) time) (omega (arith, p .3)))
       go Pass a false b = next now (omega arith)
       go (Stop r) a b z = next now (omega arith)
-  call-arrives n noDatagram own now h t at rest next = next now (omega arith)
+  call-arrives n noDatagram o p later own now h rest next = next now (omega arith)
 
   pub arrives : (n : Node) (xs : List NodeCall) → AtEach (NotForeign v i d ps) n xs → (now : ℕ) → now ≤ n .latest → pieces.Arrive (keyOf d) (map partIn ps) now (allSteps v n xs)
   arrives n [] own now h = tt
   arrives n (x ∷ xs) own now h =
-      call-arrives n (piecesOf v x) (own .0) now h (viewOf x .time) (timed v x) (allSteps v (outcomeOf n x .node) xs)
-      (λ from l. arrives (outcomeOf n x .node) xs (own .1) from (omega (arith, l, left n x .latest)))
+      call-arrives n (piecesOf v x) (outcomeOf n x) (pieces-left v n x) (omega (arith, left n x .latest)) (own .0) now h (allSteps v (outcomeOf n x .node) xs)
+      (λ from l. arrives (outcomeOf n x .node) xs (own .1) from l)
 
   -- ---- 28 and 30
 

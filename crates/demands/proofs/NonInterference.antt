@@ -32,12 +32,12 @@ use Rattle.node.specs.declared.ServiceName.the-variants.{First, Second}
 use Rattle.node.specs.declared.router_list.ListAnswer.{ListAnswer}
 use Rattle.node.specs.declared.router_list.ListAnswer.the-variants as list
 use Rattle.node.specs.declared.router_list.Replaced.{Replaced}
-use Rattle.node.proofs.Services.{put-same}
+use Rattle.node.proofs.Services.{put-same, raised-service}
 use Rattle.demands.specs.Starts.{Start, acceptedWith, isRight, madeWith, startOf, settingsOf}
 use Rattle.demands.specs.Calls.{NodeCall, receiving, receivingPart, sending, reporting, relisting, asking, hearing, advertising, Outcome, outcomeOf, viewOf, nodeAfter}
 use Rattle.demands.specs.NonInterference.{beside, SeenAlike, BothAlike, AlikeBut, AlikeCall, AlikeCalls, seenBeside, runBeside, NonInterference}
 use Rattle.demands.proofs.Left.{left}
-use Rattle.demands.proofs.Others.{others-left, raised-service, not-same, not-same-back, no-name}
+use Rattle.demands.proofs.Others.{others-left, not-same, not-same-back, no-name}
 use Rattle.demands.proofs.RightSettings.{made-node, paired-node}
 
 -- two nodes that are alike to the service beside x

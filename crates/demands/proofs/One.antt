@@ -50,13 +50,12 @@ use Rattle.node.specs.Advertise.{advertiseOf, advertiseOutput}
 use Rattle.node.specs.declared.Node.{Node}
 use Rattle.node.specs.declared.Service.{Service}
 use Rattle.node.specs.declared.ServiceName.{ServiceName}
-use Rattle.node.proofs.Services.{put-same, put-own}
+use Rattle.node.proofs.Services.{put-same, put-own, raised-service}
 use Rattle.demands.specs.Calls.{NodeCall, receiving, receivingPart, sending, reporting, relisting, asking, hearing, advertising, Outcome, outcomeOf, View, viewOf}
 use Rattle.demands.specs.One.{Message, changedBy, OnlyCollected, Refusing, DemandOne}
 use Rattle.demands.proofs.Collects.{Leaves, received-leaves}
 use Rattle.demands.proofs.Steps.{stateOf}
 use Rattle.demands.proofs.Seats.{seatOf, collectedAt, memoryAt}
-use Rattle.demands.proofs.Others.{raised-service}
 
 -- a call that is not refused
 answers : (n : Node) (v : View) (o : Outcome) (values : List ℕ) → o .given ≡ answered values → Refusing n v o

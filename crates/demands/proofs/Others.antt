@@ -1,9 +1,11 @@
--- A call leaves the service that it does not name as it is. Assumes nothing.
-use Prim.Native.Nat.{ℕ}
+-- Which services a node has, and that a call leaves the one that it does not name as it is. Assumes nothing.
+use Prim.Native.Nat.{ℕ, zero, suc, _<_}
 use mathlib.Core.Path.{_≡_, refl, ap}
 use mathlib.Core.Bool.{_&&_}
 use mathlib.Core.Option.{Option, none, some}
 use native.Mathlib.Omega.{arith}
+use borrow.Author.Tests.{ltb-true, lt-ltb}
+use Rattle.lists.proofs.Decides.{Decides}
 use Rattle.settings.specs.Settings.{areRoutersRight}
 use Rattle.node.specs.Node.{serviceOf, hasService, nodeWith, raisedTo}
 use Rattle.node.specs.Receive.{receiveOf}
@@ -16,6 +18,8 @@ use Rattle.node.specs.declared.Node.{Node}
 use Rattle.node.specs.declared.Service.{Service}
 use Rattle.node.specs.declared.ServiceName.{ServiceName}
 use Rattle.node.specs.declared.ServiceName.the-variants.{First, Second}
+use Rattle.node.proofs.Services.{raised-service}
+use Rattle.demands.specs.Two.{Has}
 use Rattle.demands.specs.Calls.{NodeCall, receiving, receivingPart, sending, reporting, relisting, asking, hearing, advertising, outcomeOf, viewOf}
 use Rattle.demands.proofs.Left.{chosen}
 
@@ -36,10 +40,23 @@ pub no-name : (w : ServiceName) → none ≡ some w → ⊥
 no-name First e = let z : _≡_ {A = ℕ} 2 0 = ap marked e in omega arith
 no-name Second e = let z : _≡_ {A = ℕ} 2 1 = ap marked e in omega arith
 
-pub raised-service : (n : Node) (time : ℕ) (w : ServiceName) → serviceOf (raisedTo n time) w ≡ serviceOf n w
-unfolding raisedTo
-raised-service n time First = refl
-raised-service n time Second = refl
+-- ---- the services that there are
+
+pub decides-has : (n : Node) (w : ServiceName) → Decides (hasService n w) (Has n w)
+decides-has n First = record { holds = λ h. tt; passes = λ f. refl }
+decides-has n Second = record {
+  holds = λ h zero. absurd (positive (n .both) (ltb-true 0 (n .both) h) zero);
+  passes = λ some. lt-ltb 0 (n .both) (more (n .both) some);
+}
+  where
+    positive : (k : ℕ) → 0 < k → k ≡ 0 → ⊥
+    positive k h e = omega arith
+
+    more : (k : ℕ) → (k ≡ 0 → ⊥) → 0 < k
+    more zero h = absurd (h refl)
+    more (suc k) h = omega arith
+
+-- ---- the one that is not named
 
 put-other : (n : Node) (v : ServiceName) (s : Service) (time : ℕ) (w : ServiceName) → (some v ≡ some w → ⊥) → serviceOf (nodeWith n v s time) w ≡ serviceOf n w
 put-other n First s time First h = absurd (h refl)

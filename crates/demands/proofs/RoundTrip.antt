@@ -47,7 +47,7 @@ use Rattle.node.specs.declared.Node.{Node}
 use Rattle.node.specs.declared.ServiceName.{ServiceName}
 use Rattle.node.proofs.Services.{put-same}
 use Rattle.demands.specs.Two.{Has}
-use Rattle.demands.proofs.Two.{decides-has}
+use Rattle.demands.proofs.Others.{decides-has}
 use Rattle.demands.specs.RoundTrip.{lifetimesSet, routeBytes, Accepted, Returns, RoundTrip}
 
 -- the bytes of a route option are its length in units of eight

@@ -1,7 +1,7 @@
 -- What a call that names a service works on: the service, whether it is there, and the latest time; and what each call is to the collection of a
 -- service. Assumes nothing.
 use Prim.Native.Nat.{ℕ, max}
-use mathlib.Core.Path.{_≡_, refl}
+use mathlib.Core.Path.{_≡_, refl, ap}
 use mathlib.Core.Bool.{Bool, _&&_}
 use mathlib.Core.List.{List}
 use Rattle.receiving.specs.Collect.{Collected}
@@ -19,6 +19,7 @@ use Rattle.node.specs.declared.Service.{Service}
 use Rattle.node.specs.declared.ServiceName.{ServiceName}
 use Rattle.node.specs.declared.ServiceName.the-variants.{First, Second}
 use Rattle.demands.specs.Calls.{NodeCall, receiving, receivingPart, sending, reporting, relisting, asking, hearing, advertising, Outcome, outcomeOf, OfPieces, aDatagram, noDatagram, piecesOf}
+use Rattle.node.proofs.Services.{put-kept, raised-service}
 use Rattle.demands.proofs.Left.{chosen}
 
 pub record Seat : Type 0 where
@@ -36,39 +37,32 @@ collectedAt n e interface time memory = collectedBy (n .there) (n .service) (max
 abbrev pub memoryAt : Seat → List ℕ → ℕ → ℕ → List ℕ → List ℕ
 memoryAt n e interface time memory = collectedThrough (n .there) (n .service) (max (n .latest) time) e interface memory
 
--- what a call is to the collection of the service w decides what is given, what becomes of the collection, and what is written
+-- what a call is to the collection of the service w decides what is given, what becomes of the collection and of the time, and what is written
 abbrev pub PiecesLeft : ServiceName → Node → OfPieces → Outcome → Type 0
 PiecesLeft w n (aDatagram e interface time memory) o =
     (o .given ≡ receivedGiven (collectedAt (seatOf w n) e interface time memory .answer))
     × (serviceOf (o .node) w .pieces ≡ collectedAt (seatOf w n) e interface time memory .pieces)
     × (o .output ≡ memoryAt (seatOf w n) e interface time memory)
+    × (o .node .latest ≡ max (n .latest) time)
 PiecesLeft w n noDatagram o = serviceOf (o .node) w .pieces ≡ serviceOf n w .pieces
 
 -- a service that is put back with its collection leaves both services theirs
 put-pieces : (n : Node) (v : ServiceName) (s : Service) (time : ℕ) → s .pieces ≡ serviceOf n v .pieces
     → (w : ServiceName) → serviceOf (nodeWith n v s time) w .pieces ≡ serviceOf n w .pieces
-put-pieces n First s time e First = e
-put-pieces n First s time e Second = refl
-put-pieces n Second s time e First = refl
-put-pieces n Second s time e Second = e
-
-raised-pieces : (n : Node) (time : ℕ) (w : ServiceName) → serviceOf (raisedTo n time) w .pieces ≡ serviceOf n w .pieces
-unfolding raisedTo
-raised-pieces n time First = refl
-raised-pieces n time Second = refl
+put-pieces = put-kept (λ (s : Service). s .pieces)
 
 pub pieces-left : (w : ServiceName) (n : Node) (x : NodeCall) → PiecesLeft w n (piecesOf w x) (outcomeOf n x)
 unfolding receiveOf receiveMemory sendOf reportOf replaceOf askOf hearOf
-pieces-left First n (receiving First e interface time memory) = (refl, refl, refl)
+pieces-left First n (receiving First e interface time memory) = (refl, refl, refl, refl)
 pieces-left First n (receiving Second e interface time memory) = refl
 pieces-left Second n (receiving First e interface time memory) = refl
-pieces-left Second n (receiving Second e interface time memory) = (refl, refl, refl)
+pieces-left Second n (receiving Second e interface time memory) = (refl, refl, refl, refl)
 pieces-left w n (receivingPart v e interface) = refl
 pieces-left w n (sending v packet hop k time out) = put-pieces n v _ time refl w
 pieces-left w n (reporting m time) = refl
 pieces-left w n (relisting v addresses count time) =
     chosen (hasService n v && areRoutersRight (serviceOf n v .settings) addresses count) _ _ (λ m. serviceOf m w .pieces ≡ serviceOf n w .pieces)
-    (put-pieces n v _ time refl w) (raised-pieces n time w)
+    (put-pieces n v _ time refl w) (ap (λ (s : Service). s .pieces) (raised-service n time w))
 pieces-left w n (asking v k time out) = put-pieces n v _ time refl w
 pieces-left w n (hearing v packet time) = put-pieces n v _ time refl w
 pieces-left w n (advertising v packet k a out) = refl

@@ -45,25 +45,12 @@ use Rattle.node.specs.declared.ServiceName.{ServiceName}
 use Rattle.node.specs.declared.ServiceName.the-variants.{First, Second}
 use Rattle.node.proofs.Services.{put-same, put-own}
 use Rattle.demands.specs.Two.{Has, Relists, Sends, Present, Absent, Quotes, Reports, Exactly, DemandTwo}
+use Rattle.demands.proofs.Others.{decides-has}
 use Rattle.demands.proofs.RightList.{decides-right}
 use Rattle.demands.proofs.NewList.{replaced-list}
 use Rattle.demands.proofs.RightSettings.{sets, sets-pair}
 use Rattle.demands.proofs.Readings.{readings}
 use Rattle.demands.proofs.Collecting.{collected-by-history}
-
-pub decides-has : (n : Node) (w : ServiceName) → Decides (hasService n w) (Has n w)
-decides-has n First = record { holds = λ h. tt; passes = λ f. refl }
-decides-has n Second = record {
-  holds = λ h zero. absurd (positive (n .both) (ltb-true 0 (n .both) h) zero);
-  passes = λ some. lt-ltb 0 (n .both) (more (n .both) some);
-}
-  where
-    positive : (k : ℕ) → 0 < k → k ≡ 0 → ⊥
-    positive k h e = omega arith
-
-    more : (k : ℕ) → (k ≡ 0 → ⊥) → 0 < k
-    more zero h = absurd (h refl)
-    more (suc k) h = omega arith
 
 -- ---- a service that the node has
 
