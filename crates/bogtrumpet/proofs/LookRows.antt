@@ -220,7 +220,7 @@ module _ (callee : Name) (ps : List (Param 1)) (R : RattleType) (ρ : Ty) where
             -- [a share of the node's cell; what it owns; what shuts it; the fractured borrow; the parameters; room for the time; …; the count; …; the rows, with their addresses; …; both; …; the links' sizes; …; _1; …; room for _0; …; no other tokens; the rest's]
             assigns ! (of-opd ! (load ! (from ! (hop ! (look ! 27 refl) (fld ! {d = 0} refl (fld ! {d = 0} refl (fld ! {d = 216} refl (stop !)))))) (look-in ! 0 (sub ! 6 {d = 216} refl (sub ! 0 {d = 0} refl (sub ! 0 {d = 0} refl (whole !))))))) (from-at ! (tyInt w16, l₂) (at 0) (stop !)) (init ! 25 refl (tt, record { fits = link-fits h is First })) $
             assigns ! (of-opd ! (load ! (from ! (hop ! (look ! 27 refl) (fld ! {d = 960} refl (fld ! {d = 0} refl (fld ! {d = 216} refl (stop !)))))) (look-in ! 0 (sub ! 6 {d = 216} refl (sub ! 0 {d = 0} refl (sub ! 1 {d = 960} refl (whole !))))))) (from-at ! (tyInt w16, l₃) (at 1) (stop !)) (init ! 23 refl (tt, record { fits = link-fits h is Second })) $
-            assigns ! (of-opd ! (load ! (from ! (hop ! (look ! 27 refl) (fld ! {d = 2572} refl (stop !)))) (look-in ! 0 (sub ! 4 {d = 2572} refl (whole !))))) (from-at ! (tyInt w8, l₄) (at 2) (stop !)) (init ! 21 refl (tt, record { fits = both-fits h is })) $
+            assigns ! (of-opd ! (load ! (from ! (hop ! (look ! 27 refl) (fld ! {d = 2572} refl (stop !)))) (look-in ! 0 {τ = tyInt w8} (sub ! 4 {τ = tyInt w8} {d = 2572} refl (whole !))))) (from-at ! (tyInt w8, l₄) (at 2) (stop !)) (init ! 21 refl (tt, record { fits = both-fits h is })) $
             assigns ! (addr ! (from ! (hop ! (look ! 27 refl) (fld ! {d = 1920} refl (fld ! {d = 0} refl (stop !)))))) (from-at ! (array-type w32, l₅) (at 3) (stop !)) (init ! 19 refl (tt, tt)) $
             assigns ! (agg ! (and-then ! (load ! (from-at ! (array-type w32, l₅) (at 3) (stop !)) (look ! 19 refl)) (and-then ! (lit ! tt) (no-more !)))) (from-at ! (lent-type w32, l₆) (at 4) (stop !)) (init ! 17 refl (tt, (tt, (record { fits = neighbours-row .room .0 }, tt)))) $
             assigns ! (addr ! (from ! (hop ! (look ! 27 refl) (fld ! {d = 1920} refl (fld ! {d = 256} refl (stop !)))))) (from-at ! (array-type w16, l₇) (at 5) (stop !)) (init ! 15 refl (tt, tt)) $
@@ -228,7 +228,7 @@ module _ (callee : Name) (ps : List (Param 1)) (R : RattleType) (ρ : Ty) where
             assigns ! (addr ! (from ! (hop ! (look ! 27 refl) (fld ! {d = 1920} refl (fld ! {d = 384} refl (stop !)))))) (from-at ! (array-type w32, l₉) (at 7) (stop !)) (init ! 11 refl (tt, tt)) $
             assigns ! (agg ! (and-then ! (load ! (from-at ! (array-type w32, l₉) (at 7) (stop !)) (look ! 11 refl)) (and-then ! (lit ! tt) (no-more !)))) (from-at ! (lent-type w32, l₁₀) (at 8) (stop !)) (init ! 9 refl (tt, (tt, (record { fits = times-row .room .0 }, tt)))) $
             assigns ! (of-opd ! (load ! (from ! (hop ! (look ! 27 refl) (fld ! {d = 1920} refl (fld ! {d = 640} refl (stop !))))) (look-in ! 0 (sub ! 3 {d = 640} refl (sub ! 2 {d = 1920} refl (whole !)))))) (from-at ! (tyInt w64, l₁₁) (at 9) (stop !)) (init ! 7 refl (tt, record { fits = count-fits h is })) $
-            assigns ! (of-opd ! (load ! (from ! (hop ! (look ! 27 refl) (fld ! {d = 2568} refl (stop !)))) (look-in ! 0 (sub ! 3 {d = 2568} refl (whole !))))) (from-at ! (tyInt w32, l₁₂) (at 10) (stop !)) (init ! 5 refl (tt, record { fits = latest-fits h is })) $
+            assigns ! (of-opd ! (load ! (from ! (hop ! (look ! 27 refl) (fld ! {d = 2568} refl (stop !)))) (look-in ! 0 {τ = tyInt w32} (sub ! 3 {τ = tyInt w32} {d = 2568} refl (whole !))))) (from-at ! (tyInt w32, l₁₂) (at 10) (stop !)) (init ! 5 refl (tt, record { fits = latest-fits h is })) $
             use1 W (‵ (cellAt q′ (T.the-row .mir) (mach h ∷ []) b o)) (W .laws .at-raw q′ T′.mir b o (mach h)) $ shuts ! tt T.the-row q′ h (mach h ∷ []) b o $
             -- the rows are lent on
             move ! (1 ∷ 0 ∷ []) $ lends-row ! tt neighbours-row h b o (λ γ₁. move ! (2 ∷ 1 ∷ []) $ lends-row ! tt sizes-row h b o (λ γ₂. move ! (2 ∷ 1 ∷ []) $ lends-row ! tt times-row h b o (λ γ₃.
