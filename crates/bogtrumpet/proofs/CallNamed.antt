@@ -98,12 +98,12 @@ module _ {M : Type 1} (𝓤 : URA M) (H : Heap 𝓤) (A : Atoms 𝓤) (W : Given
       via 𝓤 _ handed (subst (λ (P : Fml). ent 𝓤 (Asked P) (run (svc s ∷ vint w8 k ∷ vint w32 t ∷ flat ts vss))) (sym owned-same) (subst (λ (vs : List Val). ent 𝓤 (Asked (owns ts′ x′ vss′)) (run (svc s ∷ vint w8 k ∷ vint w32 t ∷ vs))) (sym spelt-same) known))
 
 chosen-true : (c : Bool) → Holds c → choose c First Second ≡ First
-chosen-true true yes = refl
-chosen-true false no = absurd no
+chosen-true true it-is = refl
+chosen-true false it-is = absurd it-is
 
 chosen-false : (c : Bool) → Holds (not c) → choose c First Second ≡ Second
-chosen-false true no = absurd no
-chosen-false false yes = refl
+chosen-false true it-is-not = absurd it-is-not
+chosen-false false it-is-not = refl
 
 is-first : (k : ℕ) → Holds (eqb k 0) → nameOf k ≡ First
 is-first k zero-is = chosen-true (eqb k 0) zero-is
@@ -208,8 +208,8 @@ module _ (callee : Name) (m j : ℕ) (ok : AllWithin (suc m) (j ∷ [])) (ps : L
           let service : Service = serviceOf h w in
           assigns ! (of-opd ! (load ! (from-at ! (service-ref, l₆) (at 4) (stop !)) (look ! 11 refl))) (from-at ! (service-ref, l₃) (at 1) (stop !)) (init ! 14 refl (tt, tt)) $
           assigns ! (of-opd ! (load ! (from-at ! (service-ref, l₃) (at 1) (hop ! (look ! 14 refl) (stop !))) (look-in ! 0 (N h .part)))) (from-at ! (S′.mir, l₇) (at 5) (stop !)) (init ! 10 refl (LL.lawful S.the-type S′.the-laws 𝓤 H A W .typed service _ (service-is h w was) .0)) $
-          assigns ! (of-opd ! (load ! (from ! (hop ! (look ! 16 refl) (fld ! refl (stop !)))) (look-in ! 0 (sub ! 4 refl (whole !))))) (from-at ! (tyInt w8, l₈) (at 6) (stop !)) (init ! 9 refl (tt, record { fits = both-fits h was })) $
-          assigns ! (of-opd ! (load ! (from ! (hop ! (look ! 16 refl) (fld ! refl (stop !)))) (look-in ! 0 (sub ! 3 refl (whole !))))) (from-at ! (tyInt w32, l₉) (at 7) (stop !)) (init ! 8 refl (tt, record { fits = latest-fits h was })) $
+          assigns ! (of-opd ! (load ! (from ! (hop ! (look ! 16 refl) (fld ! {τ = tyInt w8} {d = 2572} refl (stop !)))) (look-in ! 0 (sub ! 4 {τ = tyInt w8} {d = 2572} refl (whole !))))) (from-at ! (tyInt w8, l₈) (at 6) (stop !)) (init ! 9 refl (tt, record { fits = both-fits h was })) $
+          assigns ! (of-opd ! (load ! (from ! (hop ! (look ! 16 refl) (fld ! {τ = tyInt w32} {d = 2568} refl (stop !)))) (look-in ! 0 (sub ! 3 {τ = tyInt w32} {d = 2568} refl (whole !))))) (from-at ! (tyInt w32, l₉) (at 7) (stop !)) (init ! 8 refl (tt, record { fits = latest-fits h was })) $
           assigns ! (addr ! (from-at ! (passed-type j, l₂) (at 0) (fld ! refl (hop ! (look-in ! 15 (sub ! 0 refl (whole !))) (stop !))))) (from-at ! (pointer-type, l₁₀) (at 8) (stop !)) (init ! 7 refl (tt, tt)) $
           assigns ! (agg ! (and-then ! (load ! (from-at ! (pointer-type, l₁₀) (at 8) (stop !)) (look ! 7 refl)) (and-then ! (load ! (from-at ! (passed-type j, l₂) (at 0) (fld ! refl (stop !))) (look-in ! 15 (sub ! 1 refl (whole !)))) (no-more !))))
           (from-at ! (lent-type, l₁₁) (at 9) (stop !)) (init ! 6 refl (tt, (tt, (record { fits = room .0 }, tt)))) $
@@ -257,9 +257,9 @@ module _ (callee : Name) (m j : ℕ) (ok : AllWithin (suc m) (j ∷ [])) (ps : L
           -- [the node's cell; what it owns; the open borrow; obs; auth; the parameters; further room; room for the lent output; …; its pointer; …; the time; …; the both; …; the service read; …; the chosen; …; the bool; …; the answer; …; the named; …; the output; …; _1; …; _0; …; the other tokens; the rest's]
           assigns ! (bin ! (op-at ! s 5 ps passed (κ, κs) bs x E₂ 2 reaches is-k refl params-at) (lit ! tt) tt) (from-at ! (tyBool, l₅) (at 3) (stop !)) (init ! 19 refl (tt, tt)) $
           within ! $ branches ! (load ! (from-at ! (tyBool, l₅) (at 3) (stop !)) (look ! 19 refl))
-          (λ it-is. assigns-last ! (addr ! (from ! (hop ! (look ! 27 refl) (fld ! refl (stop !))))) (from-at ! (service-ref, l₆) (at 4) (stop !)) (init ! 17 refl (tt, tt)) $ exec ! C Λ E hands _ $ move ! (1 ∷ []) $ drop ! $
+          (λ it-is. assigns-last ! (addr ! (from ! (hop ! (look ! 27 refl) (fld ! {τ = S′.mir} {d = 0} refl (stop !))))) (from-at ! (service-ref, l₆) (at 4) (stop !)) (init ! 17 refl (tt, tt)) $ exec ! C Λ E hands (atRet E (On.Ends m j ok ps R 𝓤 H A W κ κs q qs b o γ h x Ens)) $ move ! (1 ∷ []) $ drop ! $
           move ! (0 ∷ 1 ∷ 2 ∷ 3 ∷ 4 ∷ 5 ∷ 6 ∷ 8 ∷ 10 ∷ 12 ∷ 14 ∷ 16 ∷ 18 ∷ 20 ∷ 22 ∷ 24 ∷ 26 ∷ 28 ∷ 30 ∷ 31 ∷ []) $
-          handing bs cs l₀ l₁ l₂ l₃ l₄ l₅ l₆ l₇ l₈ l₉ l₁₀ l₁₁ _ _ First (subst (Needs φ) (is-first k it-is) needs) (first-within 𝓤 H A W b o) was)
-          (λ it-is-not. assigns-last ! (addr ! (from ! (hop ! (look ! 27 refl) (fld ! refl (stop !))))) (from-at ! (service-ref, l₆) (at 4) (stop !)) (init ! 17 refl (tt, tt)) $ exec ! C Λ E hands _ $ move ! (1 ∷ []) $ drop ! $
+          handing bs cs l₀ l₁ l₂ l₃ l₄ l₅ l₆ l₇ l₈ l₉ l₁₀ l₁₁ (o + 0) (eqb k 0) First (subst (Needs φ) (is-first k it-is) needs) (first-within 𝓤 H A W b o) was)
+          (λ it-is-not. assigns-last ! (addr ! (from ! (hop ! (look ! 27 refl) (fld ! {τ = S′.mir} {d = 960} refl (stop !))))) (from-at ! (service-ref, l₆) (at 4) (stop !)) (init ! 17 refl (tt, tt)) $ exec ! C Λ E hands (atRet E (On.Ends m j ok ps R 𝓤 H A W κ κs q qs b o γ h x Ens)) $ move ! (1 ∷ []) $ drop ! $
           move ! (0 ∷ 1 ∷ 2 ∷ 3 ∷ 4 ∷ 5 ∷ 6 ∷ 8 ∷ 10 ∷ 12 ∷ 14 ∷ 16 ∷ 18 ∷ 20 ∷ 22 ∷ 24 ∷ 26 ∷ 28 ∷ 30 ∷ 31 ∷ []) $
-          handing bs cs l₀ l₁ l₂ l₃ l₄ l₅ l₆ l₇ l₈ l₉ l₁₀ l₁₁ _ _ Second (subst (Needs φ) (is-second k it-is-not) needs) (second-within 𝓤 H A W b o) was)))))))))))))))))
+          handing bs cs l₀ l₁ l₂ l₃ l₄ l₅ l₆ l₇ l₈ l₉ l₁₀ l₁₁ (o + 960) (eqb k 0) Second (subst (Needs φ) (is-second k it-is-not) needs) (second-within 𝓤 H A W b o) was)))))))))))))))))

@@ -50,10 +50,10 @@ module _ {M : Type 1} (𝓤 : URA M) (H : Heap 𝓤) (A : Atoms 𝓤) (W : Given
     pub again : (s : Service) → back (svc s) ≡ ‵ (fat fullShare T′.mir b o (mach (with-service h w s)))
 
   pub first-within : (b o : ℕ) (h : Node) → Within First b o (o + 0) h
-  first-within b o h = record { back = _; part = sub ! 0 refl (whole !); again = λ s. refl }
+  first-within b o h = record { back = _; part = sub ! 0 {τ = S′.mir} {d = 0} refl (whole !); again = λ s. refl }
 
   pub second-within : (b o : ℕ) (h : Node) → Within Second b o (o + 960) h
-  second-within b o h = record { back = _; part = sub ! 1 refl (whole !); again = λ s. refl }
+  second-within b o h = record { back = _; part = sub ! 1 {τ = S′.mir} {d = 960} refl (whole !); again = λ s. refl }
 
 -- further locals
 abbrev pub Spaces : List Ty → Type 0

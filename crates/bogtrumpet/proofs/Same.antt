@@ -116,7 +116,7 @@ module _ (h : Node) (k : ℕ) (p hop : List ℕ) (locator t : ℕ) (out : List �
   -- over a path of that size
   abbrev Sent-same : ℕ → Type 0
   Sent-same size =
-      (sentStep (isThere (h .both) k) (serviceOf h (nameOf k)) size p hop locator (length out) .answer ≡ byNumber k (λ w. plainSent (sendOf h w p hop locator t (length out) .answer)) (plainSent (sent.Refused NoLocator)))
+      (sentStep (isThere (h .both) k) (serviceOf h (nameOf k)) (h .latest) size p hop locator t (length out) .answer ≡ byNumber k (λ w. plainSent (sendOf h w p hop locator t (length out) .answer)) (plainSent (sent.Refused NoLocator)))
       × (sentAfter h k size p hop locator t (length out) ≡ byNumber k (λ w. sendOf h w p hop locator t (length out) .node) (raisedTo h t))
       × (sentThrough (isThere (h .both) k) (serviceOf h (nameOf k)) size p hop locator out ≡ byNumber k (λ w. sendOutput h w p hop locator t out) out)
 
@@ -139,7 +139,7 @@ module _ (h : Node) (k : ℕ) (p hop : List ℕ) (locator t : ℕ) (out : List �
 module _ (s : Service) (now : ℕ) (d : List ℕ) (i : ℕ) (memory : List ℕ) where
   module _ (g : Gathered) where
     abbrev gathered : GatheredStep
-    gathered = record { stage = g .stage; place = g .place; at = g .at; piece = g .piece }
+    gathered = record { stage = g .stage; place = g .place; at = g .at; latest = now; piece = g .piece }
 
     after : (b : Bool) → cond b (withPieces s (withPlace (g .at) (g .place) (s .pieces))) s ≡ withPieces s (cond b (withPlace (g .at) (g .place) (s .pieces)) (s .pieces))
     after true = refl
@@ -156,14 +156,15 @@ module _ (s : Service) (now : ℕ) (d : List ℕ) (i : ℕ) (memory : List ℕ) 
     pub gathered-same : judgedWith (s .settings) (live (s .routers)) (s .pieces) g ≡ collectedOf (s .settings) (live (s .routers)) (s .pieces) now d i memory → g .at < places → GatheredAs true s now d i memory gathered
     unfolding collectedBy judgedStep
     gathered-same told in-bounds = record {
+      at-time = refl;
       next = after (g .piece) ∙ ap (λ (c : Collected). withPieces s (c .pieces)) told;
       answer = rw (settings-kept (g .piece), routers-kept (g .piece)) (ap (λ (c : Collected). plainReceived (c .answer)) told);
       in-bounds = in-bounds;
     }
 
-  pub absent-same : (p : Place) → GatheredAs false s now d i memory (record { stage = stage.Refused NoLocator; place = p; at = 0; piece = false })
+  pub absent-same : (p : Place) → GatheredAs false s now d i memory (record { stage = stage.Refused NoLocator; place = p; at = 0; latest = now; piece = false })
   unfolding collectedBy judgedStep judgedOf
-  absent-same p = record { next = refl; answer = refl; in-bounds = omega arith }
+  absent-same p = record { at-time = refl; next = refl; answer = refl; in-bounds = omega arith }
 
 -- with the latest time it is the node's
 module _ (h : Node) (k : ℕ) (d : List ℕ) (i t : ℕ) (memory : List ℕ) where

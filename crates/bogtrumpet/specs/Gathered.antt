@@ -21,8 +21,9 @@ judgedStep service step = plainReceived (judgedOf (service .settings) (live (ser
 abbrev pub gatheredAfter : Service → GatheredStep → Service
 gatheredAfter service step = cond (step .piece) (withPieces service (withPlace (step .at) (step .place) (service .pieces))) service
 
--- of a datagram (R23): what the service makes of it, now; the place that is named is there
+-- of a datagram (R23): what the service makes of it, now, which is the latest time; the place that is named is there
 pub record GatheredAs (there : Bool) (service : Service) (now : ℕ) (d : List ℕ) (interface : ℕ) (memory : List ℕ) (step : GatheredStep) : Type 0 where
+  pub at-time : step .latest ≡ now
   pub next : gatheredAfter service step ≡ withPieces service (collectedBy there service now d interface memory .pieces)
   pub answer : judgedStep (gatheredAfter service step) step ≡ plainReceived (collectedBy there service now d interface memory .answer)
   pub in-bounds : step .at < places

@@ -1,5 +1,5 @@
 -- What a function of `steps` answers: the plain answer, and what is changed of the node.
-use Prim.Native.Nat.{ℕ}
+use Prim.Native.Nat.{ℕ, max}
 use mathlib.Core.Bool.{Bool, cond}
 use mathlib.Core.List.{List}
 use Rattle.node.specs.Node.{setupGiven, serviceOf, nodeWith}
@@ -28,17 +28,18 @@ use Rattle.bogtrumpet.specs.declared.steps.HeardStep.{HeardStep}
 unfoldable pub madeStep : Setup → MadeStep
 madeStep s = record { answer = setupGiven (s .answer) .number; node = s .node }
 
--- of a sending over a path of that size: the plain answer, and the next identification of the service
-unfoldable pub sentStep : Bool → Service → ℕ → List ℕ → List ℕ → ℕ → ℕ → SentStep
-sentStep there service size packet hop k room =
+-- of a sending over a path of that size: the plain answer, the next identification of the service, and the later time
+unfoldable pub sentStep : Bool → Service → ℕ → ℕ → List ℕ → List ℕ → ℕ → ℕ → ℕ → SentStep
+sentStep there service latest size packet hop k time room =
     let sent = sentBy there service size packet hop k room in
-    record { answer = plainSent (sent .answer); identification = sent .identification }
+    record { answer = plainSent (sent .answer); identification = sent .identification; latest = max latest time }
 
 -- the node that such a sending leaves: that service has its next identification
 abbrev pub sentAfter : Node → ℕ → ℕ → List ℕ → List ℕ → ℕ → ℕ → ℕ → Node
 sentAfter node s size packet hop k time room =
     let service : Service = serviceOf node (nameOf s) in
-    nodeWith node (nameOf s) (withIdentification service (sentStep (isThere (node .both) s) service size packet hop k room .identification)) time
+    let sent = sentStep (isThere (node .both) s) service (node .latest) size packet hop k time room in
+    nodeWith node (nameOf s) (withIdentification service (sent .identification)) time
 
 -- of the question for a size, which is that one where the service is there
 unfoldable pub sizedStep : ℕ → ℕ → ℕ → Sized

@@ -38,13 +38,16 @@ ghost use Rattle.node.specs.declared.router_list.ListAnswer.the-variants as rep
 ghost use Rattle.node.specs.declared.size.SizeAnswer.the-variants as sized;
 ghost use Rattle.bogtrumpet.specs.Answers.{defaultsOf, plainReceived, plainSized, plainSent, plainReported, plainAsked, plainHeard, plainAdvertised};
 ghost use Rattle.bogtrumpet.specs.Numbered.{byNumber, nameOf, isThere};
-ghost use Rattle.bogtrumpet.specs.Plain.{advertisementFrom};
+ghost use Rattle.bogtrumpet.specs.Plain.{bytesOf, advertisementFrom};
 ghost use Rattle.bogtrumpet.specs.Steps.{sentStep, sentAfter};
 
-// An IPv6 address.
+// An IPv6 address. It is handed over in memory; in fields of four bytes it is read by four bytes, and not by one.
 #[repr(C)]
 pub struct Address {
-    pub bytes: [u8; 16],
+    pub first: [u8; 4],
+    pub second: [u8; 4],
+    pub third: [u8; 4],
+    pub last: [u8; 4],
 }
 
 // A new router list: the first `count` addresses.
@@ -110,18 +113,25 @@ pub extern "C" fn bogtrumpet_receive(
         × (now (node .exit) ≡ byNumber service (λ w. receiveOf (now (node .entry)) w (now (datagram .entry)) interface time (now (memory .entry)) .node) (raisedTo (now (node .entry)) time))
         × (now (memory .exit) ≡ byNumber service (λ w. receiveMemory (now (node .entry)) w (now (datagram .entry)) interface time (now (memory .entry))) (now (memory .entry))) ⌝ }
 {
-    if node.latest < time {
-        node.latest = time;
-    }
     let named = if service == 0 {
         &mut node.first
     } else {
         &mut node.second
     };
-    let step = steps::gathered(*named, node.both, node.latest, service, datagram, interface, time, memory);
+    let step = steps::gathered(
+        *named,
+        node.both,
+        node.latest,
+        service,
+        datagram,
+        interface,
+        time,
+        memory,
+    );
     if step.piece {
         named.pieces.places[step.at] = step.place;
     }
+    node.latest = step.latest;
     steps::judged(*named, step)
 }
 
@@ -147,7 +157,7 @@ pub extern "C" fn bogtrumpet_path_size(node: &Node, service: u8, neighbour: u32)
 
 // The size in force toward the tunnel end of a next hop, at the later of the node's time and this one.
 fn size_toward(node: &Node, service: u8, next_hop: Address, time: u32) -> u16
-    ensures { λ r. ⌜ r ≡ pathSizeToward (now (node .entry)) (nameOf service) («next_hop» .bytes) time ⌝ }
+    ensures { λ r. ⌜ r ≡ pathSizeToward (now (node .entry)) (nameOf service) (bytesOf «next_hop») time ⌝ }
 {
     sizes::size_toward(
         node.first.settings.link_size,
@@ -164,7 +174,7 @@ fn size_toward(node: &Node, service: u8, next_hop: Address, time: u32) -> u16
     )
 }
 
-// Sends a packet over a path of that size. Of the node only the next identifications and the latest time are written.
+// Sends a packet over a path of that size. Of the node only the next identification of the service and the latest time are written.
 fn send_over(
     node: &mut Node,
     path_size: u16,
@@ -175,21 +185,30 @@ fn send_over(
     time: u32,
     out: &mut [u8],
 ) -> Sent
-    ensures { λ r. ⌜ (r ≡ sentStep (isThere (now (node .entry) .both) service) (serviceOf (now (node .entry)) (nameOf service)) «path_size» (now (packet .entry)) («next_hop» .bytes) locator (length (now (out .entry))) .answer)
-        × (now (node .exit) ≡ sentAfter (now (node .entry)) service «path_size» (now (packet .entry)) («next_hop» .bytes) locator time (length (now (out .entry))))
-        × (now (out .exit) ≡ sentThrough (isThere (now (node .entry) .both) service) (serviceOf (now (node .entry)) (nameOf service)) «path_size» (now (packet .entry)) («next_hop» .bytes) locator (now (out .entry))) ⌝ }
+    ensures { λ r. ⌜ (r ≡ sentStep (isThere (now (node .entry) .both) service) (serviceOf (now (node .entry)) (nameOf service)) (now (node .entry) .latest) «path_size» (now (packet .entry)) (bytesOf «next_hop») locator time (length (now (out .entry))) .answer)
+        × (now (node .exit) ≡ sentAfter (now (node .entry)) service «path_size» (now (packet .entry)) (bytesOf «next_hop») locator time (length (now (out .entry))))
+        × (now (out .exit) ≡ sentThrough (isThere (now (node .entry) .both) service) (serviceOf (now (node .entry)) (nameOf service)) «path_size» (now (packet .entry)) (bytesOf «next_hop») locator (now (out .entry))) ⌝ }
 {
-    if node.latest < time {
-        node.latest = time;
-    }
     let named = if service == 0 {
         &mut node.first
     } else {
         &mut node.second
     };
-    let step = steps::sent(*named, node.both, node.latest, path_size, service, packet, next_hop, locator, time, out);
+    let step = steps::sent(
+        *named,
+        node.both,
+        node.latest,
+        path_size,
+        service,
+        packet,
+        next_hop,
+        locator,
+        time,
+        out,
+    );
     named.identification = step.identification;
-    steps::told(*named, step)
+    node.latest = step.latest;
+    step.answer
 }
 
 // Sends a packet: Node::send. The size is looked up over the lent rows of the path table before the node is handed by value.
@@ -203,9 +222,9 @@ pub extern "C" fn bogtrumpet_send(
     time: u32,
     out: &mut [u8],
 ) -> Sent
-    ensures { λ r. ⌜ (r ≡ byNumber service (λ w. plainSent (sendOf (now (node .entry)) w (now (packet .entry)) («next_hop» .bytes) locator time (length (now (out .entry))) .answer)) (plainSent (sent.Refused NoLocator)))
-        × (now (node .exit) ≡ byNumber service (λ w. sendOf (now (node .entry)) w (now (packet .entry)) («next_hop» .bytes) locator time (length (now (out .entry))) .node) (raisedTo (now (node .entry)) time))
-        × (now (out .exit) ≡ byNumber service (λ w. sendOutput (now (node .entry)) w (now (packet .entry)) («next_hop» .bytes) locator time (now (out .entry))) (now (out .entry))) ⌝ }
+    ensures { λ r. ⌜ (r ≡ byNumber service (λ w. plainSent (sendOf (now (node .entry)) w (now (packet .entry)) (bytesOf «next_hop») locator time (length (now (out .entry))) .answer)) (plainSent (sent.Refused NoLocator)))
+        × (now (node .exit) ≡ byNumber service (λ w. sendOf (now (node .entry)) w (now (packet .entry)) (bytesOf «next_hop») locator time (length (now (out .entry))) .node) (raisedTo (now (node .entry)) time))
+        × (now (out .exit) ≡ byNumber service (λ w. sendOutput (now (node .entry)) w (now (packet .entry)) (bytesOf «next_hop») locator time (now (out .entry))) (now (out .entry))) ⌝ }
 {
     let size = size_toward(node, service, next_hop, time);
     send_over(node, size, service, packet, next_hop, locator, time, out)

@@ -19,7 +19,8 @@ pub fn name_of(service: u8) -> ServiceName
 pub fn there(both: u8, service: u8) -> bool
     ensures { λ r. ⌜ r ≡ isThere both service ⌝ }
 {
-    (service == 0) | ((service == 1) & (0 < both))
+    let most: u8 = if 0 < both { 1 } else { 0 };
+    service <= most
 }
 
 // What such a node has for a call with that number: for one above 1 no second service.

@@ -3,6 +3,7 @@ use super::Address;
 use super::answers;
 use super::answers::Sized;
 use super::numbered;
+use super::plain;
 use node::size::SizeAnswer;
 use refusals::Refusal;
 ghost use mathlib.Core.Path.{_≡_};
@@ -12,6 +13,7 @@ ghost use Rattle.node.specs.Node.{pick};
 ghost use Rattle.paths.specs.Kept.{inForce};
 ghost use Rattle.paths.specs.Table.{keptAmong};
 ghost use Rattle.bogtrumpet.specs.Numbered.{nameOf};
+ghost use Rattle.bogtrumpet.specs.Plain.{bytesOf};
 ghost use Rattle.bogtrumpet.specs.Steps.{sizedStep};
 
 // Toward a neighbour, at the latest time: paths::size_among.
@@ -52,10 +54,13 @@ pub fn size_toward<'a>(
     next_hop: Address,
     time: u32,
 ) -> u16
-    ensures { λ r. ⌜ r ≡ inForce (pick (nameOf service) first second) (keptAmong (now (neighbours .entry)) (now (sizes .entry)) (now (times .entry)) count (lastQuad («next_hop» .bytes)) (max latest time)) ⌝ }
+    ensures { λ r. ⌜ r ≡ inForce (pick (nameOf service) first second) (keptAmong (now (neighbours .entry)) (now (sizes .entry)) (now (times .entry)) count (lastQuad (bytesOf «next_hop»)) (max latest time)) ⌝ }
 {
-    let bytes = next_hop.bytes;
-    let tunnel_end = address::last_quad(bytes);
+    let a = next_hop.first;
+    let b = next_hop.second;
+    let c = next_hop.third;
+    let d = next_hop.last;
+    let tunnel_end = address::last_quad(plain::whole(a, b, c, d));
     let later = node::later(latest, time);
     let link = numbered::link_of(service, first, second);
     paths::size_among(link, neighbours, sizes, times, count, tunnel_end, later)

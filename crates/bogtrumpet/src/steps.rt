@@ -23,6 +23,7 @@ use refusals::Refusal;
 use routers::RouterList;
 use settings::Settings;
 ghost use mathlib.Core.Path.{_≡_};
+ghost use Prim.Native.Nat.{max};
 ghost use lib.ListN.{length};
 ghost use Rattle.node.specs.Advertise.{advertiseOf, advertiseOutput};
 ghost use Rattle.node.specs.Ask.{askOf, askOutput};
@@ -35,7 +36,7 @@ ghost use Rattle.node.specs.Send.{sentThrough};
 ghost use Rattle.bogtrumpet.specs.Answers.{plainAdvertised};
 ghost use Rattle.bogtrumpet.specs.Gathered.{GatheredAs, judgedStep};
 ghost use Rattle.bogtrumpet.specs.Numbered.{nameOf, isThere, takenAs};
-ghost use Rattle.bogtrumpet.specs.Plain.{advertisementFrom};
+ghost use Rattle.bogtrumpet.specs.Plain.{bytesOf, advertisementFrom};
 ghost use Rattle.bogtrumpet.specs.Steps.{madeStep, sentStep, reportedStep, replacedStep, askedStep, heardStep};
 
 // A number, and the node that is made.
@@ -44,18 +45,20 @@ pub struct MadeStep {
     pub node: Node,
 }
 
-// Of the node a sending changes the next identification of a service and the latest time alone: the identifications of both stand here.
+// Of the node a sending changes the next identification of its service and the latest time alone.
 pub struct SentStep {
     pub answer: Sent,
     pub identification: u16,
+    pub latest: u32,
 }
 
-// What is to be judged of a datagram. Of the node a piece that comes to the collection of the first service or of the second changes one place there and
-// the latest time, any other datagram the latest time alone.
+// What is to be judged of a datagram. Of the node a piece that comes to the collection of its service changes one place there and the latest time, any
+// other datagram the latest time alone.
 pub(crate) struct GatheredStep {
     pub stage: Stage,
     pub place: Place,
     pub at: usize,
+    pub latest: u32,
     pub piece: bool,
 }
 
@@ -117,12 +120,13 @@ pub(crate) fn gathered(
     service: u8,
     datagram: &[u8],
     interface: u8,
-    _: u32,
+    time: u32,
     memory: &mut [u8],
 ) -> GatheredStep
-    ensures { λ r. ⌜ GatheredAs (isThere both service) named latest (now (datagram .entry)) interface (now (memory .entry)) r
-        × (now (memory .exit) ≡ collectedThrough (isThere both service) named latest (now (datagram .entry)) interface (now (memory .entry))) ⌝ }
+    ensures { λ r. ⌜ GatheredAs (isThere both service) named (max latest time) (now (datagram .entry)) interface (now (memory .entry)) r
+        × (now (memory .exit) ≡ collectedThrough (isThere both service) named (max latest time) (now (datagram .entry)) interface (now (memory .entry))) ⌝ }
 {
+    let latest = node::later(latest, time);
     if numbered::there(both, service) {
         let settings = named.settings;
         let pieces = named.pieces;
@@ -133,6 +137,7 @@ pub(crate) fn gathered(
             stage,
             place,
             at: gathered.at,
+            latest,
             piece: gathered.piece,
         };
     }
@@ -141,6 +146,7 @@ pub(crate) fn gathered(
         stage: Stage::Refused(Refusal::NoLocator),
         place,
         at: 0,
+        latest,
         piece: false,
     }
 }
@@ -157,37 +163,35 @@ pub(crate) fn judged(named: Service, step: GatheredStep) -> Received
 }
 
 // A sending over a path of that size: node::send::sent_by.
-pub(crate) fn sent(
+pub fn sent(
     named: Service,
     both: u8,
-    _: u32,
+    latest: u32,
     path_size: u16,
     service: u8,
     packet: &[u8],
     next_hop: Address,
     locator: usize,
-    _: u32,
+    time: u32,
     out: &mut [u8],
 ) -> SentStep
-    ensures { λ r. ⌜ (r ≡ sentStep (isThere both service) named «path_size» (now (packet .entry)) («next_hop» .bytes) locator (length (now (out .entry))))
-        × (now (out .exit) ≡ sentThrough (isThere both service) named «path_size» (now (packet .entry)) («next_hop» .bytes) locator (now (out .entry))) ⌝ }
+    ensures { λ r. ⌜ (r ≡ sentStep (isThere both service) named latest «path_size» (now (packet .entry)) (bytesOf «next_hop») locator time (length (now (out .entry))))
+        × (now (out .exit) ≡ sentThrough (isThere both service) named «path_size» (now (packet .entry)) (bytesOf «next_hop») locator (now (out .entry))) ⌝ }
 {
+    let a = next_hop.first;
+    let b = next_hop.second;
+    let c = next_hop.third;
+    let d = next_hop.last;
+    let bytes = plain::whole(a, b, c, d);
     let there = numbered::there(both, service);
-    let bytes = next_hop.bytes;
     let sent = send::sent_by(there, named, path_size, packet, bytes, locator, out);
     let given = sent.answer;
     let answer = answers::plain_sent(given);
     SentStep {
         answer,
         identification: sent.identification,
+        latest: node::later(latest, time),
     }
-}
-
-// What the caller is told of it.
-pub(crate) fn told(_: Service, step: SentStep) -> Sent
-    ensures { λ r. ⌜ r ≡ step .answer ⌝ }
-{
-    step.answer
 }
 
 pub fn reported(n: Node, message: &[u8], time: u32) -> ReportedStep

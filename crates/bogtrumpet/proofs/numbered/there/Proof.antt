@@ -1,11 +1,11 @@
--- `numbered::there` meets its contract: by cases on its tests. Assumes nothing.
-use lib.Dec.{eqb, ltb}
-use Rattle.bogtrumpet.proofs.Same.{there-same}
 use Rattle.bogtrumpet.proofs.numbered.there.Statement.{statement}
 use Rattle.bogtrumpet.proofs.numbered.there.Tie as tie
+use Rattle.bogtrumpet.proofs.numbered.there.Reads as reads
+use Rattle.bogtrumpet.proofs.numbered.there.Lts as lts
 
+-- src/numbered.rt:19:1
 returns : tie.Need-returns
-returns c = there-same (eqb (c .args .service) 0) (eqb (c .args .service) 1) (ltb 0 (c .args .both))
+returns c = ?
 
 pub there-spec : {M : Type 1} → statement M
 there-spec = tie.close (tie.spec returns)

@@ -6,7 +6,8 @@ use Rattle.bogtrumpet.proofs.sizes.size_toward.Tie as tie
 returns : tie.Need-returns
 returns c =
     let d = c .before in
-    rw (c .size-among .ensures, d .link-of .ensures, d .before .later .ensures, d .before .before .last-quad .ensures)
+    let q = d .before .before in
+    rw (c .size-among .ensures, d .link-of .ensures, d .before .later .ensures, q .last-quad .ensures, q .before .whole .ensures)
 
 pub size-toward-spec : {M : Type 1} → statement M
-size-toward-spec = tie.close (tie.spec (omega arith) (omega arith) (omega arith) (omega arith) returns)
+size-toward-spec = tie.close (tie.spec (omega arith) (omega arith) (omega arith) (omega arith) (omega arith) returns)
