@@ -263,3 +263,79 @@ module _ (callee : Name) (m j : ℕ) (ok : AllWithin (suc m) (j ∷ [])) (ps : L
           (λ it-is-not. assigns-last ! (addr ! (from ! (hop ! (look ! 27 refl) (fld ! {τ = S′.mir} {d = 960} refl (stop !))))) (from-at ! (service-ref, l₆) (at 4) (stop !)) (init ! 17 refl (tt, tt)) $ exec ! C Λ E hands (atRet E (On.Ends m j ok ps R 𝓤 H A W κ κs q qs b o γ h x Ens)) $ move ! (1 ∷ []) $ drop ! $
           move ! (0 ∷ 1 ∷ 2 ∷ 3 ∷ 4 ∷ 5 ∷ 6 ∷ 8 ∷ 10 ∷ 12 ∷ 14 ∷ 16 ∷ 18 ∷ 20 ∷ 22 ∷ 24 ∷ 26 ∷ 28 ∷ 30 ∷ 31 ∷ []) $
           handing bs cs l₀ l₁ l₂ l₃ l₄ l₅ l₆ l₇ l₈ l₉ l₁₀ l₁₁ (o + 960) (eqb k 0) Second (subst (Needs φ) (is-second k it-is-not) needs) (second-within 𝓤 H A W b o) was)))))))))))))))))
+
+-- by the contract of the covered function, which says Rel of what it answers, and what it writes
+module _ (m j : ℕ) (ok : AllWithin m (j ∷ [])) (ls : List (Link m)) (s : ℕ) (Z : RattleType) (Rel : (κs : Lfts m) → Service → ℕ → ℕ → Taken m j ok ls κs → Z .Denot → Type 0) (written : (κs : Lfts m) → Service → ℕ → ℕ → Taken m j ok ls κs → List ℕ) where
+  abbrev ps : List (Param (suc m))
+  ps = psOf ls
+
+  abbrev lent-on : List (Slot m)
+  lent-on = output m j ok
+
+  abbrev pub first-ended : Ended
+  first-ended = record {
+    signature = record { lifetimes = m; outlives = []; params = plain (λ _. S.the-row) ∷ plain (λ _. u8) ∷ plain (λ _. u32) ∷ givensOf ls lent-on; result = plain (λ _. Z) };
+    kept = (yes, (yes, (yes, keptG ls lent-on (yes, tt))));
+  }
+
+  abbrev pub first-clauses : {M : Type 1} (𝓤 : URA M) → Clauses 𝓤 first-ended
+  first-clauses 𝓤 κs a = record {
+    ghost = Unit {0};
+    requires = λ _. emp 𝓤;
+    ensures = λ _ z e. fact 𝓤 (Rel κs (a .0) (a .1 .0) (a .1 .1 .0) (a .1 .1 .1) z × (now (outsG κs ls lent-on (yes, tt) (e .1 .1 .1) .0) ≡ written κs (a .0) (a .1 .0) (a .1 .1 .0) (a .1 .1 .1)));
+  }
+
+  module _ (callee : Name) (R : RattleType) (ρ σ : Ty) (es : List Ty) (finish : ℕ → Code) {M : Type 1} (𝓤 : URA M) (H : Heap 𝓤) (𝓜 : Model 𝓤 H) (𝓖 : GhostRules 𝓤 H) (𝓡 : Running 𝓤 H 𝓜) (env : Env) (key : Name) (F : Finish Z R)
+      (Ens : (κs : Lfts (suc m)) (a : Args (On.signature m (suc j) ok ps R) κs) → R .Denot → AtExit (On.ended m (suc j) ok ps R) κs → Type 0) where
+    abbrev W : Given 𝓤 H (𝓖 .A)
+    W = givenOf 𝓤 H 𝓜 𝓖
+
+    abbrev passed-on : List (Slot (suc m))
+    passed-on = output (suc m) (suc j) ok
+
+    abbrev took : (κs : Lfts (suc m)) → Denots (typesAt (slotsOf ps passed-on) κs) → Taken m j ok ls (κs .1)
+    took κs x = taken m j ok ls κs x
+
+    abbrev First-done : Contract 𝓤
+    First-done = tripleOf 𝓤 H (𝓖 .A) (first-ended .signature) (closing 𝓤 H (𝓖 .A) first-ended (first-clauses 𝓤))
+
+    -- the number of the service
+    module _ (number : (κs : Lfts (suc m)) → Denots (typesAt (slotsOf ps passed-on) κs) → ℕ) where
+      abbrev service : (κs : Lfts (suc m)) → Args (On.signature m (suc j) ok ps R) κs → Service
+      service κs a = serviceOf (now (a .0)) (nameOf (number κs (a .1)))
+
+      abbrev to : (κs : Lfts (suc m)) → Shares (suc m) → Args (On.signature m (suc j) ok ps R) κs → First-done .Ghost
+      to κs qs a = ((κs .1, qs .1, tt, (service κs a, (now (a .0) .both, (now (a .0) .latest, took κs (a .1)))), (svc (service κs a) ∷ [], (vint w8 (now (a .0) .both) ∷ [], (vint w32 (now (a .0) .latest) ∷ [], valued m j ok ls κs (a .1))))), tt)
+
+      -- what follows for the function from what the covered function says and how it ends
+      abbrev pub So : Type 0
+      So = (κs : Lfts (suc m)) (a : Args (On.signature m (suc j) ok ps R) κs) (z : Z .Denot) (r : R .Denot) (e : AtExit (On.ended m (suc j) ok ps R) κs) → Rel (κs .1) (service κs a) (now (a .0) .both) (now (a .0) .latest) (took κs (a .1)) z
+          → r ≡ F .answer (now (a .0)) (nameOf (number κs (a .1))) z → now (e .0) ≡ F .next (now (a .0)) (nameOf (number κs (a .1))) z
+          → now (outsP κs ps passed-on (yes, tt) (e .1) .0) ≡ written (κs .1) (service κs a) (now (a .0) .both) (now (a .0) .latest) (took κs (a .1)) → Ens κs a r e
+
+      pub called-named : Reaches s ps → ((κs : Lfts (suc m)) (x : Denots (typesAt (slotsOf ps passed-on) κs)) → valAt s ps passed-on κs x ≡ vint w8 (number κs x))
+          → Closed 𝓤 H (tables 𝓤 H 𝓜 𝓡 env .C) (tables 𝓤 H 𝓜 𝓡 env .Λ) key (shape callee m (suc j) ok ps s R ρ σ es finish) → ((z : Z .Denot) (v : Val) → Is Z z (v ∷ []) → Typed σ v)
+          → Triple 𝓤 (tables 𝓤 H 𝓜 𝓡 env .C callee) First-done → ((κs : Lfts m) (n : Service) (b t : ℕ) (x : Taken m j ok ls κs) (z : Z .Denot) → Rel κs n b t x z → F .good z)
+          → Finishing 𝓤 H (𝓖 .A) W σ ρ es F (tables 𝓤 H 𝓜 𝓡 env .C) finish → So
+          → Triple 𝓤 (tables 𝓤 H 𝓜 𝓡 env .C key) (tripleOf 𝓤 H (𝓖 .A) (On.signature m (suc j) ok ps R) (closing 𝓤 H (𝓖 .A) (On.ended m (suc j) ok ps R) (On.clauses m (suc j) ok ps R Ens 𝓤)))
+      unfolding tablesOf
+      called-named reaches number-is closed typed known good finishes so =
+          On.meets m (suc j) ok ps R 𝓤 H 𝓜 𝓖 𝓡 env key (shape callee m (suc j) ok ps s R ρ σ es finish) Ens closed (λ κs qs a are.
+          let x : Denots (typesAt (slotsOf ps passed-on) κs) = a .1 in
+          let h : Node = now (a .0) in
+          let y : First-done .Ghost = to κs qs a in
+          let said : Z .Denot → Type 0 = Rel (κs .1) (service κs a) (h .both) (h .latest) (took κs x) in
+          let left-there : List ℕ = written (κs .1) (service κs a) (h .both) (h .latest) (took κs x) in
+          let owned-same = ownOf (κs .0) (κs .1) ls passed-on lent-on (slice-vals, tt) (λ t. t) (λ t. (slice-vals (t .0), tt)) (λ t. refl) x in
+          let spelt-same = flatOf (κs .0) (κs .1) ls passed-on lent-on (slice-vals, tt) (λ t. (slice-vals (t .0), tt)) (λ t. refl) x in
+          walk callee m (suc j) ok ps s R ρ σ es finish Ens 𝓤 H (𝓖 .A) W (tables 𝓤 H 𝓜 𝓡 env .C) (tables 𝓤 H 𝓜 𝓡 env .Λ) (fmOf 𝓤 H (W .laws) (tablesOf 𝓤 H 𝓜 (tables 𝓤 H 𝓜 𝓡 env))) first-ended (first-clauses 𝓤)
+          (κs .0) (κs .1) (qs .0) (qs .1) (a .0 .ptr .0) (a .0 .ptr .1) (a .0 .name) (a .0 .now) x (number κs x) y F (λ ws. final m j ok ls κs x (ws .1 .1 .1)) are typed (id⊢ 𝓤 _)
+          (λ ws. via 𝓤 _ (snd∗ 𝓤 (sem 𝓤 H (𝓖 .A) (left (S.the-row .exit yes) (service κs a) (ws .0))) _) (via 𝓤 _ (snd∗ 𝓤 (sem 𝓤 H (𝓖 .A) (left (u8 .exit yes) (h .both) (ws .1 .0))) _)
+          (via 𝓤 _ (snd∗ 𝓤 (sem 𝓤 H (𝓖 .A) (left (u32 .exit yes) (h .latest) (ws .1 .1 .0))) _) (ends-lent m j ok ls κs x 𝓤 H (𝓖 .A) (ws .1 .1 .1)))))
+          (λ z ys. said z × (ys ≡ left-there))
+          (λ z ws. subst (λ (ys : List ℕ). ent 𝓤 (first-clauses 𝓤 (κs .1) (y .0 .3) .ensures tt z (atExit first-ended (κs .1) (y .0 .3) ws)) (fact 𝓤 (said z × (ys ≡ left-there)))) (outs-lent m j ok ls κs x (ws .1 .1 .1)) (id⊢ 𝓤 _))
+          (λ z ys e. good (κs .1) (service κs a) (h .both) (h .latest) (took κs x) z (e .0)) finishes reaches (number-is κs x)
+          (record {
+            met-by = met 𝓤 H (𝓖 .A) W m (κs .1) (qs .1) (service κs a) (h .both) (h .latest) (typesAt (slotsOf ps passed-on) κs) x (On.spelt m (suc j) ok ps R κs x) (typesAt (givensOf ls lent-on) (κs .1)) (took κs x) (valued m j ok ls κs x) owned-same spelt-same (λ vs. tables 𝓤 H 𝓜 𝓡 env .C callee vs (First-done .post y)) (known y);
+            shown = λ z ys r e r-is. so κs a z _ _ (e .0) r-is refl (outs-passed m j ok ls κs x ys ∙ e .1);
+          }))
