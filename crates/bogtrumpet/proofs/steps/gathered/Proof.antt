@@ -1,5 +1,4 @@
 -- `steps::gathered` meets its contract: where the service is there, what is gathered says all that is asked. Assumes nothing.
-use Prim.Native.Nat.{max}
 use borrow.Author.Needs.{needs}
 use Rattle.routers.specs.Routers.{live}
 use Rattle.node.specs.Receive.{collectedThrough}
