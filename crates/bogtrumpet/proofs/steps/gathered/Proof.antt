@@ -1,49 +1,29 @@
+-- `steps::gathered` meets its contract: where the service is there, what is gathered says all that is asked. Assumes nothing.
 use borrow.Author.Needs.{needs}
+use Rattle.routers.specs.Routers.{live}
+use Rattle.node.specs.Receive.{collectedThrough}
+use Rattle.bogtrumpet.proofs.Same.{gathered-same, absent-same}
 use Rattle.bogtrumpet.proofs.steps.gathered.Statement.{statement}
 use Rattle.bogtrumpet.proofs.steps.gathered.Tie as tie
-use Rattle.bogtrumpet.proofs.steps.gathered.Reads as reads
-use Rattle.bogtrumpet.proofs.steps.gathered.Lts as lts
-use Rattle.bogtrumpet.proofs.numbered.there.Reads as there-reads
-use Rattle.node.proofs.later.Reads as later-reads
-use Rattle.pieces.proofs.Place.none.Reads as none-reads
-use Rattle.receiving.proofs.collect.gather.Reads as gather-reads
 
--- src/steps.rt:129:9
-later-requires : tie.Need-later-requires
-later-requires c κs = search needs
-
--- src/steps.rt:130:8
-there-requires : tie.Need-there-requires
-there-requires c κs = search needs
-
--- src/steps.rt:133:13
-gather-requires : tie.Need-gather-requires
-gather-requires c κs = search needs
-
--- src/steps.rt:136:9
-same-length : tie.Need-same-length
-same-length c = search needs
-
--- src/steps.rt:136:9
 returns : tie.Need-returns
-returns c = ?
+unfolding collectedThrough
+returns c =
+    let g = c .before .before .before in
+    let t = g .before .before .before .before in
+    let l = t .before .before in
+    let a = l .before .before .before .args in
+    (rw (← t .before .there .ensures, ← l .later .ensures, t .if1 .taken) (gathered-same (a .named) (l .later .result) (a .datagram .now) (a .interface) (a .memory .now) (g .gather .result) (g .gather .ensures .0 .0 (live (a .named .routers))) (g .gather .ensures .0 .1)),
+    rw (← t .before .there .ensures, ← l .later .ensures, t .if1 .taken) (g .gather .ensures .1))
 
--- src/steps.rt:144:9
-none-requires : tie.Need-none-requires
-none-requires c κs = search needs
-
--- src/steps.rt:116:1
 returns-2 : tie.Need-returns-2
-returns-2 c = ?
+unfolding collectedThrough
+returns-2 c =
+    let t = c .before in
+    let l = t .before .before in
+    let a = l .before .before .before .args in
+    (rw (← t .before .there .ensures, ← l .later .ensures, t .if1 .left) (absent-same (a .named) (l .later .result) (a .datagram .now) (a .interface) (a .memory .now) (c .none .result)),
+    rw (← t .before .there .ensures, ← l .later .ensures, t .if1 .left))
 
 pub gathered-spec : {M : Type 1} → statement M
-gathered-spec =
-    tie.close
-    (tie.spec
-    later-requires
-    there-requires
-    gather-requires
-    same-length
-    returns
-    none-requires
-    returns-2)
+gathered-spec = tie.close (tie.spec (search needs) (search needs) (search needs) (search needs) returns (search needs) returns-2)
