@@ -199,7 +199,7 @@ module _ (m j : ℕ) (ok : AllWithin m (j ∷ [])) (ls : List (Link m)) (R : Rat
     abbrev pub Says : (κs : Lfts (suc m)) (a : Args (the-ended .signature) κs) → R .Denot → AtExit the-ended κs → Type 0
     Says κs a r e = (r ≡ def (κs .1) (now (a .0)) (took κs (a .1))) × (now (outsP κs ps passed-on (yes, tt) (e .1) .0) ≡ written (κs .1) (now (a .0)) (took κs (a .1)))
 
-    module _ {M : Type 1} (𝓤 : URA M) (H : Heap 𝓤) (𝓜 : Model 𝓤 H) (𝓖 : GhostRules 𝓤 H) (𝓡 : Running 𝓤 H 𝓜) (env : Env) (key : Name) where
+    module _ (Ens : (κs : Lfts (suc m)) (a : Args (the-ended .signature) κs) → R .Denot → AtExit the-ended κs → Type 0) {M : Type 1} (𝓤 : URA M) (H : Heap 𝓤) (𝓜 : Model 𝓤 H) (𝓖 : GhostRules 𝓤 H) (𝓡 : Running 𝓤 H 𝓜) (env : Env) (key : Name) where
       abbrev Stepped : Contract 𝓤
       Stepped = tripleOf 𝓤 H (𝓖 .A) (step-ended .signature) (closing 𝓤 H (𝓖 .A) step-ended (step-clauses 𝓤))
 
@@ -209,11 +209,11 @@ module _ (m j : ℕ) (ok : AllWithin m (j ∷ [])) (ls : List (Link m)) (R : Rat
       abbrev to : (κs : Lfts (suc m)) → Shares (suc m) → Args (the-ended .signature) κs → Stepped .Ghost
       to κs qs a = ((κs .1, qs .1, tt, (now (a .0), took κs (a .1)), (mach (now (a .0)) ∷ [], valued m j ok ls κs (a .1))), tt)
 
-      pub looked-out : Closed 𝓤 H (tables 𝓤 H 𝓜 𝓡 env .C) (tables 𝓤 H 𝓜 𝓡 env .Λ) key (shape callee m (suc j) ok ps R ρ) → ((r : R .Denot) (v : Val) → Is R r (v ∷ []) → Typed ρ v) → Triple 𝓤 (tables 𝓤 H 𝓜 𝓡 env .C callee) Stepped
-          → Triple 𝓤 (tables 𝓤 H 𝓜 𝓡 env .C key) (tripleOf 𝓤 H (𝓖 .A) (the-ended .signature) (closing 𝓤 H (𝓖 .A) the-ended (clauses callee m (suc j) ok ps R ρ Says 𝓤)))
+      pub looked-out : Closed 𝓤 H (tables 𝓤 H 𝓜 𝓡 env .C) (tables 𝓤 H 𝓜 𝓡 env .Λ) key (shape callee m (suc j) ok ps R ρ) → ((r : R .Denot) (v : Val) → Is R r (v ∷ []) → Typed ρ v) → Triple 𝓤 (tables 𝓤 H 𝓜 𝓡 env .C callee) Stepped → ((κs : Lfts (suc m)) (a : Args (the-ended .signature) κs) (r : R .Denot) (e : AtExit the-ended κs) → Says κs a r e → Ens κs a r e)
+          → Triple 𝓤 (tables 𝓤 H 𝓜 𝓡 env .C key) (tripleOf 𝓤 H (𝓖 .A) (the-ended .signature) (closing 𝓤 H (𝓖 .A) the-ended (clauses callee m (suc j) ok ps R ρ Ens 𝓤)))
       unfolding tablesOf
-      looked-out closed typed known =
-          proved 𝓤 H 𝓜 𝓖 𝓡 env key (shape callee m (suc j) ok ps R ρ) the-ended (clauses callee m (suc j) ok ps R ρ Says 𝓤) (stayed callee m (suc j) ok ps R ρ) closed
+      looked-out closed typed known so =
+          proved 𝓤 H 𝓜 𝓖 𝓡 env key (shape callee m (suc j) ok ps R ρ) the-ended (clauses callee m (suc j) ok ps R ρ Ens 𝓤) (stayed callee m (suc j) ok ps R ρ) closed
           (goes-dropped 𝓤 H (𝓖 .A) W (suc m) (shrRefTo (0 ∷ []) tt (plain (λ _. T.the-row))) yes (λ κs x f. refl), goesOf 𝓤 H (𝓖 .A) W ps passed-on (yes, tt) (held (suc m) (suc j) ok) (goes-gave-slice 𝓤 H (𝓖 .A) W (suc m) (suc j) ok (plain (λ _. u8)), tt))
           (λ κs. (ptr-vals, spelt-out callee m (suc j) ok ps R ρ κs)) (λ κs. (shr-tells (named 0) (κs .0) T.the-row, tellsOf ps passed-on κs (slice-vals, tt) ((λ x vs p. p .0 .0), tt)))
           (λ κs qs bounds a _ are.
@@ -223,10 +223,10 @@ module _ (m j : ℕ) (ok : AllWithin m (j ∷ [])) (ls : List (Link m)) (R : Rat
           let left-there : List ℕ = written (κs .1) (now (a .0)) (took κs x) in
           let owned-same = ownOf (κs .0) (κs .1) ls passed-on lent-on (slice-vals, tt) (λ t. t) (λ t. (slice-vals (t .0), tt)) (λ t. refl) x in
           let spelt-same = flatOf (κs .0) (κs .1) ls passed-on lent-on (slice-vals, tt) (λ t. (slice-vals (t .0), tt)) (λ t. refl) x in
-          walk callee m (suc j) ok ps R ρ Says 𝓤 H (𝓖 .A) W (tables 𝓤 H 𝓜 𝓡 env .C) (tables 𝓤 H 𝓜 𝓡 env .Λ) (fmOf 𝓤 H (W .laws) (tablesOf 𝓤 H 𝓜 (tables 𝓤 H 𝓜 𝓡 env))) (givensOf ls lent-on) (yes, keptG ls lent-on (yes, tt))
+          walk callee m (suc j) ok ps R ρ Ens 𝓤 H (𝓖 .A) W (tables 𝓤 H 𝓜 𝓡 env .C) (tables 𝓤 H 𝓜 𝓡 env .Λ) (fmOf 𝓤 H (W .laws) (tablesOf 𝓤 H 𝓜 (tables 𝓤 H 𝓜 𝓡 env))) (givensOf ls lent-on) (yes, keptG ls lent-on (yes, tt))
           (κs .0) (κs .1) (qs .0) (qs .1) (a .0 .ptr .0) (a .0 .ptr .1) (a .0 .name) (a .0 .now) x (step-clauses 𝓤) y (λ ws. final m j ok ls κs x (ws .1)) (are .1)
           (met 𝓤 H (𝓖 .A) W m (κs .1) (qs .1) (a .0 .now) (typesAt (slotsOf ps passed-on) κs) x (valss (typesAt (slotsOf ps passed-on) κs) (spelt-out callee m (suc j) ok ps R ρ κs) x) (typesAt (givensOf ls lent-on) (κs .1)) (took κs x) (valued m j ok ls κs x) owned-same spelt-same (λ vs. tables 𝓤 H 𝓜 𝓡 env .C callee vs (Stepped .post y)) (known y))
           (id⊢ 𝓤 _) typed (λ ws. via 𝓤 _ (snd∗ 𝓤 (sem 𝓤 H (𝓖 .A) (left (T.the-row .exit yes) (now (a .0)) (ws .0))) _) (ends-lent m j ok ls κs x 𝓤 H (𝓖 .A) (ws .1)))
           (λ z ys. (z ≡ answer) × (ys ≡ left-there))
           (λ z ws. subst (λ (ys : List ℕ). ent 𝓤 (step-clauses 𝓤 (κs .1) (y .0 .3) .ensures tt z (atExit step-ended (κs .1) (y .0 .3) ws)) (fact 𝓤 ((z ≡ answer) × (ys ≡ left-there)))) (outs-lent m j ok ls κs x (ws .1)) (id⊢ 𝓤 _))
-          (λ z ys e. (e .0, outs-passed m j ok ls κs x ys ∙ e .1)))
+          (λ z ys e. so κs a z _ (e .0, outs-passed m j ok ls κs x ys ∙ e .1)))

@@ -1,5 +1,5 @@
--- A node of which one place is another's, and nothing else. Assumes nothing.
---     with-place       the node.        place-fits     it fits its machine value.        values-set     the machine values of its places
+-- A service of which one place is another's, and nothing else. Assumes nothing.
+--     with-place       the service.        place-fits     it fits its machine value.        values-set     the machine values of its places
 use mathlib.Core.Path.{_≡_, refl, sym, ap, subst, _∙_}
 use Prim.Native.Nat.{ℕ, zero, suc}
 use mathlib.Core.List.{List, [], _∷_, map}
@@ -19,9 +19,8 @@ use Rattle.pieces.proofs.Collection.Laws as C′
 use Rattle.pieces.proofs.Place as P
 use Rattle.pieces.proofs.Place.Laws as P′
 use Rattle.node.specs.Receive.{withPieces}
-use Rattle.node.specs.declared.Node.{Node}
-use Rattle.bogtrumpet.proofs.Changed.{with-service, pieces-fit, collection-is}
-use Rattle.bogtrumpet.proofs.Lent.{Fits}
+use Rattle.node.specs.declared.Service.{Service}
+use Rattle.bogtrumpet.proofs.Changed.{Fitting, pieces-fit, collection-is}
 
 map-set : {A B : Type 0} (f : A → B) (xs : List A) (k : ℕ) (x : A) → map f (set xs k x) ≡ set (map f xs) k (f x)
 map-set f [] k x = refl
@@ -73,15 +72,15 @@ collection-fits c k d is was =
       tt,
     )
 
-abbrev pub with-place : Node → ℕ → Place → Node
-with-place h k d = with-service h (withPieces (h .service) (withPlace k d (h .service .pieces)))
+abbrev pub with-place : Service → ℕ → Place → Service
+with-place s k d = withPieces s (withPlace k d (s .pieces))
 
-pub place-fits : (h : Node) (k : ℕ) (d : Place) → FitsPlace d → Fits h → Fits (with-place h k d)
-place-fits h k d is was = pieces-fit h (withPlace k d (h .service .pieces)) (collection-fits (h .service .pieces) k d is (collection-is h was)) was
+pub place-fits : (s : Service) (k : ℕ) (d : Place) → FitsPlace d → Fitting s → Fitting (with-place s k d)
+place-fits s k d is was = pieces-fit s (withPlace k d (s .pieces)) (collection-fits (s .pieces) k d is (collection-is s was)) was
 
 -- there are eight places
-pub places-there : (h : Node) → Fits h → length (values (h .service .pieces .places)) ≡ 8
-places-there h was = places-full (LL.owed C.the-type C′.the-laws (h .service .pieces) (LL.vals C.the-type C′.the-laws (h .service .pieces)) (collection-is h was) .0 .1 .0 .1)
+pub places-there : (s : Service) → Fitting s → length (values (s .pieces .places)) ≡ 8
+places-there s was = places-full (LL.owed C.the-type C′.the-laws (s .pieces) (LL.vals C.the-type C′.the-laws (s .pieces)) (collection-is s was) .0 .1 .0 .1)
   where
-    places-full : length (map (P.the-type .to) (h .service .pieces .places)) ≡ 8 → length (values (h .service .pieces .places)) ≡ 8
-    places-full e = length-map (map (P.the-type .to) (h .service .pieces .places)) (LL.tuple-val P.the-type P′.the-laws) ∙ e
+    places-full : length (map (P.the-type .to) (s .pieces .places)) ≡ 8 → length (values (s .pieces .places)) ≡ 8
+    places-full e = length-map (map (P.the-type .to) (s .pieces .places)) (LL.tuple-val P.the-type P′.the-laws) ∙ e

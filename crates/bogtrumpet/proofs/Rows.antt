@@ -38,7 +38,7 @@ use Rattle.node.proofs.Node.Laws as T′
 
 -- where the path table lies in a node
 abbrev pub table-at : ℕ
-table-at = 960
+table-at = 1920
 
 abbrev Numbers : Width → RattleType
 Numbers w = Array (UInt w) mostNeighbours
@@ -58,7 +58,7 @@ module _ {M : Type 1} (𝓤 : URA M) (H : Heap 𝓤) (A : Atoms 𝓤) (W : Given
   to-table : Parts 𝓤 H A T.the-row P.the-row (λ o. o + table-at) (λ h. h .paths)
   to-table =
       part-cut 𝓤 H A W T.the-row P.the-row table-at (λ h. h .paths)
-      (λ s h b o. cut-record 𝓤 H A s T.the-row P.the-type table-at h h (h .paths) (h .paths) (b, o) (look-at 𝓤 H A W s T.the-type T′.the-laws 1 table-at refl refl (b, o) h (T.struct .as-values h) refl))
+      (λ s h b o. cut-record 𝓤 H A s T.the-row P.the-type table-at h h (h .paths) (h .paths) (b, o) (look-at 𝓤 H A W s T.the-type T′.the-laws 2 table-at refl refl (b, o) h (T.struct .as-values h) refl))
       (halves 𝓤 H A W (cStruct T.the-type T′.the-laws T′.the-copy))
 
   to-row : (r : Row) → Parts 𝓤 H A T.the-row (Numbers (r .width)) (λ o. o + table-at + r .at) (λ h. r .numbers (h .paths))

@@ -9,6 +9,8 @@ use Rattle.asking.specs.declared.AskAnswer.{AskAnswer}
 use Rattle.asking.specs.declared.AskAnswer.the-variants as asked
 use Rattle.receiving.specs.declared.Received as receiving
 use Rattle.receiving.specs.declared.Received.the-variants as received
+use Rattle.node.specs.declared.size.SizeAnswer.{SizeAnswer}
+use Rattle.node.specs.declared.size.SizeAnswer.the-variants as sized
 use Rattle.refusals.specs.Refusals.{numberOf}
 use Rattle.reports.specs.declared.ReportAnswer.{ReportAnswer}
 use Rattle.reports.specs.declared.ReportAnswer.the-variants as reported
@@ -18,6 +20,7 @@ use Rattle.settings.specs.Settings.{defaultsFor}
 use Rattle.settings.specs.declared.Settings.{Settings}
 use Rattle.bogtrumpet.specs.declared.answers.Received.{Received}
 use Rattle.bogtrumpet.specs.declared.answers.Sent.{Sent}
+use Rattle.bogtrumpet.specs.declared.answers.Sized.{Sized}
 use Rattle.bogtrumpet.specs.declared.answers.Reported.{Reported}
 use Rattle.bogtrumpet.specs.declared.answers.Asked.{Asked}
 use Rattle.bogtrumpet.specs.declared.answers.Heard.{Heard}
@@ -32,6 +35,11 @@ abbrev pub plainReceived : receiving.Received → Received
 plainReceived (received.Delivered offset length) = record { number = 0; joined = false; offset = offset; length = length }
 plainReceived (received.Joined offset length) = record { number = 0; joined = true; offset = offset; length = length }
 plainReceived (received.Refused r) = record { number = numberOf r; joined = false; offset = 0; length = 0 }
+
+-- the size in force (R10.1)
+abbrev pub plainSized : SizeAnswer → Sized
+plainSized (sized.Size size) = record { number = 0; size = size }
+plainSized (sized.Refused r) = record { number = numberOf r; size = 0 }
 
 -- the length written (R1.17); 14 carries the size M and the length of the message written (R8.4)
 abbrev pub plainSent : SendAnswer → Sent

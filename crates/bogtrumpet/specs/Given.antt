@@ -5,6 +5,7 @@ use lib.Dec.{eqb}
 use Rattle.refusals.specs.Given.{Given, readBack}
 use Rattle.bogtrumpet.specs.declared.answers.Received.{Received}
 use Rattle.bogtrumpet.specs.declared.answers.Sent.{Sent}
+use Rattle.bogtrumpet.specs.declared.answers.Sized.{Sized}
 use Rattle.bogtrumpet.specs.declared.answers.Reported.{Reported}
 use Rattle.bogtrumpet.specs.declared.answers.Asked.{Asked}
 use Rattle.bogtrumpet.specs.declared.answers.Heard.{Heard}
@@ -13,6 +14,10 @@ use Rattle.bogtrumpet.specs.declared.answers.Advertised.{Advertised}
 -- of receiving: 1 where the inner packet stands in the memory, its place there or in the datagram, and its length
 abbrev pub receivedBack : Received → Given
 receivedBack a = readBack (a .number) (cond (a .joined) 1 0 ∷ a .offset ∷ a .length ∷ [])
+
+-- of the question for the size in force: the size
+abbrev pub sizedBack : Sized → Given
+sizedBack a = readBack (a .number) (a .size ∷ [])
 
 -- of sending: with 14 the size M and the length of the message written, with 0 the length of the datagram written
 abbrev pub sentBack : Sent → Given

@@ -1,4 +1,4 @@
--- What is advertised of a plain struct of C, which may hold any bytes (R22).
+-- What plain structs of C, which may hold any bytes, stand for: an address, and what is advertised (R22).
 use Prim.Native.Nat.{ℕ}
 use mathlib.Core.Bool.{cond, false}
 use mathlib.Core.List.{List, map, _++_}
@@ -10,9 +10,14 @@ use Rattle.advertisements.specs.declared.route.Preference.{Preference}
 use Rattle.advertisements.specs.declared.route.Preference.the-variants.{Medium, High, Low}
 use Rattle.advertisements.specs.declared.route.Route as told-route
 use Rattle.advertisements.specs.declared.Advertisement as told-all
+use Rattle.bogtrumpet.specs.declared.Address.{Address}
 use Rattle.bogtrumpet.specs.declared.plain.Prefix.{Prefix}
 use Rattle.bogtrumpet.specs.declared.plain.Route.{Route}
 use Rattle.bogtrumpet.specs.declared.plain.Advertisement.{Advertisement}
+
+-- the 16 bytes of an address
+abbrev pub bytesOf : Address → List ℕ
+bytesOf a = a .first ++ a .second ++ a .third ++ a .last
 
 -- a prefix; any value but 0 sets a flag
 unfoldable pub prefixFrom : Prefix → told.Prefix

@@ -1,17 +1,22 @@
 -- What a function of `steps` answers: the plain answer, and what is changed of the node.
 use Prim.Native.Nat.{ℕ, max}
+use mathlib.Core.Bool.{Bool, cond}
 use mathlib.Core.List.{List}
-use Rattle.node.specs.Node.{setupGiven}
-use Rattle.node.specs.Send.{withIdentification}
+use Rattle.node.specs.Node.{setupGiven, serviceOf, nodeWith}
+use Rattle.node.specs.Send.{withIdentification, sentBy}
 use Rattle.node.specs.RouterList.{listGiven}
 use Rattle.node.specs.declared.Node.{Node}
+use Rattle.node.specs.declared.Service.{Service}
 use Rattle.node.specs.declared.Setup.{Setup}
 use Rattle.node.specs.declared.ask.Asked.{Asked}
 use Rattle.node.specs.declared.hear.Heard.{Heard}
 use Rattle.node.specs.declared.report.Reported.{Reported}
 use Rattle.node.specs.declared.router_list.Replaced.{Replaced}
-use Rattle.sending.specs.Sending.{sentOf}
-use Rattle.bogtrumpet.specs.Answers.{plainSent, plainReported, plainAsked, plainHeard}
+use Rattle.node.specs.declared.size.SizeAnswer.the-variants.{Size, Refused}
+use Rattle.refusals.specs.declared.Refusal.the-variants.{NoLocator}
+use Rattle.bogtrumpet.specs.Answers.{plainSized, plainSent, plainReported, plainAsked, plainHeard}
+use Rattle.bogtrumpet.specs.Numbered.{isThere, nameOf}
+use Rattle.bogtrumpet.specs.declared.answers.Sized.{Sized}
 use Rattle.bogtrumpet.specs.declared.steps.MadeStep.{MadeStep}
 use Rattle.bogtrumpet.specs.declared.steps.SentStep.{SentStep}
 use Rattle.bogtrumpet.specs.declared.steps.ReportedStep.{ReportedStep}
@@ -23,28 +28,35 @@ use Rattle.bogtrumpet.specs.declared.steps.HeardStep.{HeardStep}
 unfoldable pub madeStep : Setup → MadeStep
 madeStep s = record { answer = setupGiven (s .answer) .number; node = s .node }
 
--- of a sending over a path of that size: the next identification, and the later time
-unfoldable pub sentStep : Node → ℕ → List ℕ → List ℕ → ℕ → ℕ → ℕ → SentStep
-sentStep node size packet hop k time room =
-    let sent = sentOf (node .service .settings) (node .service .identification) size packet hop k room in
-    record { answer = plainSent (sent .answer); identification = sent .identification; latest = max (node .latest) time }
+-- of a sending over a path of that size: the plain answer, the next identification of the service, and the later time
+unfoldable pub sentStep : Bool → Service → ℕ → ℕ → List ℕ → List ℕ → ℕ → ℕ → ℕ → SentStep
+sentStep there service latest size packet hop k time room =
+    let sent = sentBy there service size packet hop k room in
+    record { answer = plainSent (sent .answer); identification = sent .identification; latest = max latest time }
 
--- the node that a sending leaves: the next identification and the latest time are changed, and nothing else
-abbrev pub storedAfter : Node → SentStep → Node
-storedAfter node step = record { service = withIdentification (node .service) (step .identification); paths = node .paths; latest = step .latest }
+-- the node that such a sending leaves: that service has its next identification
+abbrev pub sentAfter : Node → ℕ → ℕ → List ℕ → List ℕ → ℕ → ℕ → ℕ → Node
+sentAfter node s size packet hop k time room =
+    let service : Service = serviceOf node (nameOf s) in
+    let sent = sentStep (isThere (node .both) s) service (node .latest) size packet hop k time room in
+    nodeWith node (nameOf s) (withIdentification service (sent .identification)) time
+
+-- of the question for a size, which is that one where the service is there
+unfoldable pub sizedStep : ℕ → ℕ → ℕ → Sized
+sizedStep both k size = plainSized (cond (isThere both k) (Size size) (Refused NoLocator))
 
 -- of a size report: the plain answer, and the path table and the latest time of the next node
 unfoldable pub reportedStep : Reported → ReportedStep
 reportedStep s = record { answer = plainReported (s .answer); paths = s .node .paths; latest = s .node .latest }
 
--- of a new router list: 1, or 0, and the router list and the latest time of the next node
+-- of a new router list: 1, or 0, and the router lists and the latest time of the next node
 unfoldable pub replacedStep : Replaced → ReplacedStep
-replacedStep s = record { answer = listGiven (s .answer) .number; routers = s .node .service .routers; latest = s .node .latest }
+replacedStep s = record { answer = listGiven (s .answer) .number; first = s .node .first .routers; second = s .node .second .routers; latest = s .node .latest }
 
--- of asking: the plain answer, and the router list and the latest time of the next node
+-- of asking: the plain answer, and the router lists and the latest time of the next node
 unfoldable pub askedStep : Asked → AskedStep
-askedStep s = record { answer = plainAsked (s .answer); routers = s .node .service .routers; latest = s .node .latest }
+askedStep s = record { answer = plainAsked (s .answer); first = s .node .first .routers; second = s .node .second .routers; latest = s .node .latest }
 
--- of an advertisement: the plain answer, and the router list and the latest time of the next node
+-- of an advertisement: the plain answer, and the router lists and the latest time of the next node
 unfoldable pub heardStep : Heard → HeardStep
-heardStep s = record { answer = plainHeard (s .answer); routers = s .node .service .routers; latest = s .node .latest }
+heardStep s = record { answer = plainHeard (s .answer); first = s .node .first .routers; second = s .node .second .routers; latest = s .node .latest }

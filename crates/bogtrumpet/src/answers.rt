@@ -3,10 +3,11 @@
 use asking::AskAnswer;
 use header::wrap::Written;
 use hearing::HeardAnswer;
+use node::size::SizeAnswer;
 use reports::ReportAnswer;
 use sending::SendAnswer;
 ghost use mathlib.Core.Path.{_≡_};
-ghost use Rattle.bogtrumpet.specs.Answers.{plainReceived, plainSent, plainReported, plainAsked, plainHeard, plainAdvertised};
+ghost use Rattle.bogtrumpet.specs.Answers.{plainReceived, plainSized, plainSent, plainReported, plainAsked, plainHeard, plainAdvertised};
 
 // Where the inner packet stands: in the memory where it was joined of pieces, else in the datagram.
 #[repr(C)]
@@ -15,6 +16,12 @@ pub struct Received {
     pub joined: bool,
     pub offset: usize,
     pub length: usize,
+}
+
+#[repr(C)]
+pub struct Sized {
+    pub number: u8,
+    pub size: u16,
 }
 
 // With 0 the length of the datagram written; with 14 the size M and the length of the message written. Each length has a field of its
@@ -76,6 +83,18 @@ pub fn plain_received(answer: receiving::Received) -> Received
             joined: false,
             offset: 0,
             length: 0,
+        },
+    }
+}
+
+pub fn plain_sized(answer: SizeAnswer) -> Sized
+    ensures { λ r. ⌜ r ≡ plainSized answer ⌝ }
+{
+    match answer {
+        SizeAnswer::Size(size) => Sized { number: 0, size },
+        SizeAnswer::Refused(refusal) => Sized {
+            number: refusal.number(),
+            size: 0,
         },
     }
 }

@@ -1,8 +1,9 @@
-// What an operator sets of an advertisement, as structs of C, which may hold any bytes, and what of it is advertised.
+// What an operator sets of an advertisement, as structs of C, which may hold any bytes, and what of it is advertised; and the bytes of an address.
 use advertisements::MOST;
 use advertisements::prefix;
 use advertisements::route;
 use advertisements::route::Preference;
+ghost use mathlib.Core.List.{_++_};
 ghost use mathlib.Core.Path.{_≡_};
 ghost use Rattle.bogtrumpet.specs.Plain.{prefixFrom, preferenceFrom, routeFrom, noPrefix, noRoute, advertisementFrom};
 
@@ -36,6 +37,16 @@ pub struct Advertisement {
     pub lifetime: u16,
     pub managed: u8,
     pub other: u8,
+}
+
+// The bytes of an address, given by its four fields. They are copied before they are taken apart, so that each is read at once.
+pub(crate) fn whole(a: [u8; 4], b: [u8; 4], c: [u8; 4], d: [u8; 4]) -> [u8; 16]
+    ensures { λ r. ⌜ r ≡ a ++ b ++ c ++ d ⌝ }
+{
+    [
+        a[0], a[1], a[2], a[3], b[0], b[1], b[2], b[3], c[0], c[1], c[2], c[3], d[0], d[1], d[2],
+        d[3],
+    ]
 }
 
 fn prefix_from(p: Prefix) -> prefix::Prefix

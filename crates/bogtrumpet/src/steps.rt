@@ -8,29 +8,35 @@ use super::answers::Heard;
 use super::answers::Received;
 use super::answers::Reported;
 use super::answers::Sent;
+use super::numbered;
 use super::plain;
 use super::plain::Advertisement;
 use node::Node;
+use node::Service;
+use node::send;
 use paths::PathTable;
 use pieces::Place;
 use receiving::collect;
 use receiving::judging;
 use receiving::judging::Stage;
+use refusals::Refusal;
 use routers::RouterList;
 use settings::Settings;
 ghost use mathlib.Core.Path.{_≡_};
+ghost use Prim.Native.Nat.{max};
 ghost use lib.ListN.{length};
 ghost use Rattle.node.specs.Advertise.{advertiseOf, advertiseOutput};
 ghost use Rattle.node.specs.Ask.{askOf, askOutput};
 ghost use Rattle.node.specs.Hear.{hearOf};
-ghost use Rattle.node.specs.Node.{setupOf};
-ghost use Rattle.node.specs.Receive.{receiveMemory};
+ghost use Rattle.node.specs.Node.{setupOf, setupPairOf};
+ghost use Rattle.node.specs.Receive.{collectedThrough};
 ghost use Rattle.node.specs.Report.{reportOf};
 ghost use Rattle.node.specs.RouterList.{replaceOf};
-ghost use Rattle.sending.specs.Sending.{sentOutput};
+ghost use Rattle.node.specs.Send.{sentThrough};
 ghost use Rattle.bogtrumpet.specs.Answers.{plainAdvertised};
 ghost use Rattle.bogtrumpet.specs.Gathered.{GatheredAs, judgedStep};
-ghost use Rattle.bogtrumpet.specs.Plain.{advertisementFrom};
+ghost use Rattle.bogtrumpet.specs.Numbered.{nameOf, isThere, takenAs};
+ghost use Rattle.bogtrumpet.specs.Plain.{bytesOf, advertisementFrom};
 ghost use Rattle.bogtrumpet.specs.Steps.{madeStep, sentStep, reportedStep, replacedStep, askedStep, heardStep};
 
 // A number, and the node that is made.
@@ -39,15 +45,15 @@ pub struct MadeStep {
     pub node: Node,
 }
 
-// Of the node a sending changes the next identification and the latest time alone.
+// Of the node a sending changes the next identification of its service and the latest time alone.
 pub struct SentStep {
     pub answer: Sent,
     pub identification: u16,
     pub latest: u32,
 }
 
-// What is to be judged of a datagram. Of the node a piece that comes to the collection changes one place and the latest time, any other datagram the
-// latest time alone.
+// What is to be judged of a datagram. Of the node a piece that comes to the collection of its service changes one place there and the latest time, any
+// other datagram the latest time alone.
 pub(crate) struct GatheredStep {
     pub stage: Stage,
     pub place: Place,
@@ -63,22 +69,25 @@ pub struct ReportedStep {
     pub latest: u32,
 }
 
-// Of the node a new router list, asking and an advertisement change the router list and the latest time alone.
+// Of the node a new router list, asking and an advertisement change the router list of a service and the latest time alone: both lists stand here.
 pub struct ReplacedStep {
     pub answer: u8,
-    pub routers: RouterList,
+    pub first: RouterList,
+    pub second: RouterList,
     pub latest: u32,
 }
 
 pub struct AskedStep {
     pub answer: Asked,
-    pub routers: RouterList,
+    pub first: RouterList,
+    pub second: RouterList,
     pub latest: u32,
 }
 
 pub struct HeardStep {
     pub answer: Heard,
-    pub routers: RouterList,
+    pub first: RouterList,
+    pub second: RouterList,
     pub latest: u32,
 }
 
@@ -93,76 +102,95 @@ pub fn made(_: Node, settings: Settings) -> MadeStep
     MadeStep { answer, node }
 }
 
+pub fn made_pair(_: Node, first: Settings, second: Settings) -> MadeStep
+    ensures { λ r. ⌜ r ≡ madeStep (setupPairOf first second) ⌝ }
+{
+    let setup = Node::new_pair(first, second);
+    let given = setup.answer;
+    let node = setup.node;
+    let answer = given.number();
+    MadeStep { answer, node }
+}
+
 // A datagram up to what is to be judged of it: receiving::collect::gather.
 pub(crate) fn gathered(
-    n: Node,
+    named: Service,
+    both: u8,
+    latest: u32,
+    service: u8,
     datagram: &[u8],
     interface: u8,
     time: u32,
     memory: &mut [u8],
 ) -> GatheredStep
-    ensures { λ r. ⌜ GatheredAs n (now (datagram .entry)) interface time (now (memory .entry)) r
-        × (now (memory .exit) ≡ receiveMemory n (now (datagram .entry)) interface time (now (memory .entry))) ⌝ }
+    ensures { λ r. ⌜ GatheredAs (isThere both service) named (max latest time) (now (datagram .entry)) interface (now (memory .entry)) r
+        × (now (memory .exit) ≡ collectedThrough (isThere both service) named (max latest time) (now (datagram .entry)) interface (now (memory .entry))) ⌝ }
 {
-    let service = n.service;
-    let settings = service.settings;
-    let pieces = service.pieces;
-    let latest = node::later(n.latest, time);
-    let gathered = collect::gather(settings, pieces, latest, datagram, interface, memory);
-    let stage = gathered.stage;
-    let place = gathered.place;
+    let latest = node::later(latest, time);
+    if numbered::there(both, service) {
+        let settings = named.settings;
+        let pieces = named.pieces;
+        let gathered = collect::gather(settings, pieces, latest, datagram, interface, memory);
+        let stage = gathered.stage;
+        let place = gathered.place;
+        return GatheredStep {
+            stage,
+            place,
+            at: gathered.at,
+            latest,
+            piece: gathered.piece,
+        };
+    }
+    let place = Place::none();
     GatheredStep {
-        stage,
+        stage: Stage::Refused(Refusal::NoLocator),
         place,
-        at: gathered.at,
+        at: 0,
         latest,
-        piece: gathered.piece,
+        piece: false,
     }
 }
 
-// What comes of it on the node as it is then: receiving::judging::judge.
-pub(crate) fn judged(n: Node, step: GatheredStep) -> Received
-    ensures { λ r. ⌜ r ≡ judgedStep n step ⌝ }
+// What comes of it by the service as it is then: receiving::judging::judge.
+pub(crate) fn judged(named: Service, step: GatheredStep) -> Received
+    ensures { λ r. ⌜ r ≡ judgedStep named step ⌝ }
 {
-    let service = n.service;
-    let settings = service.settings;
-    let routers = service.routers;
+    let settings = named.settings;
+    let routers = named.routers;
     let stage = step.stage;
     let given = judging::judge(settings, routers, stage);
     answers::plain_received(given)
 }
 
-// A sending over a path of that size: sending::send.
+// A sending over a path of that size: node::send::sent_by.
 pub fn sent(
-    n: Node,
+    named: Service,
+    both: u8,
+    latest: u32,
     path_size: u16,
+    service: u8,
     packet: &[u8],
     next_hop: Address,
     locator: usize,
     time: u32,
     out: &mut [u8],
 ) -> SentStep
-    ensures { λ r. ⌜ (r ≡ sentStep n «path_size» (now (packet .entry)) («next_hop» .bytes) locator time (length (now (out .entry))))
-        × (now (out .exit) ≡ sentOutput (n .service .settings) (n .service .identification) «path_size» (now (packet .entry)) («next_hop» .bytes) locator (now (out .entry))) ⌝ }
+    ensures { λ r. ⌜ (r ≡ sentStep (isThere both service) named latest «path_size» (now (packet .entry)) (bytesOf «next_hop») locator time (length (now (out .entry))))
+        × (now (out .exit) ≡ sentThrough (isThere both service) named «path_size» (now (packet .entry)) (bytesOf «next_hop») locator (now (out .entry))) ⌝ }
 {
-    let service = n.service;
-    let settings = service.settings;
-    let bytes = next_hop.bytes;
-    let sent = sending::send(
-        settings,
-        service.identification,
-        path_size,
-        packet,
-        bytes,
-        locator,
-        out,
-    );
+    let a = next_hop.first;
+    let b = next_hop.second;
+    let c = next_hop.third;
+    let d = next_hop.last;
+    let bytes = plain::whole(a, b, c, d);
+    let there = numbered::there(both, service);
+    let sent = send::sent_by(there, named, path_size, packet, bytes, locator, out);
     let given = sent.answer;
     let answer = answers::plain_sent(given);
     SentStep {
         answer,
         identification: sent.identification,
-        latest: node::later(n.latest, time),
+        latest: node::later(latest, time),
     }
 }
 
@@ -181,66 +209,81 @@ pub fn reported(n: Node, message: &[u8], time: u32) -> ReportedStep
     }
 }
 
-pub fn replaced(n: Node, list: Addresses, time: u32) -> ReplacedStep
-    ensures { λ r. ⌜ r ≡ replacedStep (replaceOf n (list .routers) (list .count) time) ⌝ }
+pub fn replaced(mut n: Node, service: u8, list: Addresses, time: u32) -> ReplacedStep
+    ensures { λ r. ⌜ r ≡ replacedStep (replaceOf (takenAs n service) (nameOf service) (list .routers) (list .count) time) ⌝ }
 {
+    n.both = numbered::both_for(n.both, service);
     let routers = list.routers;
-    let replaced = n.replace_routers(routers, list.count, time);
+    let replaced = n.replace_routers(numbered::name_of(service), routers, list.count, time);
     let given = replaced.answer;
     let node = replaced.node;
-    let service = node.service;
-    let routers = service.routers;
+    let one = node.first;
+    let other = node.second;
+    let first = one.routers;
+    let second = other.routers;
     let answer = given.number();
     ReplacedStep {
         answer,
-        routers,
+        first,
+        second,
         latest: node.latest,
     }
 }
 
-pub fn asked(n: Node, locator: usize, time: u32, out: &mut [u8]) -> AskedStep
-    ensures { λ r. ⌜ (r ≡ askedStep (askOf n locator time (length (now (out .entry)))))
-        × (now (out .exit) ≡ askOutput n locator time (now (out .entry))) ⌝ }
+pub fn asked(mut n: Node, service: u8, locator: usize, time: u32, out: &mut [u8]) -> AskedStep
+    ensures { λ r. ⌜ (r ≡ askedStep (askOf (takenAs n service) (nameOf service) locator time (length (now (out .entry)))))
+        × (now (out .exit) ≡ askOutput (takenAs n service) (nameOf service) locator time (now (out .entry))) ⌝ }
 {
-    let asked = n.ask(locator, time, out);
+    n.both = numbered::both_for(n.both, service);
+    let asked = n.ask(numbered::name_of(service), locator, time, out);
     let given = asked.answer;
     let node = asked.node;
-    let service = node.service;
-    let routers = service.routers;
+    let one = node.first;
+    let other = node.second;
+    let first = one.routers;
+    let second = other.routers;
     let answer = answers::plain_asked(given);
     AskedStep {
         answer,
-        routers,
+        first,
+        second,
         latest: node.latest,
     }
 }
 
-pub fn heard(n: Node, packet: &[u8], time: u32) -> HeardStep
-    ensures { λ r. ⌜ r ≡ heardStep (hearOf n (now (packet .entry)) time) ⌝ }
+pub fn heard(mut n: Node, service: u8, packet: &[u8], time: u32) -> HeardStep
+    ensures { λ r. ⌜ r ≡ heardStep (hearOf (takenAs n service) (nameOf service) (now (packet .entry)) time) ⌝ }
 {
-    let heard = n.hear(packet, time);
+    n.both = numbered::both_for(n.both, service);
+    let heard = n.hear(numbered::name_of(service), packet, time);
     let given = heard.answer;
     let node = heard.node;
-    let service = node.service;
-    let routers = service.routers;
+    let one = node.first;
+    let other = node.second;
+    let first = one.routers;
+    let second = other.routers;
     let answer = answers::plain_heard(given);
     HeardStep {
         answer,
-        routers,
+        first,
+        second,
         latest: node.latest,
     }
 }
 
 pub fn advertised(
-    n: Node,
+    mut n: Node,
+    service: u8,
     packet: &[u8],
     locator: usize,
     advertisement: Advertisement,
     out: &mut [u8],
 ) -> Advertised
-    ensures { λ r. ⌜ (r ≡ plainAdvertised (advertiseOf n (now (packet .entry)) locator (advertisementFrom advertisement) (length (now (out .entry)))))
-        × (now (out .exit) ≡ advertiseOutput n (now (packet .entry)) locator (advertisementFrom advertisement) (now (out .entry))) ⌝ }
+    ensures { λ r. ⌜ (r ≡ plainAdvertised (advertiseOf (takenAs n service) (nameOf service) (now (packet .entry)) locator (advertisementFrom advertisement) (length (now (out .entry)))))
+        × (now (out .exit) ≡ advertiseOutput (takenAs n service) (nameOf service) (now (packet .entry)) locator (advertisementFrom advertisement) (now (out .entry))) ⌝ }
 {
+    n.both = numbered::both_for(n.both, service);
+    let name = numbered::name_of(service);
     let told = plain::advertisement_from(advertisement);
-    answers::plain_advertised(n.advertise(packet, locator, told, out))
+    answers::plain_advertised(n.advertise(name, packet, locator, told, out))
 }

@@ -1,10 +1,13 @@
--- `sizes::size_toward` meets its contract: `paths::size_among` toward the tunnel end, at the later time. Assumes nothing.
+-- `sizes::size_toward` meets its contract: `paths::size_among` over the link of the service toward the tunnel end, at the later time. Assumes nothing.
 use native.Mathlib.Omega.{arith}
 use Rattle.bogtrumpet.proofs.sizes.size_toward.Statement.{statement}
 use Rattle.bogtrumpet.proofs.sizes.size_toward.Tie as tie
 
 returns : tie.Need-returns
-returns c = rw (c .size-among .ensures, c .before .later .ensures, c .before .before .last-quad .ensures)
+returns c =
+    let d = c .before in
+    let q = d .before .before in
+    rw (c .size-among .ensures, d .link-of .ensures, d .before .later .ensures, q .last-quad .ensures, q .before .whole .ensures)
 
 pub size-toward-spec : {M : Type 1} → statement M
-size-toward-spec = tie.close (tie.spec (omega arith) (omega arith) (omega arith) returns)
+size-toward-spec = tie.close (tie.spec (omega arith) (omega arith) (omega arith) (omega arith) (omega arith) returns)

@@ -1,0 +1,13 @@
+-- `numbered::link_of` meets its contract: by cases on the number. Assumes nothing.
+use borrow.Author.Tests.{eq-eqb, ne-eqb}
+use Rattle.bogtrumpet.proofs.numbered.link_of.Statement.{statement}
+use Rattle.bogtrumpet.proofs.numbered.link_of.Tie as tie
+
+returns : tie.Need-returns
+returns c = simp (eq-eqb _ _ (c .if1 .taken))
+
+returns-2 : tie.Need-returns-2
+returns-2 c = simp (ne-eqb _ _ (c .if1 .left))
+
+pub link-of-spec : {M : Type 1} → statement M
+link-of-spec = tie.close (tie.spec returns returns-2)
