@@ -239,7 +239,7 @@ module _ (callee : Name) (ps : List (Param 1)) (R : RattleType) (ρ : Ty) where
             owned ! u16 (Is u16) (uint-makes 𝓤 H A W w16) (link h First) _ (refl, link-fits h is First) $ fjoin ! $ use2 W (raw (Called .pre (to γ₁ γ₂ γ₃))) (asked γ₁ γ₂ γ₃) $
             -- [what the callee asks; the fractured borrow; the parameters; the time; …]
             calls-at ! fm Called known (to γ₁ γ₂ γ₃)
-            (and-then ! (load ! (from-at ! (tyInt w16, l₂) (at 0) (stop !)) (look ! 23 refl)) ( and-then ! (load ! (from-at ! (tyInt w16, l₃) (at 1) (stop !)) (look ! 21 refl)) ( and-then ! (load ! (from-at ! (tyInt w8, l₄) (at 2) (stop !)) (look ! 19 refl)) ( and-then ! (load ! (from-at ! (lent-type w32, l₆) (at 4) (stop !)) (look ! 15 refl)) ( and-then ! (load ! (from-at ! (lent-type w16, l₈) (at 6) (stop !)) (look ! 11 refl)) ( and-then ! (load ! (from-at ! (lent-type w32, l₁₀) (at 8) (stop !)) (look ! 7 refl)) ( and-then ! (load ! (from-at ! (tyInt w64, l₁₁) (at 9) (stop !)) (look ! 5 refl)) ( and-then ! (load ! (from-at ! (tyInt w32, l₁₂) (at 10) (stop !)) (look ! 3 refl)) (
+            (and-then ! (load ! (from-at ! (tyInt w16, l₂) (at 0) (stop !)) (look ! 23 refl)) (and-then ! (load ! (from-at ! (tyInt w16, l₃) (at 1) (stop !)) (look ! 21 refl)) (and-then ! (load ! (from-at ! (tyInt w8, l₄) (at 2) (stop !)) (look ! 19 refl)) (and-then ! (load ! (from-at ! (lent-type w32, l₆) (at 4) (stop !)) (look ! 15 refl)) (and-then ! (load ! (from-at ! (lent-type w16, l₈) (at 6) (stop !)) (look ! 11 refl)) (and-then ! (load ! (from-at ! (lent-type w32, l₁₀) (at 8) (stop !)) (look ! 7 refl)) (and-then ! (load ! (from-at ! (tyInt w64, l₁₁) (at 9) (stop !)) (look ! 5 refl)) (and-then ! (load ! (from-at ! (tyInt w32, l₁₂) (at 10) (stop !)) (look ! 3 refl)) (
             ops-all ! 2 ps [] (κ, tt) bs x tt E₂ 2 [] refl params-at (no-more !)))))))))) (λ v.
             answered ! tt step-ended (step-clauses 𝓤) (to γ₁ γ₂ γ₃) v (λ r _. r ≡ answer (κ, tt) x (h .both) (size-among h (nameOf (service (κ, tt) x)) (toward (κ, tt) x) (time (κ, tt) (h .latest) x))) (λ r _. id⊢ 𝓤 _) (λ r _ e. peeks ! R (Is R) (shows 𝓤 H A R) r (v ∷ []) (λ is′.
             -- [the result; …; the token; the fractured borrow; the parameters; the time; …; room for _0; …]

@@ -282,12 +282,7 @@ pub extern "C" fn bogtrumpet_ask(
 
 // Takes a router advertisement to a service: Node::hear.
 #[no_mangle]
-pub extern "C" fn bogtrumpet_hear(
-    node: &mut Node,
-    service: u8,
-    packet: &[u8],
-    time: u32,
-) -> Heard
+pub extern "C" fn bogtrumpet_hear(node: &mut Node, service: u8, packet: &[u8], time: u32) -> Heard
     ensures { λ r. ⌜ (r ≡ byNumber service (λ w. plainHeard (hearOf (now (node .entry)) w (now (packet .entry)) time .answer)) (plainHeard (heard.Refused NoLocator)))
         × (now (node .exit) ≡ byNumber service (λ w. hearOf (now (node .entry)) w (now (packet .entry)) time .node) (raisedTo (now (node .entry)) time)) ⌝ }
 {

@@ -6,7 +6,6 @@ use mathlib.Core.Logic.{_⊎_, ⊎-elim, inl, inr}
 use mathlib.Core.Bool.{Bool, true, false, cond}
 use mathlib.Core.List.{List, [], _∷_, _++_, map, List·Memᴰ, List·Memᴰ·head, List·Memᴰ·tail, List·Memᴰ·not-nil, List·Memᴰ·cases-cons}
 use native.Mathlib.Omega.{arith}
-use borrow.Author.Tests.{ltb-true}
 use Rattle.lists.specs.Any.{Some}
 use Rattle.refusals.specs.Refusals.{numberOf}
 use Rattle.refusals.specs.Given.{Given}
@@ -29,12 +28,9 @@ use Rattle.receiving.specs.Receive.{receivedGiven}
 use Rattle.receiving.proofs.Facts.{decides-piece}
 use Rattle.receiving.specs.declared.Received.{Received}
 use Rattle.receiving.specs.declared.Received.the-variants.{Refused}
-use Rattle.node.specs.Node.{hasService}
 use Rattle.node.specs.declared.Node.{Node}
 use Rattle.node.specs.declared.ServiceName.{ServiceName}
-use Rattle.node.specs.declared.ServiceName.the-variants.{First, Second}
-use Rattle.demands.specs.Two.{Has}
-use Rattle.demands.specs.Calls.{NodeCall, receiving, receivingPart, sending, reporting, relisting, asking, hearing, advertising, Outcome, outcomeOf, OfPieces, aDatagram, noDatagram, piecesOf, viewOf}
+use Rattle.demands.specs.Calls.{NodeCall, Outcome, outcomeOf, OfPieces, aDatagram, noDatagram, piecesOf}
 use Rattle.demands.specs.Cuttings.{Cutting, Repeats}
 use Rattle.demands.specs.Joining.{Hands, HandsIn, memoryAfter, Untouched, AtEach, OneOf, NotForeign, Admitted, WaitsOr}
 use Rattle.demands.proofs.Left.{left, has-kept}

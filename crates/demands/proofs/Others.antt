@@ -7,7 +7,7 @@ use native.Mathlib.Omega.{arith}
 use borrow.Author.Tests.{ltb-true, lt-ltb}
 use Rattle.lists.proofs.Decides.{Decides}
 use Rattle.settings.specs.Settings.{areRoutersRight}
-use Rattle.node.specs.Node.{serviceOf, hasService, nodeWith, raisedTo}
+use Rattle.node.specs.Node.{serviceOf, hasService, nodeWith}
 use Rattle.node.specs.Receive.{receiveOf}
 use Rattle.node.specs.Send.{sendOf}
 use Rattle.node.specs.Report.{reportOf}

@@ -7,7 +7,7 @@ use mathlib.Core.List.{List}
 use Rattle.receiving.specs.Collect.{Collected}
 use Rattle.receiving.specs.Receive.{receivedGiven}
 use Rattle.settings.specs.Settings.{areRoutersRight}
-use Rattle.node.specs.Node.{serviceOf, hasService, nodeWith, raisedTo}
+use Rattle.node.specs.Node.{serviceOf, hasService, nodeWith}
 use Rattle.node.specs.Receive.{collectedBy, collectedThrough, receiveOf, receiveMemory}
 use Rattle.node.specs.Send.{sendOf}
 use Rattle.node.specs.Report.{reportOf}

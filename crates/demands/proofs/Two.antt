@@ -1,10 +1,8 @@
 -- Demand 2 holds of every node: each call's own law, at what is in force. Assumes nothing.
-use Prim.Native.Nat.{ℕ, zero, suc, _<_, max}
+use Prim.Native.Nat.{ℕ, max}
 use mathlib.Core.Path.{_≡_, refl, sym, ap, _∙_}
 use mathlib.Core.Bool.{Bool, true, false, cond, not, _&&_, false≢true}
 use mathlib.Core.List.{List}
-use native.Mathlib.Omega.{arith}
-use borrow.Author.Tests.{ltb-true, lt-ltb}
 use lib.Dec.{ltb}
 use lib.ListN.{length}
 use Rattle.address.specs.Address.{linkLocalOf}
@@ -44,7 +42,7 @@ use Rattle.node.specs.declared.Service.{Service}
 use Rattle.node.specs.declared.ServiceName.{ServiceName}
 use Rattle.node.specs.declared.ServiceName.the-variants.{First, Second}
 use Rattle.node.proofs.Services.{put-same, put-own}
-use Rattle.demands.specs.Two.{Has, Relists, Sends, Present, Absent, Quotes, Reports, Exactly, DemandTwo}
+use Rattle.demands.specs.Two.{Relists, Sends, Present, Absent, Quotes, Reports, Exactly, DemandTwo}
 use Rattle.demands.proofs.Others.{decides-has}
 use Rattle.demands.proofs.RightList.{decides-right}
 use Rattle.demands.proofs.NewList.{replaced-list}
