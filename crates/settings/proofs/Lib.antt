@@ -1,2 +1,3 @@
--- The laws that callers cite.
+-- Facts has the laws that callers cite; Pairs is for a search.
 pub mod Facts
+mod Pairs

@@ -1,5 +1,6 @@
 // Locators.
 ghost use mathlib.Core.Path.{_≡_};
+ghost use Prim.Native.Nat.{_%_, _/_};
 ghost use lib.ListN.{take, drop};
 ghost use Rattle.lists.specs.Any.{anyOf, twice};
 ghost use Rattle.settings.specs.Locators.{isAt, isLocator, sameLocator, locatorFound, addressOf, isNoLocator};
@@ -64,15 +65,24 @@ pub fn has_address(all: [Locator; 8], count: usize, a: u32) -> bool
     false
 }
 
-// Whether one of the first `count` locators, from `from` on, has the address on the interface.
+// An address and an interface as one number, which differs where one of them does.
+fn pair(a: u32, interface: u8) -> u64
+    ensures { λ r. ⌜ (r % 4294967296 ≡ a) × (r / 4294967296 ≡ interface) ⌝ }
+{
+    (interface as u64) * 4294967296 + (a as u64)
+}
+
+// Whether one of the first `count` locators, from `from` on, has the address on the interface. Both are compared at once: two tests would be
+// two branches, before which a compiler reads all eight locators.
 pub fn has_locator(all: [Locator; 8], from: usize, count: usize, a: u32, interface: u8) -> bool
     ensures { λ r. ⌜ r ≡ anyOf (isLocator a interface) (drop from (take count all)) ⌝ }
 {
     let n = lists::least(count, 8);
+    let sought = pair(a, interface);
     let mut i: usize = from;
     while i < n {
         let l = all[i];
-        if (l.address == a) & (l.interface == interface) {
+        if pair(l.address, l.interface) == sought {
             return true;
         }
         i += 1;
