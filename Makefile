@@ -32,7 +32,7 @@ $(LIBRARY): $(SOURCES)
 bogtrumpet.pc: Makefile $(HEADER)
 	mkdir -p target
 	printf '%s\n' 'prefix=$(PREFIX)' 'includedir=$${prefix}/include' 'libdir=$${prefix}/lib' '' 'Name: bogtrumpet' \
-	    'Description: One ISATAP tunnel end (RFC 5214), proved' 'Version: $(VERSION)' 'Cflags: -I$${includedir}' \
+	    'Description: ISATAP tunnel ends (RFC 5214), one or two in a box, proved' 'Version: $(VERSION)' 'Cflags: -I$${includedir}' \
 	    'Libs: -L$${libdir} -lbogtrumpet' > target/$@
 
 install: $(LIBRARY) bogtrumpet.pc
