@@ -7,22 +7,31 @@ use crate::plain::{Locator, Settings};
 use bogtrumpet::raw::Advertisement;
 
 const CALLS: &str = include_str!("../double_faults.txt");
+/// Before a call that names the second service, which the node has not.
+const ABSENT: &str = "absent-";
 
 pub fn faults(check: &mut Check) {
     for line in CALLS.lines().filter(|line| !line.starts_with('#')) {
         let words: Vec<&str> = line.split(' ').collect();
-        let given = given(check, &words);
+        let (service, name) = words[0].strip_prefix(ABSENT).map_or((0, words[0]), |name| (1, name));
+        let mut nodes = node(check);
+        let given = given(check, nodes.through(service), name, &words);
         same("the first of two faults", &number(words[1]), &usize::from(given), &|| line.into());
     }
 }
 
-fn given(check: &mut Check, words: &[&str]) -> u8 {
+/// The node of one service that each call is made on.
+fn node(check: &mut Check) -> Nodes {
     let mut settings = Settings { locator_count: 1, prefix_count: 1, ..Settings::default() };
     settings.locators[0] = Locator { address: 0x0a00_0001, interface: 0 };
     settings.prefixes[0] = [0x20, 0x01, 0x0d, 0xb8, 0, 0, 0, 1];
-    let mut nodes = Nodes::new(check, &settings.defaults()).expect("settings within the rules");
+    Nodes::new(check, &settings.defaults()).expect("settings within the rules")
+}
+
+/// The number that the call of that name gives, with the fields of its line.
+fn given(check: &mut Check, nodes: &mut Nodes, name: &str, words: &[&str]) -> u8 {
     let last = words[words.len() - 1];
-    match words[0] {
+    match name {
         "receive" => {
             let (interface, room) = (number(words[3]) as u8, number(words[4]));
             let receive = |datagram| number_of(nodes.receive_in(check, &bytes(datagram), interface, 0, room));
@@ -33,6 +42,10 @@ fn given(check: &mut Check, words: &[&str]) -> u8 {
             nodes.send(check, &bytes(last), next_hop, number(words[3]), 0, number(words[5]))
         }
         "report" => nodes.report(check, &bytes(last), 0),
+        "routers" => {
+            let routers: Vec<u32> = last.split(',').map(|router| u32_at(&bytes(router), 0)).collect();
+            nodes.replace_routers(check, &routers, 0)
+        }
         "ask" => nodes.ask(check, number(words[3]), 0, number(words[4])),
         "advertisement" => nodes.hear(check, &bytes(last), 0),
         "advertise" => {
