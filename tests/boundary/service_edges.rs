@@ -11,7 +11,7 @@ use crate::pieces::{joins, Part};
 use crate::plain::pieces::{Key, MEMORY};
 use crate::plain::rules::link_local;
 use crate::plain::{Locator, Settings};
-use bogtrumpet::raw::Advertisement;
+use bogtrumpet::raw::{Advertisement, Router};
 
 /// The locator of the second service; that of the first is `LOCATOR`, on the same interface.
 const OTHER: u32 = 0x0a00_0011;
@@ -432,7 +432,9 @@ fn interferes_not(check: &mut Check, nodes: &mut [Nodes; 2], changed: u8) {
         same("answer", &given[0], &given[1], &call);
     }
     let [one, two] = nodes.each_mut().map(|nodes| {
-        let service = *boundary_service(&mut nodes.library, 1 - changed);
+        let mut service = *boundary_service(&mut nodes.library, 1 - changed);
+        // What stands behind the count is not determined, and each call was lent other entries there.
+        service.routers.routers[service.routers.count..].fill(Router::default());
         (service, nodes.library.paths, nodes.library.latest, nodes.through(1 - changed).memory()[..MEMORY].to_vec())
     });
     same("the other service", &one, &two, &call);
