@@ -420,3 +420,20 @@ unfolding NonInterference
 non-interference x s t p q h cs ds alike =
     let r = seen-all x (startOf s) (startOf t) (start-alike x s t p q h) cs ds alike in
     record { calls = r .0; sizes = asked-size x (nodeAfter (startOf s) cs) (nodeAfter (startOf t) ds) (r .1) }
+
+-- settings that differ in routers, prefixes and first identification alone are seen alike
+pub differ-in-these : (s : Settings) (routers : List ℕ) (m : ℕ) (prefixes : List ℕ) (n i : ℕ)
+    → SeenAlike s (record {
+      locators = s .locators;
+      «locator_count» = s .«locator_count»;
+      prefixes = prefixes;
+      «prefix_count» = n;
+      routers = routers;
+      «router_count» = m;
+      «link_size» = s .«link_size»;
+      ttl = s .ttl;
+      interval = s .interval;
+      identification = i;
+      reporting = s .reporting;
+    })
+differ-in-these s routers m prefixes n i = record { locators = refl; linkSize = refl }

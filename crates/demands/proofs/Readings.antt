@@ -6,6 +6,7 @@ use native.Mathlib.Omega.{arith}
 use lib.ListN.{getD}
 use Rattle.address.specs.Address.{lastQuad}
 use Rattle.address.specs.Prefixes.{rowAt, rowsOf}
+use Rattle.paths.specs.Kept.{inForce}
 use Rattle.header.specs.Fields.{wordAt, quadAt}
 use Rattle.units.proofs.Facts.{marks-holds, with-holds}
 use Rattle.demands.specs.Readings.{Readings}
@@ -35,7 +36,7 @@ prefix-bytes flat (suc (suc (suc (suc (suc (suc (suc zero))))))) i l h = row-byt
 prefix-bytes flat (suc (suc (suc (suc (suc (suc (suc (suc k)))))))) i l h = absurd (omega arith)
 
 pub readings : Readings
-unfolding wordAt quadAt lastQuad
+unfolding wordAt quadAt lastQuad inForce
 readings = record {
   word = λ d k. refl;
   quad = λ a b c d. refl;
@@ -49,4 +50,6 @@ readings = record {
   numbers = refl;
   unit = λ h u inside. (marks-holds h u inside .holds, marks-holds h u inside .passes);
   unitsBesides = with-holds;
+  smaller = λ link size. refl;
+  noneKept = λ link. refl;
 }

@@ -15,10 +15,10 @@ use Rattle.settings.specs.Settings.{locatorsOf, isForbiddenLocator, areLocators
 use Rattle.settings.specs.declared.locators.Locator.{Locator}
 use Rattle.settings.specs.declared.Settings.{Settings}
 use Rattle.settings.proofs.Facts.{decides-forbidden-to, decides-ours}
-use Rattle.node.specs.Node.{serviceFrom, nodeOf, pairOf, setupOf, setupPairOf}
+use Rattle.node.specs.Node.{serviceFrom, noSettings, nodeOf, pairOf, setupOf, setupPairOf}
 use Rattle.node.specs.declared.Node.{Node}
 use Rattle.node.specs.declared.SetupAnswer.the-variants.{Made, Refused}
-use Rattle.demands.specs.Two.{DistinctPairs, RightSettings, NewService, NewNode, Sets, RightPair, SetsPair}
+use Rattle.demands.specs.Two.{DistinctPairs, RightSettings, NewService, NewNode, NoNode, Sets, RightPair, SetsPair}
 use Rattle.demands.proofs.RightList.{decides-right}
 use Rattle.demands.proofs.NewList.{new-list}
 
@@ -120,6 +120,18 @@ pair-refused : (a b : Settings) → arePairAccepted a b ≡ false → setupPairO
 unfolding setupPairOf
 pair-refused a b h = rw h
 
+no-node : NoNode (nodeOf noSettings)
+unfolding nodeOf serviceFrom
+no-node = record { alone = λ has. has refl; locators = refl; prefixes = refl; routers = refl }
+
+one-nothing : (s : Settings) → isAccepted s ≡ false → NoNode (setupOf s .node)
+unfolding setupOf
+one-nothing s h = rw h no-node
+
+pair-nothing : (a b : Settings) → arePairAccepted a b ≡ false → NoNode (setupPairOf a b .node)
+unfolding setupPairOf
+pair-nothing a b h = rw h no-node
+
 pub sets : (s : Settings) → Sets s
 unfolding nodeOf
 sets s =
@@ -127,6 +139,7 @@ sets s =
     record {
       made = λ r. made-answer s (d .passes r);
       refused = λ w. one-refused s (refutes (isAccepted s) d w);
+      nothing = λ w. one-nothing s (refutes (isAccepted s) d w);
       new = λ r. rw (made-node s (d .passes r)) (new-node s);
       first = λ r. rw (made-node s (d .passes r)) (new-service s);
       alone = λ r has. has (ap (λ (n : Node). n .both) (made-node s (d .passes r)));
@@ -151,6 +164,7 @@ sets-pair a b =
     record {
       made = λ r. paired-answer a b (d .passes r);
       refused = λ w. pair-refused a b (refutes (arePairAccepted a b) d w);
+      nothing = λ w. pair-nothing a b (refutes (arePairAccepted a b) d w);
       new = λ r. rw (paired-node a b (d .passes r)) (new-pair a b);
       first = λ r. rw (paired-node a b (d .passes r)) (new-service a);
       second = λ r. rw (paired-node a b (d .passes r)) (new-service b);

@@ -1,6 +1,6 @@
 -- What facts and tests both read by, said once more in the bytes and members themselves: a reading that is bent breaks this, though a rule
 -- and its test would go on agreeing.
-use Prim.Native.Nat.{ℕ, _+_, _*_, _<_}
+use Prim.Native.Nat.{ℕ, _+_, _*_, _<_, min}
 use mathlib.Core.Path.{_≡_}
 use mathlib.Core.Logic.{_⊎_, _↔_}
 use mathlib.Core.Bool.{true, false}
@@ -10,6 +10,8 @@ use Rattle.address.specs.Address.{quadOf, lastQuad, linkLocalPrefix}
 use Rattle.address.specs.Prefixes.{rowsOf}
 use Rattle.header.specs.Fields.{wordAt, quadAt}
 use Rattle.header.specs.Outer.{quoteOf}
+use Rattle.paths.specs.Kept.{inForce}
+use Rattle.paths.specs.declared.Kept.the-variants as kept
 use Rattle.refusals.specs.Refusals.{numberOf}
 use Rattle.refusals.specs.declared.Refusal.the-variants as refusal
 use Rattle.routers.specs.Routers.{live}
@@ -22,7 +24,7 @@ use Rattle.settings.specs.declared.Settings.{Settings}
 
 -- numbers are big-endian; prefixes stand one behind the other, eight bytes each; of locators and routers the first `count` are in force; a size
 -- report quotes from its byte 8 on; each refusal has its number of R4; the unit u of a collected datagram is marked by bit u % 64 of word u / 64, and
--- units are held besides by setting theirs alone
+-- units are held besides by setting theirs alone; the size in force is the smaller of link size and kept size, and the link size where none is kept
 pub record Readings : Type 0 where
   pub word : (d : List ℕ) (k : ℕ) → wordAt d k ≡ getD d k 0 * 256 + getD d (k + 1) 0
   pub quad : (a b c d : ℕ) → quadOf a b c d ≡ a * 16777216 + b * 65536 + c * 256 + d
@@ -37,3 +39,5 @@ pub record Readings : Type 0 where
       ≡ 1 ∷ 2 ∷ 3 ∷ 4 ∷ 5 ∷ 6 ∷ 7 ∷ 8 ∷ 9 ∷ 10 ∷ 11 ∷ 12 ∷ 13 ∷ 15 ∷ 16 ∷ 17 ∷ 18 ∷ 19 ∷ 20 ∷ 21 ∷ 22 ∷ 23 ∷ 24 ∷ 25 ∷ 26 ∷ 27 ∷ 28 ∷ 29 ∷ 30 ∷ []
   pub unit : (h : Held) (u : ℕ) → u < 256 → (getD (marksIn h) u false ≡ true) ↔ Holds h u
   pub unitsBesides : (h : Held) (from n u : ℕ) → u < 256 → Holds (heldWith h from n) u ↔ (Holds h u ⊎ Among from n u)
+  pub smaller : (link size : ℕ) → inForce link (kept.Size size) ≡ min link size
+  pub noneKept : (link : ℕ) → inForce link kept.Nothing ≡ link

@@ -125,10 +125,18 @@ pub record NewNode (n : Node) : Type 0 where
   pub latest : n .latest ≡ 0
   pub noReport : held (n .paths) ≡ []
 
+-- what stands in the place of a node that is refused has one service, without a locator, a prefix or a router
+pub record NoNode (n : Node) : Type 0 where
+  pub alone : Has n Second → ⊥
+  pub locators : n .first .settings .«locator_count» ≡ 0
+  pub prefixes : n .first .settings .«prefix_count» ≡ 0
+  pub routers : n .first .routers .count ≡ 0
+
 -- settings make a node of one service exactly when they keep the rules; otherwise 1 is given
 pub record Sets (s : Settings) : Type 0 where
   pub made : RightSettings s → setupOf s .answer ≡ setup.Made
   pub refused : (RightSettings s → ⊥) → setupOf s .answer ≡ setup.Refused refusal.Settings
+  pub nothing : (RightSettings s → ⊥) → NoNode (setupOf s .node)
   pub new : RightSettings s → NewNode (setupOf s .node)
   pub first : RightSettings s → NewService s (setupOf s .node .first)
   pub alone : RightSettings s → Has (setupOf s .node) Second → ⊥
@@ -143,6 +151,7 @@ pub record RightPair (a b : Settings) : Type 0 where
 pub record SetsPair (a b : Settings) : Type 0 where
   pub made : RightPair a b → setupPairOf a b .answer ≡ setup.Made
   pub refused : (RightPair a b → ⊥) → setupPairOf a b .answer ≡ setup.Refused refusal.Settings
+  pub nothing : (RightPair a b → ⊥) → NoNode (setupPairOf a b .node)
   pub new : RightPair a b → NewNode (setupPairOf a b .node)
   pub first : RightPair a b → NewService a (setupPairOf a b .node .first)
   pub second : RightPair a b → NewService b (setupPairOf a b .node .second)
