@@ -50,7 +50,7 @@ use Rattle.bogtrumpet.proofs.answers.Received as R
 use Rattle.bogtrumpet.proofs.answers.Received.Laws as R′
 use Rattle.bogtrumpet.proofs.steps.GatheredStep as Z
 use Rattle.bogtrumpet.proofs.steps.GatheredStep.Laws as Z′
-use Rattle.bogtrumpet.proofs.CallNamed.{Finish, Finishing}
+use Rattle.bogtrumpet.proofs.CallNamedOut.{Finish, Finishing}
 use Rattle.bogtrumpet.proofs.Changed.{Fitting, at-time, at-time-fits, with-service, service-is, service-fits}
 use Rattle.bogtrumpet.proofs.Elem.{elem}
 use Rattle.bogtrumpet.proofs.Lent.{mach, Fits, answered}

@@ -1,13 +1,13 @@
 -- What the calls on a node are, as those over a pointer make them: the one place that looks into the node's own definitions. Assumes nothing.
---     both-small, both-large, there-both, there-first     of a service's number
+--     by-number        of a service's number.        there-both, there-first     whether its service is there
 --     size-is, size-now, size-toward     a size over the table's rows is the node's
 --     gathered-same, absent-same     what receiving gathers changes one place, or none.        received-same     with the latest time it is the node's
 --     sent-same        a sending over a path of the size toward the tunnel end is the node's
 --     reported-same    a size report changes the path table and the latest time alone
---     replaced-same, asked-same, heard-same     these change router lists and the latest time alone.        advertised-same     advertising changes nothing
+--     asked-same, heard-same, replaced-same     these change the router list of their service and the latest time alone.        advertised-same     advertising
 use mathlib.Core.Path.{_≡_, refl, ap, _∙_}
 use Prim.Native.Nat.{ℕ, max, _<_, _≤_}
-use mathlib.Core.Bool.{Bool, true, false, cond, _&&_}
+use mathlib.Core.Bool.{Bool, true, false, cond}
 use mathlib.Core.List.{List}
 use lib.Dec.{eqb, ltb, leb}
 use lib.ListN.{length}
@@ -21,8 +21,8 @@ use Rattle.hearing.specs.declared.HeardAnswer.the-variants as heard
 use Rattle.paths.specs.Kept.{inForce}
 use Rattle.paths.specs.Table.{keptAmong, keptIn}
 use Rattle.refusals.specs.declared.Refusal.the-variants.{NoLocator}
-use Rattle.routers.specs.Routers.{live, replacedOf}
-use Rattle.settings.specs.Settings.{areRoutersRight}
+use Rattle.routers.specs.Routers.{live}
+use Rattle.routers.specs.declared.RouterList.{RouterList}
 use Rattle.sending.specs.declared.SendAnswer.the-variants as sent
 use Rattle.pieces.specs.Places.{places}
 use Rattle.pieces.specs.Take.{withPlace}
@@ -32,16 +32,15 @@ use Rattle.receiving.specs.Stages.{judgedOf, judgedWith}
 use Rattle.receiving.specs.declared.Received.the-variants as received
 use Rattle.receiving.specs.declared.collect.Gathered.{Gathered}
 use Rattle.receiving.specs.declared.judging.Stage.the-variants as stage
-use Rattle.node.specs.Advertise.{advertiseOf, advertiseOutput}
+use Rattle.node.specs.Advertise.{advertisedBy, advertisedThrough, advertiseOf, advertiseOutput}
 use Rattle.node.specs.Ask.{askedBy, askedThrough, askOf, askOutput}
 use Rattle.node.specs.Hear.{heardBy, hearOf}
 use Rattle.node.specs.Receive.{withPieces, collectedBy, collectedThrough, receiveOf, receiveMemory}
 use Rattle.node.specs.Report.{reportOf}
-use Rattle.node.specs.RouterList.{withRouters, listGiven, listRefusal, replaceOf}
+use Rattle.node.specs.RouterList.{withRouters, listGiven, replaceOf}
 use Rattle.node.specs.declared.router_list.ListAnswer.the-variants as replaced
-use Rattle.node.specs.declared.router_list.Replaced.{Replaced}
 use Rattle.node.specs.declared.size.SizeAnswer.the-variants as sized
-use Rattle.node.specs.Node.{pick, serviceOf, nodeWith, raisedTo, pathSizeAt}
+use Rattle.node.specs.Node.{serviceOf, nodeWith, raisedTo, pathSizeAt}
 use Rattle.node.specs.Send.{pathSizeToward, withIdentification, sentBy, sentThrough, sendOf, sendOutput}
 use Rattle.node.specs.Size.{pathSizeOf}
 use Rattle.node.specs.declared.Node.{Node}
@@ -50,40 +49,24 @@ use Rattle.node.specs.declared.ServiceName.{ServiceName}
 use Rattle.node.specs.declared.ServiceName.the-variants.{First, Second}
 use Rattle.bogtrumpet.specs.Answers.{plainReceived, plainSized, plainSent, plainAsked, plainHeard, plainAdvertised}
 use Rattle.bogtrumpet.specs.Gathered.{judgedStep, gatheredAfter, GatheredAs}
-use Rattle.bogtrumpet.specs.Numbered.{byNumber, nameOf, isThere, takenAs}
-use Rattle.bogtrumpet.specs.Steps.{sentStep, sentAfter, sizedStep}
+use Rattle.bogtrumpet.specs.Numbered.{byNumber, nameOf, isThere}
+use Rattle.bogtrumpet.specs.Steps.{sentStep, sentAfter, sizedStep, replacedStep, askedStep, heardStep}
+use Rattle.bogtrumpet.specs.declared.steps.AskedStep.{AskedStep}
 use Rattle.bogtrumpet.specs.declared.steps.GatheredStep.{GatheredStep}
+use Rattle.bogtrumpet.specs.declared.steps.HeardStep.{HeardStep}
+use Rattle.bogtrumpet.specs.declared.steps.ReplacedStep.{ReplacedStep}
+use Rattle.bogtrumpet.specs.declared.steps.SentStep.{SentStep}
 use Rattle.bogtrumpet.proofs.Changed.{at-time, with-paths, with-service}
 
--- the node as a call takes it whose number passes these tests, the name, and whether its service is there
-abbrev taken : Node → Bool → Bool → Node
-taken h a b = record { first = h .first; second = h .second; paths = h .paths; latest = h .latest; both = cond a (h .both) (cond b (h .both) 0) }
-
-abbrev called : Bool → ServiceName
-called a = cond a First Second
-
-abbrev present : Node → Bool → Bool → Bool
-present h a b = cond a true (cond b (ltb 0 (h .both)) false)
-
--- of a number up to 1, and of one above it
-pub both-small : (k both : ℕ) → k ≤ 1 → byNumber k (λ _. both) 0 ≡ both
-both-small k both small = go (eqb k 0) (eqb k 1) refl refl
+-- a call on the service of a number, as what it is for the first, for the second, and for no service
+by-number : {A : Type 0} (f : Bool → ServiceName → A) (call : ServiceName → A) (none : A) (both k : ℕ) → f true First ≡ call First → f (ltb 0 both) Second ≡ call Second → f false Second ≡ none
+    → f (isThere both k) (nameOf k) ≡ byNumber k call none
+by-number f call none both k at-first at-second at-none = go (eqb k 0) (eqb k 1)
   where
-    go : (a b : Bool) → eqb k 0 ≡ a → eqb k 1 ≡ b → cond a both (cond b both 0) ≡ both
-    go true b ea eb = refl
-    go false true ea eb = refl
-    go false false ea eb = absurd (between (eqb-false k 0 ea) (eqb-false k 1 eb))
-      where
-        between : (k ≡ 0 → ⊥) → (k ≡ 1 → ⊥) → ⊥
-        between not0 not1 = omega (arith, not0, not1, small)
-
-pub both-large : (k both : ℕ) → 1 < k → byNumber k (λ _. both) 0 ≡ 0
-both-large k both large = go (eqb k 0) (eqb k 1) refl refl
-  where
-    go : (a b : Bool) → eqb k 0 ≡ a → eqb k 1 ≡ b → cond a both (cond b both 0) ≡ 0
-    go true b ea eb = let e : k ≡ 0 = eqb-true k 0 ea in omega (arith, e, large)
-    go false true ea eb = let e : k ≡ 1 = eqb-true k 1 eb in omega (arith, e, large)
-    go false false ea eb = refl
+    go : (a b : Bool) → f (cond a true (cond b (ltb 0 both) false)) (cond a First Second) ≡ cond a (call First) (cond b (call Second) none)
+    go true b = at-first
+    go false true = at-second
+    go false false = at-none
 
 -- a service is there: by the greatest number that is
 pub there-both : (k both : ℕ) → 0 < both → leb k 1 ≡ isThere both k
@@ -103,22 +86,15 @@ there-first k both b = go (eqb k 0) (eqb k 1) refl refl
     go false false ea eb = let not0 : k ≡ 0 → ⊥ = eqb-false k 0 ea in lt-leb k 0 (omega (arith, not0))
 
 abbrev pub size-among : Node → ServiceName → ℕ → ℕ → ℕ
-size-among h w v t = inForce (pick w (h .first .settings .«link_size») (h .second .settings .«link_size»)) (keptAmong (h .paths .neighbours) (h .paths .sizes) (h .paths .times) (h .paths .count) v t)
+size-among h w v t = inForce (serviceOf h w .settings .«link_size») (keptAmong (h .paths .neighbours) (h .paths .sizes) (h .paths .times) (h .paths .count) v t)
 
 pub size-is : (h : Node) (w : ServiceName) (v t : ℕ) → size-among h w v t ≡ pathSizeAt h w v t
 unfolding pathSizeAt keptIn
-size-is h First v t = refl
-size-is h Second v t = refl
+size-is h w v t = refl
 
 pub size-now : (h : Node) (k v : ℕ) → sizedStep (h .both) k (pathSizeAt h (nameOf k) v (h .latest)) ≡ byNumber k (λ w. plainSized (pathSizeOf h w v)) (plainSized (sized.Refused NoLocator))
 unfolding sizedStep pathSizeOf
-size-now h k v = go (eqb k 0) (eqb k 1)
-  where
-    go : (a b : Bool) → plainSized (cond (cond a true (cond b (ltb 0 (h .both)) false)) (sized.Size (pathSizeAt h (cond a First Second) v (h .latest))) (sized.Refused NoLocator))
-        ≡ cond a (plainSized (pathSizeOf h First v)) (cond b (plainSized (pathSizeOf h Second v)) (plainSized (sized.Refused NoLocator)))
-    go true b = refl
-    go false true = refl
-    go false false = refl
+size-now h k v = by-number (λ there w. plainSized (cond there (sized.Size (pathSizeAt h w v (h .latest))) (sized.Refused NoLocator))) (λ w. plainSized (pathSizeOf h w v)) (plainSized (sized.Refused NoLocator)) (h .both) k refl refl refl
 
 pub size-toward : (h : Node) (w : ServiceName) (hop : List ℕ) (t : ℕ) → pathSizeAt h w (lastQuad hop) (max (h .latest) t) ≡ pathSizeToward h w hop t
 size-toward h w hop t = refl
@@ -133,15 +109,12 @@ module _ (h : Node) (k : ℕ) (p hop : List ℕ) (locator t : ℕ) (out : List �
 
   at-size : Sent-same (pathSizeToward h (nameOf k) hop t)
   unfolding sentStep sendOf sentBy sentThrough sendOutput raisedTo
-  at-size = go (eqb k 0) (eqb k 1)
-    where
-      go : (a b : Bool)
-          → (plainSent (sentBy (present h a b) (serviceOf h (called a)) (pathSizeToward h (called a) hop t) p hop locator (length out) .answer) ≡ cond a (plainSent (sendOf h First p hop locator t (length out) .answer)) (cond b (plainSent (sendOf h Second p hop locator t (length out) .answer)) (plainSent (sent.Refused NoLocator))))
-          × (nodeWith h (called a) (withIdentification (serviceOf h (called a)) (sentBy (present h a b) (serviceOf h (called a)) (pathSizeToward h (called a) hop t) p hop locator (length out) .identification)) t ≡ cond a (sendOf h First p hop locator t (length out) .node) (cond b (sendOf h Second p hop locator t (length out) .node) (raisedTo h t)))
-          × (sentThrough (present h a b) (serviceOf h (called a)) (pathSizeToward h (called a) hop t) p hop locator out ≡ cond a (sendOutput h First p hop locator t out) (cond b (sendOutput h Second p hop locator t out) out))
-      go true b = (refl, refl, refl)
-      go false true = (refl, refl, refl)
-      go false false = (refl, refl, refl)
+  at-size =
+      let step : Bool → ServiceName → SentStep = λ there w. sentStep there (serviceOf h w) (h .latest) (pathSizeToward h w hop t) p hop locator t (length out) in (
+        by-number (λ there w. step there w .answer) (λ w. plainSent (sendOf h w p hop locator t (length out) .answer)) (plainSent (sent.Refused NoLocator)) (h .both) k refl refl refl,
+        by-number (λ there w. nodeWith h w (withIdentification (serviceOf h w) (step there w .identification)) t) (λ w. sendOf h w p hop locator t (length out) .node) (raisedTo h t) (h .both) k refl refl refl,
+        by-number (λ there w. sentThrough there (serviceOf h w) (pathSizeToward h w hop t) p hop locator out) (λ w. sendOutput h w p hop locator t out) out (h .both) k refl refl refl,
+      )
 
   pub sent-same : (size : ℕ) → size ≡ pathSizeToward h (nameOf k) hop t → Sent-same size
   sent-same size sized = rw sized at-size
@@ -188,97 +161,70 @@ module _ (h : Node) (k : ℕ) (d : List ℕ) (i t : ℕ) (memory : List ℕ) whe
   abbrev now : ℕ
   now = max (h .latest) t
 
-  by-number : (plainReceived (collectedBy there service now d i memory .answer) ≡ byNumber k (λ w. plainReceived (receiveOf h w d i t memory .answer)) (plainReceived (received.Refused NoLocator)))
+  as-numbered : (plainReceived (collectedBy there service now d i memory .answer) ≡ byNumber k (λ w. plainReceived (receiveOf h w d i t memory .answer)) (plainReceived (received.Refused NoLocator)))
       × (nodeWith h (nameOf k) (withPieces service (collectedBy there service now d i memory .pieces)) t ≡ byNumber k (λ w. receiveOf h w d i t memory .node) (raisedTo h t))
       × (collectedThrough there service now d i memory ≡ byNumber k (λ w. receiveMemory h w d i t memory) memory)
   unfolding collectedBy collectedThrough receiveOf receiveMemory raisedTo
-  by-number = go (eqb k 0) (eqb k 1)
-    where
-      go : (a b : Bool)
-          → (plainReceived (collectedBy (present h a b) (serviceOf h (called a)) now d i memory .answer) ≡ cond a (plainReceived (receiveOf h First d i t memory .answer)) (cond b (plainReceived (receiveOf h Second d i t memory .answer)) (plainReceived (received.Refused NoLocator))))
-          × (nodeWith h (called a) (withPieces (serviceOf h (called a)) (collectedBy (present h a b) (serviceOf h (called a)) now d i memory .pieces)) t ≡ cond a (receiveOf h First d i t memory .node) (cond b (receiveOf h Second d i t memory .node) (raisedTo h t)))
-          × (collectedThrough (present h a b) (serviceOf h (called a)) now d i memory ≡ cond a (receiveMemory h First d i t memory) (cond b (receiveMemory h Second d i t memory) memory))
-      go true b = (refl, refl, refl)
-      go false true = (refl, refl, refl)
-      go false false = (refl, refl, refl)
+  as-numbered = (
+    by-number (λ there w. plainReceived (collectedBy there (serviceOf h w) now d i memory .answer)) (λ w. plainReceived (receiveOf h w d i t memory .answer)) (plainReceived (received.Refused NoLocator)) (h .both) k refl refl refl,
+    by-number (λ there w. nodeWith h w (withPieces (serviceOf h w) (collectedBy there (serviceOf h w) now d i memory .pieces)) t) (λ w. receiveOf h w d i t memory .node) (raisedTo h t) (h .both) k refl refl refl,
+    by-number (λ there w. collectedThrough there (serviceOf h w) now d i memory) (λ w. receiveMemory h w d i t memory) memory (h .both) k refl refl refl,
+  )
 
   pub received-same : (z : GatheredStep) → GatheredAs there service now d i memory z
       → (judgedStep (gatheredAfter service z) z ≡ byNumber k (λ w. plainReceived (receiveOf h w d i t memory .answer)) (plainReceived (received.Refused NoLocator)))
       × (nodeWith h (nameOf k) (gatheredAfter service z) t ≡ byNumber k (λ w. receiveOf h w d i t memory .node) (raisedTo h t))
       × (collectedThrough there service now d i memory ≡ byNumber k (λ w. receiveMemory h w d i t memory) memory)
-  received-same z told = (told .answer ∙ by-number .0, ap (λ (s : Service). nodeWith h (nameOf k) s t) (told .next) ∙ by-number .1, by-number .2)
+  received-same z told = (told .answer ∙ as-numbered .0, ap (λ (s : Service). nodeWith h (nameOf k) s t) (told .next) ∙ as-numbered .1, as-numbered .2)
 
 pub reported-same : (h : Node) (m : List ℕ) (t : ℕ) → at-time (with-paths h (reportOf h m t .node .paths)) (reportOf h m t .node .latest) ≡ reportOf h m t .node
 unfolding reportOf
 reported-same h m t = refl
 
--- the router lists and the latest time of another node, and else h
-abbrev routed : Node → Node → Node
-routed h n =
-    at-time (with-service (with-service h First (withRouters (h .first) (n .first .routers))) Second (withRouters (h .second) (n .second .routers))) (n .latest)
+-- the node whose service has that router list, at that time
+abbrev pub routed : Node → ServiceName → RouterList → ℕ → Node
+routed h w routers t = at-time (with-service h w (withRouters (serviceOf h w) routers)) t
 
-module _ (h : Node) (k locator t : ℕ) (out : List ℕ) where
-  asked-by : (a b : Bool)
-      → (plainAsked (askOf (taken h a b) (called a) locator t (length out) .answer) ≡ cond a (plainAsked (askOf h First locator t (length out) .answer)) (cond b (plainAsked (askOf h Second locator t (length out) .answer)) (plainAsked (asked.Refused NoLocator))))
-      × (routed h (askOf (taken h a b) (called a) locator t (length out) .node) ≡ cond a (askOf h First locator t (length out) .node) (cond b (askOf h Second locator t (length out) .node) (raisedTo h t)))
-      × (askOutput (taken h a b) (called a) locator t out ≡ cond a (askOutput h First locator t out) (cond b (askOutput h Second locator t out) out))
-  unfolding askOf askOutput askedBy askedThrough raisedTo
-  asked-by true b = (refl, refl, refl)
-  asked-by false true = (refl, refl, refl)
-  asked-by false false = (refl, refl, refl)
+pub asked-same : (h : Node) (k locator t : ℕ) (out : List ℕ)
+    → let step : AskedStep = askedStep (isThere (h .both) k) (serviceOf h (nameOf k)) (h .latest) locator t (length out) in
+    (step .answer ≡ byNumber k (λ w. plainAsked (askOf h w locator t (length out) .answer)) (plainAsked (asked.Refused NoLocator)))
+    × (routed h (nameOf k) (step .routers) (step .latest) ≡ byNumber k (λ w. askOf h w locator t (length out) .node) (raisedTo h t))
+    × (askedThrough (isThere (h .both) k) (serviceOf h (nameOf k)) (max (h .latest) t) locator out ≡ byNumber k (λ w. askOutput h w locator t out) out)
+unfolding askedStep askOf askOutput askedBy askedThrough raisedTo
+asked-same h k locator t out =
+    let step : Bool → ServiceName → AskedStep = λ there w. askedStep there (serviceOf h w) (h .latest) locator t (length out) in (
+      by-number (λ there w. step there w .answer) (λ w. plainAsked (askOf h w locator t (length out) .answer)) (plainAsked (asked.Refused NoLocator)) (h .both) k refl refl refl,
+      by-number (λ there w. routed h w (step there w .routers) (step there w .latest)) (λ w. askOf h w locator t (length out) .node) (raisedTo h t) (h .both) k refl refl refl,
+      by-number (λ there w. askedThrough there (serviceOf h w) (max (h .latest) t) locator out) (λ w. askOutput h w locator t out) out (h .both) k refl refl refl,
+    )
 
-  pub asked-same : (plainAsked (askOf (takenAs h k) (nameOf k) locator t (length out) .answer) ≡ byNumber k (λ w. plainAsked (askOf h w locator t (length out) .answer)) (plainAsked (asked.Refused NoLocator)))
-      × (routed h (askOf (takenAs h k) (nameOf k) locator t (length out) .node) ≡ byNumber k (λ w. askOf h w locator t (length out) .node) (raisedTo h t))
-      × (askOutput (takenAs h k) (nameOf k) locator t out ≡ byNumber k (λ w. askOutput h w locator t out) out)
-  asked-same = asked-by (eqb k 0) (eqb k 1)
+pub heard-same : (h : Node) (k : ℕ) (p : List ℕ) (t : ℕ)
+    → let step : HeardStep = heardStep (isThere (h .both) k) (serviceOf h (nameOf k)) (h .latest) p t in
+    (step .answer ≡ byNumber k (λ w. plainHeard (hearOf h w p t .answer)) (plainHeard (heard.Refused NoLocator)))
+    × (routed h (nameOf k) (step .routers) (step .latest) ≡ byNumber k (λ w. hearOf h w p t .node) (raisedTo h t))
+unfolding heardStep hearOf heardBy raisedTo
+heard-same h k p t =
+    let step : Bool → ServiceName → HeardStep = λ there w. heardStep there (serviceOf h w) (h .latest) p t in (
+      by-number (λ there w. step there w .answer) (λ w. plainHeard (hearOf h w p t .answer)) (plainHeard (heard.Refused NoLocator)) (h .both) k refl refl refl,
+      by-number (λ there w. routed h w (step there w .routers) (step there w .latest)) (λ w. hearOf h w p t .node) (raisedTo h t) (h .both) k refl refl refl,
+    )
 
-module _ (h : Node) (k : ℕ) (p : List ℕ) (t : ℕ) where
-  heard-by : (a b : Bool)
-      → (plainHeard (hearOf (taken h a b) (called a) p t .answer) ≡ cond a (plainHeard (hearOf h First p t .answer)) (cond b (plainHeard (hearOf h Second p t .answer)) (plainHeard (heard.Refused NoLocator))))
-      × (routed h (hearOf (taken h a b) (called a) p t .node) ≡ cond a (hearOf h First p t .node) (cond b (hearOf h Second p t .node) (raisedTo h t)))
-  unfolding hearOf heardBy raisedTo
-  heard-by true b = (refl, refl)
-  heard-by false true = (refl, refl)
-  heard-by false false = (refl, refl)
+pub replaced-same : (h : Node) (k : ℕ) (l : List ℕ) (n t : ℕ)
+    → let step : ReplacedStep = replacedStep (isThere (h .both) k) (serviceOf h (nameOf k)) (h .latest) l n t in
+    (step .answer ≡ byNumber k (λ w. listGiven (replaceOf h w l n t .answer) .number) (listGiven (replaced.Refused NoLocator) .number))
+    × (routed h (nameOf k) (step .routers) (step .latest) ≡ byNumber k (λ w. replaceOf h w l n t .node) (raisedTo h t))
+unfolding replacedStep replaceOf raisedTo
+replaced-same h k l n t =
+    let step : Bool → ServiceName → ReplacedStep = λ there w. replacedStep there (serviceOf h w) (h .latest) l n t in (
+      by-number (λ there w. step there w .answer) (λ w. listGiven (replaceOf h w l n t .answer) .number) (listGiven (replaced.Refused NoLocator) .number) (h .both) k refl refl refl,
+      by-number (λ there w. routed h w (step there w .routers) (step there w .latest)) (λ w. replaceOf h w l n t .node) (raisedTo h t) (h .both) k refl refl refl,
+    )
 
-  pub heard-same : (plainHeard (hearOf (takenAs h k) (nameOf k) p t .answer) ≡ byNumber k (λ w. plainHeard (hearOf h w p t .answer)) (plainHeard (heard.Refused NoLocator)))
-      × (routed h (hearOf (takenAs h k) (nameOf k) p t .node) ≡ byNumber k (λ w. hearOf h w p t .node) (raisedTo h t))
-  heard-same = heard-by (eqb k 0) (eqb k 1)
-
-module _ (h : Node) (k : ℕ) (l : List ℕ) (n t : ℕ) where
-  abbrev replacing : ServiceName → Bool → Bool → Replaced
-  replacing w there right =
-      cond right (record { answer = replaced.Replaced; node = nodeWith h w (withRouters (serviceOf h w) (replacedOf l n (max (h .latest) t) (serviceOf h w .routers))) t })
-      (record { answer = replaced.Refused (listRefusal there); node = raisedTo h t })
-
-  either : (w : ServiceName) (there right : Bool) → routed h (replacing w there right .node) ≡ replacing w there right .node
-  unfolding raisedTo
-  either First there true = refl
-  either First there false = refl
-  either Second there true = refl
-  either Second there false = refl
-
-  replaced-by : (a b : Bool)
-      → (listGiven (replaceOf (taken h a b) (called a) l n t .answer) .number ≡ cond a (listGiven (replaceOf h First l n t .answer) .number) (cond b (listGiven (replaceOf h Second l n t .answer) .number) (listGiven (replaced.Refused NoLocator) .number)))
-      × (routed h (replaceOf (taken h a b) (called a) l n t .node) ≡ cond a (replaceOf h First l n t .node) (cond b (replaceOf h Second l n t .node) (raisedTo h t)))
-  unfolding replaceOf raisedTo
-  replaced-by true b = (refl, either First true (areRoutersRight (h .first .settings) l n))
-  replaced-by false true = (refl, either Second (ltb 0 (h .both)) (ltb 0 (h .both) && areRoutersRight (h .second .settings) l n))
-  replaced-by false false = (refl, refl)
-
-  pub replaced-same : (listGiven (replaceOf (takenAs h k) (nameOf k) l n t .answer) .number ≡ byNumber k (λ w. listGiven (replaceOf h w l n t .answer) .number) (listGiven (replaced.Refused NoLocator) .number))
-      × (routed h (replaceOf (takenAs h k) (nameOf k) l n t .node) ≡ byNumber k (λ w. replaceOf h w l n t .node) (raisedTo h t))
-  replaced-same = replaced-by (eqb k 0) (eqb k 1)
-
-module _ (h : Node) (k : ℕ) (p : List ℕ) (locator : ℕ) (x : Advertisement) (out : List ℕ) where
-  advertised-by : (a b : Bool)
-      → (plainAdvertised (advertiseOf (taken h a b) (called a) p locator x (length out)) ≡ cond a (plainAdvertised (advertiseOf h First p locator x (length out))) (cond b (plainAdvertised (advertiseOf h Second p locator x (length out))) (plainAdvertised (written.Refused NoLocator))))
-      × (advertiseOutput (taken h a b) (called a) p locator x out ≡ cond a (advertiseOutput h First p locator x out) (cond b (advertiseOutput h Second p locator x out) out))
-  unfolding advertiseOf advertiseOutput
-  advertised-by true b = (refl, refl)
-  advertised-by false true = (refl, refl)
-  advertised-by false false = (refl, refl)
-
-  pub advertised-same : (plainAdvertised (advertiseOf (takenAs h k) (nameOf k) p locator x (length out)) ≡ byNumber k (λ w. plainAdvertised (advertiseOf h w p locator x (length out))) (plainAdvertised (written.Refused NoLocator)))
-      × (advertiseOutput (takenAs h k) (nameOf k) p locator x out ≡ byNumber k (λ w. advertiseOutput h w p locator x out) out)
-  advertised-same = advertised-by (eqb k 0) (eqb k 1)
+pub advertised-same : (h : Node) (k : ℕ) (p : List ℕ) (locator : ℕ) (x : Advertisement) (out : List ℕ)
+    → (plainAdvertised (advertisedBy (isThere (h .both) k) (serviceOf h (nameOf k)) p locator x (length out)) ≡ byNumber k (λ w. plainAdvertised (advertiseOf h w p locator x (length out))) (plainAdvertised (written.Refused NoLocator)))
+    × (advertisedThrough (isThere (h .both) k) (serviceOf h (nameOf k)) p locator x out ≡ byNumber k (λ w. advertiseOutput h w p locator x out) out)
+unfolding advertiseOf advertiseOutput
+advertised-same h k p locator x out = (
+  by-number (λ there w. plainAdvertised (advertisedBy there (serviceOf h w) p locator x (length out))) (λ w. plainAdvertised (advertiseOf h w p locator x (length out))) (plainAdvertised (written.Refused NoLocator)) (h .both) k refl refl refl,
+  by-number (λ there w. advertisedThrough there (serviceOf h w) p locator x out) (λ w. advertiseOutput h w p locator x out) out (h .both) k refl refl refl,
+)

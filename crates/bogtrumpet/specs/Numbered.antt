@@ -3,7 +3,6 @@ use Prim.Native.Nat.{ℕ}
 use mathlib.Core.Bool.{Bool, true, false, cond}
 use lib.Dec.{eqb, ltb}
 use Rattle.node.specs.Node.{pick}
-use Rattle.node.specs.declared.Node.{Node}
 use Rattle.node.specs.declared.ServiceName.{ServiceName}
 use Rattle.node.specs.declared.ServiceName.the-variants.{First, Second}
 
@@ -18,8 +17,3 @@ nameOf k = cond (eqb k 0) First Second
 -- whether a node of this `both` has the service of that number
 abbrev pub isThere : ℕ → ℕ → Bool
 isThere both k = byNumber k (λ name. pick name true (ltb 0 both)) false
-
--- the node as a call with that number takes it: for one above 1 it has no second service
-abbrev pub takenAs : Node → ℕ → Node
-takenAs node k =
-    record { first = node .first; second = node .second; paths = node .paths; latest = node .latest; both = byNumber k (λ _. node .both) 0 }

@@ -2,16 +2,15 @@
 use Prim.Native.Nat.{ℕ, max}
 use mathlib.Core.Bool.{Bool, cond}
 use mathlib.Core.List.{List}
+use Rattle.node.specs.Ask.{askedBy}
+use Rattle.node.specs.Hear.{heardBy}
 use Rattle.node.specs.Node.{setupGiven, serviceOf, nodeWith}
 use Rattle.node.specs.Send.{withIdentification, sentBy}
-use Rattle.node.specs.RouterList.{listGiven}
+use Rattle.node.specs.RouterList.{listGiven, replacedBy}
 use Rattle.node.specs.declared.Node.{Node}
 use Rattle.node.specs.declared.Service.{Service}
 use Rattle.node.specs.declared.Setup.{Setup}
-use Rattle.node.specs.declared.ask.Asked.{Asked}
-use Rattle.node.specs.declared.hear.Heard.{Heard}
 use Rattle.node.specs.declared.report.Reported.{Reported}
-use Rattle.node.specs.declared.router_list.Replaced.{Replaced}
 use Rattle.node.specs.declared.size.SizeAnswer.the-variants.{Size, Refused}
 use Rattle.refusals.specs.declared.Refusal.the-variants.{NoLocator}
 use Rattle.bogtrumpet.specs.Answers.{plainSized, plainSent, plainReported, plainAsked, plainHeard}
@@ -49,14 +48,20 @@ sizedStep both k size = plainSized (cond (isThere both k) (Size size) (Refused N
 unfoldable pub reportedStep : Reported → ReportedStep
 reportedStep s = record { answer = plainReported (s .answer); paths = s .node .paths; latest = s .node .latest }
 
--- of a new router list: 1, or 0, and the router lists and the latest time of the next node
-unfoldable pub replacedStep : Replaced → ReplacedStep
-replacedStep s = record { answer = listGiven (s .answer) .number; first = s .node .first .routers; second = s .node .second .routers; latest = s .node .latest }
+-- of a new router list: 11, 1 or 0, the router list in force afterwards, and the later time
+unfoldable pub replacedStep : Bool → Service → ℕ → List ℕ → ℕ → ℕ → ReplacedStep
+replacedStep there service latest addresses count time =
+    let done = replacedBy there service (max latest time) addresses count in
+    record { answer = listGiven (done .answer) .number; routers = done .routers; latest = max latest time }
 
--- of asking: the plain answer, and the router lists and the latest time of the next node
-unfoldable pub askedStep : Asked → AskedStep
-askedStep s = record { answer = plainAsked (s .answer); first = s .node .first .routers; second = s .node .second .routers; latest = s .node .latest }
+-- of asking: the plain answer, the router list afterwards, and the later time
+unfoldable pub askedStep : Bool → Service → ℕ → ℕ → ℕ → ℕ → AskedStep
+askedStep there service latest locator time room =
+    let asked = askedBy there service (max latest time) locator room in
+    record { answer = plainAsked (asked .answer); routers = asked .routers; latest = max latest time }
 
--- of an advertisement: the plain answer, and the router lists and the latest time of the next node
-unfoldable pub heardStep : Heard → HeardStep
-heardStep s = record { answer = plainHeard (s .answer); first = s .node .first .routers; second = s .node .second .routers; latest = s .node .latest }
+-- of an advertisement: the plain answer, the router list afterwards, and the later time
+unfoldable pub heardStep : Bool → Service → ℕ → List ℕ → ℕ → HeardStep
+heardStep there service latest packet time =
+    let heard = heardBy there service (max latest time) packet in
+    record { answer = plainHeard (heard .answer); routers = heard .routers; latest = max latest time }

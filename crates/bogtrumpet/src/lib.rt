@@ -1,6 +1,7 @@
 // The node for C and Rust: its calls under C names over a pointer to the node, which is changed in place. A `&[u8]` is a pointer and
-// a length in C, and so is a `&mut [u8]`. Each call hands the node by value to a function of `steps` and stores what this answers of it.
-// A service is named by its number, 0 or 1; any other number gives 11, as a service does that the node has not.
+// a length in C, and so is a `&mut [u8]`. A service is named by its number, 0 or 1; any other number gives 11, as a service does that the
+// node has not. A call that names one takes it by reference, so that neither is copied to be chosen, and hands it by value to a function of
+// `steps`; the others hand over the node. What such a function answers of the node is stored.
 pub mod answers;
 mod numbered;
 pub mod plain;
@@ -141,9 +142,13 @@ pub extern "C" fn bogtrumpet_receive(
 pub extern "C" fn bogtrumpet_path_size(node: &Node, service: u8, neighbour: u32) -> Sized
     ensures { λ r. ⌜ r ≡ byNumber service (λ w. plainSized (pathSizeOf (now (node .entry)) w neighbour)) (plainSized (sized.Refused NoLocator)) ⌝ }
 {
+    let named = if service == 0 {
+        &node.first
+    } else {
+        &node.second
+    };
     sizes::size_in_force(
-        node.first.settings.link_size,
-        node.second.settings.link_size,
+        named.settings.link_size,
         node.both,
         &node.paths.neighbours,
         &node.paths.sizes,
@@ -159,9 +164,13 @@ pub extern "C" fn bogtrumpet_path_size(node: &Node, service: u8, neighbour: u32)
 fn size_toward(node: &Node, service: u8, next_hop: Address, time: u32) -> u16
     ensures { λ r. ⌜ r ≡ pathSizeToward (now (node .entry)) (nameOf service) (bytesOf «next_hop») time ⌝ }
 {
+    let named = if service == 0 {
+        &node.first
+    } else {
+        &node.second
+    };
     sizes::size_toward(
-        node.first.settings.link_size,
-        node.second.settings.link_size,
+        named.settings.link_size,
         node.both,
         &node.paths.neighbours,
         &node.paths.sizes,
@@ -211,7 +220,7 @@ fn send_over(
     step.answer
 }
 
-// Sends a packet: Node::send. The size is looked up over the lent rows of the path table before the node is handed by value.
+// Sends a packet: Node::send. The size is looked up over the lent rows of the path table before the service is handed by value.
 #[no_mangle]
 pub extern "C" fn bogtrumpet_send(
     node: &mut Node,
@@ -253,9 +262,13 @@ pub extern "C" fn bogtrumpet_replace_routers(
     ensures { λ r. ⌜ (r ≡ byNumber service (λ w. listGiven (replaceOf (now (node .entry)) w (list .routers) (list .count) time .answer) .number) (listGiven (replaced.Refused NoLocator) .number))
         × (now (node .exit) ≡ byNumber service (λ w. replaceOf (now (node .entry)) w (list .routers) (list .count) time .node) (raisedTo (now (node .entry)) time)) ⌝ }
 {
-    let step = steps::replaced(*node, service, list, time);
-    node.first.routers = step.first;
-    node.second.routers = step.second;
+    let named = if service == 0 {
+        &mut node.first
+    } else {
+        &mut node.second
+    };
+    let step = steps::replaced(*named, node.both, node.latest, service, list, time);
+    named.routers = step.routers;
     node.latest = step.latest;
     step.answer
 }
@@ -273,9 +286,13 @@ pub extern "C" fn bogtrumpet_ask(
         × (now (node .exit) ≡ byNumber service (λ w. askOf (now (node .entry)) w locator time (length (now (out .entry))) .node) (raisedTo (now (node .entry)) time))
         × (now (out .exit) ≡ byNumber service (λ w. askOutput (now (node .entry)) w locator time (now (out .entry))) (now (out .entry))) ⌝ }
 {
-    let step = steps::asked(*node, service, locator, time, out);
-    node.first.routers = step.first;
-    node.second.routers = step.second;
+    let named = if service == 0 {
+        &mut node.first
+    } else {
+        &mut node.second
+    };
+    let step = steps::asked(*named, node.both, node.latest, service, locator, time, out);
+    named.routers = step.routers;
     node.latest = step.latest;
     step.answer
 }
@@ -286,9 +303,13 @@ pub extern "C" fn bogtrumpet_hear(node: &mut Node, service: u8, packet: &[u8], t
     ensures { λ r. ⌜ (r ≡ byNumber service (λ w. plainHeard (hearOf (now (node .entry)) w (now (packet .entry)) time .answer)) (plainHeard (heard.Refused NoLocator)))
         × (now (node .exit) ≡ byNumber service (λ w. hearOf (now (node .entry)) w (now (packet .entry)) time .node) (raisedTo (now (node .entry)) time)) ⌝ }
 {
-    let step = steps::heard(*node, service, packet, time);
-    node.first.routers = step.first;
-    node.second.routers = step.second;
+    let named = if service == 0 {
+        &mut node.first
+    } else {
+        &mut node.second
+    };
+    let step = steps::heard(*named, node.both, node.latest, service, packet, time);
+    named.routers = step.routers;
     node.latest = step.latest;
     step.answer
 }
@@ -306,5 +327,18 @@ pub extern "C" fn bogtrumpet_advertise(
     ensures { λ r. ⌜ (r ≡ byNumber service (λ w. plainAdvertised (advertiseOf (now (node .entry)) w (now (packet .entry)) locator (advertisementFrom advertisement) (length (now (out .entry))))) (plainAdvertised (written.Refused NoLocator)))
         × (now (out .exit) ≡ byNumber service (λ w. advertiseOutput (now (node .entry)) w (now (packet .entry)) locator (advertisementFrom advertisement) (now (out .entry))) (now (out .entry))) ⌝ }
 {
-    steps::advertised(*node, service, packet, locator, advertisement, out)
+    let named = if service == 0 {
+        &node.first
+    } else {
+        &node.second
+    };
+    steps::advertised(
+        *named,
+        node.both,
+        service,
+        packet,
+        locator,
+        advertisement,
+        out,
+    )
 }

@@ -1,4 +1,5 @@
-// The path size in force, of a path table whose rows are lent, for one of two services, the sizes of whose links are handed.
+// The path size in force, of a path table whose rows are lent, for a service, the size of whose link is handed. Both functions have the same
+// parameters before the neighbour: one walk proves their callers.
 use super::Address;
 use super::answers;
 use super::answers::Sized;
@@ -9,17 +10,14 @@ use refusals::Refusal;
 ghost use mathlib.Core.Path.{_≡_};
 ghost use Prim.Native.Nat.{max};
 ghost use Rattle.address.specs.Address.{lastQuad};
-ghost use Rattle.node.specs.Node.{pick};
 ghost use Rattle.paths.specs.Kept.{inForce};
 ghost use Rattle.paths.specs.Table.{keptAmong};
-ghost use Rattle.bogtrumpet.specs.Numbered.{nameOf};
 ghost use Rattle.bogtrumpet.specs.Plain.{bytesOf};
 ghost use Rattle.bogtrumpet.specs.Steps.{sizedStep};
 
 // Toward a neighbour, at the latest time: paths::size_among.
 pub fn size_in_force<'a>(
-    first: u16,
-    second: u16,
+    link: u16,
     both: u8,
     neighbours: &'a [u32],
     sizes: &'a [u16],
@@ -29,9 +27,8 @@ pub fn size_in_force<'a>(
     service: u8,
     neighbour: u32,
 ) -> Sized
-    ensures { λ r. ⌜ r ≡ sizedStep both service (inForce (pick (nameOf service) first second) (keptAmong (now (neighbours .entry)) (now (sizes .entry)) (now (times .entry)) count neighbour latest)) ⌝ }
+    ensures { λ r. ⌜ r ≡ sizedStep both service (inForce link (keptAmong (now (neighbours .entry)) (now (sizes .entry)) (now (times .entry)) count neighbour latest)) ⌝ }
 {
-    let link = numbered::link_of(service, first, second);
     let size = paths::size_among(link, neighbours, sizes, times, count, neighbour, latest);
     if numbered::there(both, service) {
         answers::plain_sized(SizeAnswer::Size(size))
@@ -42,19 +39,18 @@ pub fn size_in_force<'a>(
 
 // Toward the tunnel end of a next hop, at the later of the latest time and this one.
 pub fn size_toward<'a>(
-    first: u16,
-    second: u16,
+    link: u16,
     _: u8,
     neighbours: &'a [u32],
     sizes: &'a [u16],
     times: &'a [u32],
     count: usize,
     latest: u32,
-    service: u8,
+    _: u8,
     next_hop: Address,
     time: u32,
 ) -> u16
-    ensures { λ r. ⌜ r ≡ inForce (pick (nameOf service) first second) (keptAmong (now (neighbours .entry)) (now (sizes .entry)) (now (times .entry)) count (lastQuad (bytesOf «next_hop»)) (max latest time)) ⌝ }
+    ensures { λ r. ⌜ r ≡ inForce link (keptAmong (now (neighbours .entry)) (now (sizes .entry)) (now (times .entry)) count (lastQuad (bytesOf «next_hop»)) (max latest time)) ⌝ }
 {
     let a = next_hop.first;
     let b = next_hop.second;
@@ -62,6 +58,5 @@ pub fn size_toward<'a>(
     let d = next_hop.last;
     let tunnel_end = address::last_quad(plain::whole(a, b, c, d));
     let later = node::later(latest, time);
-    let link = numbered::link_of(service, first, second);
     paths::size_among(link, neighbours, sizes, times, count, tunnel_end, later)
 }

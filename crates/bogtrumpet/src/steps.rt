@@ -13,6 +13,10 @@ use super::plain;
 use super::plain::Advertisement;
 use node::Node;
 use node::Service;
+use node::advertise;
+use node::ask;
+use node::hear;
+use node::router_list;
 use node::send;
 use paths::PathTable;
 use pieces::Place;
@@ -25,17 +29,15 @@ use settings::Settings;
 ghost use mathlib.Core.Path.{_≡_};
 ghost use Prim.Native.Nat.{max};
 ghost use lib.ListN.{length};
-ghost use Rattle.node.specs.Advertise.{advertiseOf, advertiseOutput};
-ghost use Rattle.node.specs.Ask.{askOf, askOutput};
-ghost use Rattle.node.specs.Hear.{hearOf};
+ghost use Rattle.node.specs.Advertise.{advertisedBy, advertisedThrough};
+ghost use Rattle.node.specs.Ask.{askedThrough};
 ghost use Rattle.node.specs.Node.{setupOf, setupPairOf};
 ghost use Rattle.node.specs.Receive.{collectedThrough};
 ghost use Rattle.node.specs.Report.{reportOf};
-ghost use Rattle.node.specs.RouterList.{replaceOf};
 ghost use Rattle.node.specs.Send.{sentThrough};
 ghost use Rattle.bogtrumpet.specs.Answers.{plainAdvertised};
 ghost use Rattle.bogtrumpet.specs.Gathered.{GatheredAs, judgedStep};
-ghost use Rattle.bogtrumpet.specs.Numbered.{nameOf, isThere, takenAs};
+ghost use Rattle.bogtrumpet.specs.Numbered.{isThere};
 ghost use Rattle.bogtrumpet.specs.Plain.{bytesOf, advertisementFrom};
 ghost use Rattle.bogtrumpet.specs.Steps.{madeStep, sentStep, reportedStep, replacedStep, askedStep, heardStep};
 
@@ -69,25 +71,22 @@ pub struct ReportedStep {
     pub latest: u32,
 }
 
-// Of the node a new router list, asking and an advertisement change the router list of a service and the latest time alone: both lists stand here.
+// Of the node a new router list, asking and an advertisement change the router list of their service and the latest time alone.
 pub struct ReplacedStep {
     pub answer: u8,
-    pub first: RouterList,
-    pub second: RouterList,
+    pub routers: RouterList,
     pub latest: u32,
 }
 
 pub struct AskedStep {
     pub answer: Asked,
-    pub first: RouterList,
-    pub second: RouterList,
+    pub routers: RouterList,
     pub latest: u32,
 }
 
 pub struct HeardStep {
     pub answer: Heard,
-    pub first: RouterList,
-    pub second: RouterList,
+    pub routers: RouterList,
     pub latest: u32,
 }
 
@@ -194,96 +193,111 @@ pub fn sent(
     }
 }
 
+// A size report: node::Node::reported_by.
 pub fn reported(n: Node, message: &[u8], time: u32) -> ReportedStep
     ensures { λ r. ⌜ r ≡ reportedStep (reportOf n (now (message .entry)) time) ⌝ }
 {
-    let reported = n.report(message, time);
+    let latest = node::later(n.latest, time);
+    let reported = n.reported_by(message, latest);
     let given = reported.answer;
-    let node = reported.node;
-    let paths = node.paths;
+    let paths = reported.paths;
     let answer = answers::plain_reported(given);
     ReportedStep {
         answer,
         paths,
-        latest: node.latest,
+        latest,
     }
 }
 
-pub fn replaced(mut n: Node, service: u8, list: Addresses, time: u32) -> ReplacedStep
-    ensures { λ r. ⌜ r ≡ replacedStep (replaceOf (takenAs n service) (nameOf service) (list .routers) (list .count) time) ⌝ }
+// A new router list: node::router_list::replaced_by.
+pub fn replaced(
+    named: Service,
+    both: u8,
+    latest: u32,
+    service: u8,
+    list: Addresses,
+    time: u32,
+) -> ReplacedStep
+    ensures { λ r. ⌜ r ≡ replacedStep (isThere both service) named latest (list .routers) (list .count) time ⌝ }
 {
-    n.both = numbered::both_for(n.both, service);
-    let routers = list.routers;
-    let replaced = n.replace_routers(numbered::name_of(service), routers, list.count, time);
-    let given = replaced.answer;
-    let node = replaced.node;
-    let one = node.first;
-    let other = node.second;
-    let first = one.routers;
-    let second = other.routers;
+    let latest = node::later(latest, time);
+    let there = numbered::there(both, service);
+    let addresses = list.routers;
+    let done = router_list::replaced_by(there, named, latest, addresses, list.count);
+    let given = done.answer;
+    let routers = done.routers;
     let answer = given.number();
     ReplacedStep {
         answer,
-        first,
-        second,
-        latest: node.latest,
+        routers,
+        latest,
     }
 }
 
-pub fn asked(mut n: Node, service: u8, locator: usize, time: u32, out: &mut [u8]) -> AskedStep
-    ensures { λ r. ⌜ (r ≡ askedStep (askOf (takenAs n service) (nameOf service) locator time (length (now (out .entry)))))
-        × (now (out .exit) ≡ askOutput (takenAs n service) (nameOf service) locator time (now (out .entry))) ⌝ }
+// Asking: node::ask::asked_by.
+pub fn asked(
+    named: Service,
+    both: u8,
+    latest: u32,
+    service: u8,
+    locator: usize,
+    time: u32,
+    out: &mut [u8],
+) -> AskedStep
+    ensures { λ r. ⌜ (r ≡ askedStep (isThere both service) named latest locator time (length (now (out .entry))))
+        × (now (out .exit) ≡ askedThrough (isThere both service) named (max latest time) locator (now (out .entry))) ⌝ }
 {
-    n.both = numbered::both_for(n.both, service);
-    let asked = n.ask(numbered::name_of(service), locator, time, out);
+    let latest = node::later(latest, time);
+    let there = numbered::there(both, service);
+    let asked = ask::asked_by(there, named, latest, locator, out);
     let given = asked.answer;
-    let node = asked.node;
-    let one = node.first;
-    let other = node.second;
-    let first = one.routers;
-    let second = other.routers;
+    let routers = asked.routers;
     let answer = answers::plain_asked(given);
     AskedStep {
         answer,
-        first,
-        second,
-        latest: node.latest,
+        routers,
+        latest,
     }
 }
 
-pub fn heard(mut n: Node, service: u8, packet: &[u8], time: u32) -> HeardStep
-    ensures { λ r. ⌜ r ≡ heardStep (hearOf (takenAs n service) (nameOf service) (now (packet .entry)) time) ⌝ }
+// An advertisement: node::hear::heard_by.
+pub fn heard(
+    named: Service,
+    both: u8,
+    latest: u32,
+    service: u8,
+    packet: &[u8],
+    time: u32,
+) -> HeardStep
+    ensures { λ r. ⌜ r ≡ heardStep (isThere both service) named latest (now (packet .entry)) time ⌝ }
 {
-    n.both = numbered::both_for(n.both, service);
-    let heard = n.hear(numbered::name_of(service), packet, time);
+    let latest = node::later(latest, time);
+    let there = numbered::there(both, service);
+    let heard = hear::heard_by(there, named, latest, packet);
     let given = heard.answer;
-    let node = heard.node;
-    let one = node.first;
-    let other = node.second;
-    let first = one.routers;
-    let second = other.routers;
+    let routers = heard.routers;
     let answer = answers::plain_heard(given);
     HeardStep {
         answer,
-        first,
-        second,
-        latest: node.latest,
+        routers,
+        latest,
     }
 }
 
+// An answer to a solicitation: node::advertise::advertised_by.
 pub fn advertised(
-    mut n: Node,
+    named: Service,
+    both: u8,
     service: u8,
     packet: &[u8],
     locator: usize,
     advertisement: Advertisement,
     out: &mut [u8],
 ) -> Advertised
-    ensures { λ r. ⌜ (r ≡ plainAdvertised (advertiseOf (takenAs n service) (nameOf service) (now (packet .entry)) locator (advertisementFrom advertisement) (length (now (out .entry)))))
-        × (now (out .exit) ≡ advertiseOutput (takenAs n service) (nameOf service) (now (packet .entry)) locator (advertisementFrom advertisement) (now (out .entry))) ⌝ }
+    ensures { λ r. ⌜ (r ≡ plainAdvertised (advertisedBy (isThere both service) named (now (packet .entry)) locator (advertisementFrom advertisement) (length (now (out .entry)))))
+        × (now (out .exit) ≡ advertisedThrough (isThere both service) named (now (packet .entry)) locator (advertisementFrom advertisement) (now (out .entry))) ⌝ }
 {
-    n.both = numbered::both_for(n.both, service);
-    let name = numbered::name_of(service);
+    let there = numbered::there(both, service);
     let told = plain::advertisement_from(advertisement);
-    answers::plain_advertised(n.advertise(name, packet, locator, told, out))
+    answers::plain_advertised(advertise::advertised_by(there, named, packet, locator, told, out))
 }

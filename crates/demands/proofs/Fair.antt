@@ -34,21 +34,20 @@ use Rattle.node.specs.Node.{serviceOf, hasService, nodeWith}
 use Rattle.node.specs.Receive.{receiveOf}
 use Rattle.node.specs.Send.{sendOf}
 use Rattle.node.specs.Report.{reportOf}
-use Rattle.node.specs.RouterList.{withRouters, listGiven, replaceOf}
+use Rattle.node.specs.RouterList.{withRouters, listGiven, replacedBy, replaceOf}
 use Rattle.node.specs.Ask.{askedBy, askOf}
 use Rattle.node.specs.Hear.{heardBy, hearOf}
 use Rattle.node.specs.declared.Node.{Node}
 use Rattle.node.specs.declared.Service.{Service}
 use Rattle.node.specs.declared.ServiceName.{ServiceName}
 use Rattle.node.specs.declared.ServiceName.the-variants.{First, Second}
-use Rattle.node.proofs.Services.{put-same, put-kept, raised-service}
+use Rattle.node.proofs.Services.{put-same, put-kept}
 use Rattle.demands.specs.Starts.{Start, acceptedWith, isRight, startOf, settingsOf}
 use Rattle.demands.specs.Calls.{NodeCall, receiving, receivingPart, sending, reporting, relisting, asking, hearing, advertising, outcomeOf, OfRouters, anAsking, anAdvertisement, aList, routersOf, viewOf, nodeAfter}
 use Rattle.demands.specs.Fair.{serves, servedBy, Quiet, AllQuiet, FairNode}
 use Rattle.demands.proofs.Left.{left, settings-kept}
 use Rattle.demands.specs.Plain.{freshPlain}
 use Rattle.demands.proofs.Follows.{same-some, no-some, its-settings, fresh-follows}
-use Rattle.demands.proofs.Others.{others-left, not-same, not-same-back}
 
 -- what a call does to the router list of a service, now: it leaves it, asks one of its routers, puts one of them off, or is not quiet
 data Turn (q : Service) (now : ℕ) (c : OfRouters) (g : Given) (after : RouterList) : Type 0 where
@@ -80,12 +79,10 @@ module _ (q : Service) (now : ℕ) where
   hearing-turn true packet (hear.Refused x) e = leaves refl (hearing.refused-unchanged (q .settings) (q .routers) now packet x e)
   hearing-turn false packet a e = leaves refl refl
 
-relisting-turn : (n : Node) (w : ServiceName) (addresses : List ℕ) (count time : ℕ) (b : Bool) → (hasService n w && areRoutersRight (serviceOf n w .settings) addresses count) ≡ b
-    → Turn (serviceOf n w) (max (n .latest) time) aList (listGiven (replaceOf n w addresses count time .answer)) (serviceOf (replaceOf n w addresses count time .node) w .routers)
-unfolding replaceOf
-relisting-turn n w addresses count time true e = takes (λ a quiet. quiet (rw e))
-relisting-turn n w addresses count time false e =
-    leaves refl (rw e (ap (λ (s : Service). s .routers) (raised-service n time w)))
+  relisting-turn : (there : Bool) (addresses : List ℕ) (count : ℕ) (b : Bool) → (there && areRoutersRight (q .settings) addresses count) ≡ b
+      → Turn q now aList (listGiven (replacedBy there q now addresses count .answer)) (replacedBy there q now addresses count .routers)
+  relisting-turn there addresses count true e = takes (λ a quiet. quiet (rw e))
+  relisting-turn there addresses count false e = leaves refl (rw e)
 
 -- a call through the service w
 abbrev Turned : ServiceName → Node → NodeCall → Type 0
@@ -109,16 +106,21 @@ heard-turn : (w : ServiceName) (n : Node) (packet : List ℕ) (time : ℕ)
 unfolding hearOf
 heard-turn w n packet time = own-turn n w time _ _ _ (hearing-turn (serviceOf n w) (max (n .latest) time) (hasService n w) packet _ refl)
 
+relisted-turn : (w : ServiceName) (n : Node) (addresses : List ℕ) (count time : ℕ)
+    → Turn (serviceOf n w) (max (n .latest) time) aList (outcomeOf n (relisting w addresses count time) .given) (serviceOf (outcomeOf n (relisting w addresses count time) .node) w .routers)
+unfolding replaceOf
+relisted-turn w n addresses count time = own-turn n w time _ _ _ (relisting-turn (serviceOf n w) (max (n .latest) time) (hasService n w) addresses count _ refl)
+
 turn : (w : ServiceName) (n : Node) (x : NodeCall) → Turned w n x
-unfolding receiveOf sendOf reportOf askOf hearOf
+unfolding receiveOf sendOf reportOf replaceOf askOf hearOf
 turn w n (receiving v d interface time memory) = leaves refl (put-routers n v _ time refl w)
 turn w n (receivingPart v d interface) = leaves refl refl
 turn w n (sending v packet hop k time out) = leaves refl (put-routers n v _ time refl w)
 turn w n (reporting m time) = leaves refl refl
-turn First n (relisting First addresses count time) = relisting-turn n First addresses count time _ refl
-turn First n (relisting Second addresses count time) = leaves refl (ap (λ (s : Service). s .routers) (others-left n (relisting Second addresses count time) First not-same))
-turn Second n (relisting First addresses count time) = leaves refl (ap (λ (s : Service). s .routers) (others-left n (relisting First addresses count time) Second not-same-back))
-turn Second n (relisting Second addresses count time) = relisting-turn n Second addresses count time _ refl
+turn First n (relisting First addresses count time) = relisted-turn First n addresses count time
+turn First n (relisting Second addresses count time) = leaves refl refl
+turn Second n (relisting First addresses count time) = leaves refl refl
+turn Second n (relisting Second addresses count time) = relisted-turn Second n addresses count time
 turn First n (asking First k time out) = asked-turn First n k time out
 turn First n (asking Second k time out) = leaves refl refl
 turn Second n (asking First k time out) = leaves refl refl

@@ -1,14 +1,12 @@
 -- What every call leaves: the settings of both services, the latest time raised, and the path table but for an accepted report. Assumes
 -- nothing.
 use Prim.Native.Nat.{ℕ, max}
-use mathlib.Core.Path.{_≡_, refl, sym, ap, _∙_}
-use mathlib.Core.Bool.{Bool, true, false, cond, _&&_}
+use mathlib.Core.Path.{_≡_, refl, sym, _∙_}
 use mathlib.Core.List.{List, [], _∷_}
 use native.Mathlib.Nat.{max-zero}
 use lib.ListN.{length}
 use Rattle.sending.specs.Sending.{sendGiven}
 use Rattle.reports.specs.Report.{reportGiven}
-use Rattle.settings.specs.Settings.{areRoutersRight}
 use Rattle.node.specs.Node.{serviceOf, hasService, nodeWith, raisedTo}
 use Rattle.node.specs.Receive.{receiveOf}
 use Rattle.node.specs.Send.{sendOf}
@@ -20,14 +18,8 @@ use Rattle.node.specs.declared.Node.{Node}
 use Rattle.node.specs.declared.Service.{Service}
 use Rattle.node.specs.declared.ServiceName.{ServiceName}
 use Rattle.node.specs.declared.ServiceName.the-variants.{First, Second}
-use Rattle.node.specs.declared.router_list.Replaced.{Replaced}
-use Rattle.node.proofs.Services.{put-kept, raised-service}
+use Rattle.node.proofs.Services.{put-kept}
 use Rattle.demands.specs.Calls.{NodeCall, receiving, receivingPart, sending, reporting, relisting, asking, hearing, advertising, Outcome, outcomeOf, OfSizes, aSending, aReport, noSize, viewOf, nodeAfter}
-
--- what holds of the node of either of two answers holds of the chosen one
-pub chosen : (b : Bool) (x y : Replaced) (P : Node → Type 0) → P (x .node) → P (y .node) → P (cond b x y .node)
-chosen true x y P px py = px
-chosen false x y P px py = py
 
 -- what a call is to the path sizes decides what is given, and what becomes of the table
 abbrev pub SizesLeft : Node → ℕ → ℕ → OfSizes → Outcome → Type 0
@@ -55,14 +47,7 @@ left n (receiving v d interface time memory) = record { settings = put-settings 
 left n (receivingPart v d interface) = record { settings = λ w. refl; both = refl; latest = sym (max-zero _); sizes = refl }
 left n (sending v packet hop k time out) = record { settings = put-settings n v _ time refl; both = refl; latest = refl; sizes = (refl, refl) }
 left n (reporting m time) = record { settings = λ w. refl; both = refl; latest = refl; sizes = (refl, refl) }
-left n (relisting v addresses count time) =
-    let right = hasService n v && areRoutersRight (serviceOf n v .settings) addresses count in
-    record {
-      settings = λ w. chosen right _ _ (λ m. serviceOf m w .settings ≡ serviceOf n w .settings) (put-settings n v _ time refl w) (ap (λ (s : Service). s .settings) (raised-service n time w));
-      both = chosen right _ _ (λ m. m .both ≡ n .both) refl refl;
-      latest = chosen right _ _ (λ m. m .latest ≡ max (n .latest) time) refl refl;
-      sizes = chosen right _ _ (λ m. m .paths ≡ n .paths) refl refl;
-    }
+left n (relisting v addresses count time) = record { settings = put-settings n v _ time refl; both = refl; latest = refl; sizes = refl }
 left n (asking v k time out) = record { settings = put-settings n v _ time refl; both = refl; latest = refl; sizes = refl }
 left n (hearing v packet time) = record { settings = put-settings n v _ time refl; both = refl; latest = refl; sizes = refl }
 left n (advertising v packet k a out) = record { settings = λ w. refl; both = refl; latest = sym (max-zero _); sizes = refl }

@@ -2,15 +2,14 @@
 use Prim.Native.Nat.{ℕ, max}
 use mathlib.Core.Path.{_≡_, refl, sym, ap, subst, _∙_}
 use mathlib.Core.Logic.{_⊎_, ⊎-elim, inl, inr}
-use mathlib.Core.Bool.{Bool, true, false, cond, _&&_}
+use mathlib.Core.Bool.{true}
 use mathlib.Core.List.{List, [], _∷_}
 use mathlib.Core.Option.{Option, none, some}
 use lib.Dec.{ltb}
 use Rattle.refusals.specs.Given.{Given}
 use Rattle.header.specs.Outer.{outerOf, quoteOf}
 use Rattle.header.specs.declared.outer.Outer.{Outer}
-use Rattle.routers.specs.Routers.{replacedOf}
-use Rattle.settings.specs.Settings.{locatorsOf, forbiddenTo, isOurs, isBadEnd, areRoutersRight}
+use Rattle.settings.specs.Settings.{locatorsOf, forbiddenTo, isOurs, isBadEnd}
 use Rattle.settings.specs.declared.Settings.{Settings}
 use Rattle.paths.specs.Table.{noReports}
 use Rattle.reports.specs.Report.{isQuoteForeign, reportCheck, judgedOf, neighbourIn, answerAt, reportGiven}
@@ -21,7 +20,7 @@ use Rattle.node.specs.Size.{pathSizeOf}
 use Rattle.node.specs.Receive.{receiveOf, receiveMemory, partIn}
 use Rattle.node.specs.Send.{sendOf, sendOutput}
 use Rattle.node.specs.Report.{quotesOther, reportedTo, pathsAfter, reportAnswerOf}
-use Rattle.node.specs.RouterList.{withRouters, listGiven, listRefusal, replaceOf}
+use Rattle.node.specs.RouterList.{replaceOf}
 use Rattle.node.specs.Ask.{askOf, askOutput}
 use Rattle.node.specs.Hear.{hearOf}
 use Rattle.node.specs.Advertise.{advertiseOf, advertiseOutput}
@@ -29,10 +28,7 @@ use Rattle.node.specs.declared.Node.{Node}
 use Rattle.node.specs.declared.Service.{Service}
 use Rattle.node.specs.declared.ServiceName.{ServiceName}
 use Rattle.node.specs.declared.ServiceName.the-variants.{First, Second}
-use Rattle.node.specs.declared.router_list.ListAnswer.{ListAnswer}
-use Rattle.node.specs.declared.router_list.ListAnswer.the-variants as list
-use Rattle.node.specs.declared.router_list.Replaced.{Replaced}
-use Rattle.node.proofs.Services.{put-same, raised-service}
+use Rattle.node.proofs.Services.{put-same}
 use Rattle.demands.specs.Starts.{Start, acceptedWith, isRight, madeWith, startOf, settingsOf}
 use Rattle.demands.specs.Calls.{NodeCall, receiving, receivingPart, sending, reporting, relisting, asking, hearing, advertising, Outcome, outcomeOf, viewOf, nodeAfter}
 use Rattle.demands.specs.NonInterference.{beside, SeenAlike, BothAlike, AlikeBut, AlikeCall, AlikeCalls, seenBeside, runBeside, NonInterference}
@@ -88,6 +84,10 @@ module _ (w : ServiceName) (n m : Node) (here : serviceOf n w ≡ serviceOf m w)
     service = put _ _ time (rw (there, size, here));
   }
 
+  relisted : (addresses : List ℕ) (count time : ℕ) → Same w (outcomeOf n (relisting w addresses count time)) (outcomeOf m (relisting w addresses count time))
+  unfolding replaceOf
+  relisted addresses count time = record { given = rw (there, here, now time); output = refl; service = put _ _ time (rw (there, here, now time)) }
+
   asked : (k time : ℕ) (out : List ℕ) → Same w (outcomeOf n (asking w k time out)) (outcomeOf m (asking w k time out))
   unfolding askOf askOutput
   asked k time out = record {
@@ -103,43 +103,6 @@ module _ (w : ServiceName) (n m : Node) (here : serviceOf n w ≡ serviceOf m w)
   advertised : (packet : List ℕ) (k : ℕ) (a : Advertisement) (out : List ℕ) → Same w (outcomeOf n (advertising w packet k a out)) (outcomeOf m (advertising w packet k a out))
   unfolding advertiseOf advertiseOutput
   advertised packet k a out = record { given = rw (there, here); output = rw (there, here); service = here }
-
-  -- a new list: the answer, and the service after it
-  module _ (addresses : List ℕ) (count time : ℕ) where
-    chosen-answer : (b : Bool) (x y : Replaced) → cond b x y .answer ≡ cond b (x .answer) (y .answer)
-    chosen-answer true x y = refl
-    chosen-answer false x y = refl
-
-    chosen-service : (k : Node) (b : Bool) (x y : Replaced) (s t : Service) → serviceOf (x .node) w ≡ s → serviceOf (y .node) w ≡ t → serviceOf (cond b x y .node) w ≡ cond b s t
-    chosen-service k true x y s t p q = p
-    chosen-service k false x y s t p q = q
-
-    abbrev answerBy : Bool → Service → ListAnswer
-    answerBy h q = cond (h && areRoutersRight (q .settings) addresses count) list.Replaced (list.Refused (listRefusal h))
-
-    abbrev serviceBy : Bool → Service → ℕ → Service
-    serviceBy h q t = cond (h && areRoutersRight (q .settings) addresses count) (withRouters q (replacedOf addresses count t (q .routers))) q
-
-    list-answer : (k : Node) → replaceOf k w addresses count time .answer ≡ answerBy (hasService k w) (serviceOf k w)
-    unfolding replaceOf
-    list-answer k = chosen-answer (hasService k w && areRoutersRight (serviceOf k w .settings) addresses count) _ _
-
-    list-service : (k : Node) → serviceOf (replaceOf k w addresses count time .node) w ≡ serviceBy (hasService k w) (serviceOf k w) (max (k .latest) time)
-    unfolding replaceOf
-    list-service k = chosen-service k (hasService k w && areRoutersRight (serviceOf k w .settings) addresses count) _ _ _ _ (put-same k w _ time) (raised-service k time w)
-
-    same-answer : answerBy (hasService n w) (serviceOf n w) ≡ answerBy (hasService m w) (serviceOf m w)
-    same-answer = rw (there, here)
-
-    same-service : serviceBy (hasService n w) (serviceOf n w) (max (n .latest) time) ≡ serviceBy (hasService m w) (serviceOf m w) (max (m .latest) time)
-    same-service = rw (there, here, now time)
-
-    relisted : Same w (outcomeOf n (relisting w addresses count time)) (outcomeOf m (relisting w addresses count time))
-    relisted = record {
-      given = ap listGiven (list-answer n ∙ same-answer ∙ sym (list-answer m));
-      output = refl;
-      service = list-service n ∙ same-service ∙ sym (list-service m);
-    }
 
   -- every call that names the service
   same-name : (u v : ServiceName) → some u ≡ some v → u ≡ v

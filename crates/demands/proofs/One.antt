@@ -224,7 +224,7 @@ relisting-refusing : (n : Node) (w : ServiceName) (addresses : List ℕ) (count 
 unfolding replaceOf
 relisting-refusing n w addresses count time true e = answers n (viewOf (relisting w addresses count time)) _ [] (rw e)
 relisting-refusing n w addresses count time false e =
-    refuses n (viewOf (relisting w addresses count time)) _ (listRefusal (hasService n w)) (rw e) (rw e) refl
+    refuses n (viewOf (relisting w addresses count time)) _ (listRefusal (hasService n w)) (rw e) (rw (e, ← put-own n w time)) refl
 
 -- what a service leaves of its routers, and of the output, where it is there or not
 module _ (q : Service) (now : ℕ) where

@@ -1,12 +1,10 @@
 -- Which services a node has, and that a call leaves the one that it does not name as it is. Assumes nothing.
 use Prim.Native.Nat.{ℕ, zero, suc, _<_}
 use mathlib.Core.Path.{_≡_, refl, ap}
-use mathlib.Core.Bool.{_&&_}
 use mathlib.Core.Option.{Option, none, some}
 use native.Mathlib.Omega.{arith}
 use borrow.Author.Tests.{ltb-true, lt-ltb}
 use Rattle.lists.proofs.Decides.{Decides}
-use Rattle.settings.specs.Settings.{areRoutersRight}
 use Rattle.node.specs.Node.{serviceOf, hasService, nodeWith}
 use Rattle.node.specs.Receive.{receiveOf}
 use Rattle.node.specs.Send.{sendOf}
@@ -18,10 +16,8 @@ use Rattle.node.specs.declared.Node.{Node}
 use Rattle.node.specs.declared.Service.{Service}
 use Rattle.node.specs.declared.ServiceName.{ServiceName}
 use Rattle.node.specs.declared.ServiceName.the-variants.{First, Second}
-use Rattle.node.proofs.Services.{raised-service}
 use Rattle.demands.specs.Two.{Has}
 use Rattle.demands.specs.Calls.{NodeCall, receiving, receivingPart, sending, reporting, relisting, asking, hearing, advertising, outcomeOf, viewOf}
-use Rattle.demands.proofs.Left.{chosen}
 
 -- a mark for each of the names
 abbrev marked : Option ServiceName → ℕ
@@ -70,9 +66,7 @@ others-left n (receiving v d interface time memory) w h = put-other n v _ time w
 others-left n (receivingPart v d interface) w h = refl
 others-left n (sending v packet hop k time out) w h = put-other n v _ time w h
 others-left n (reporting m time) w h = refl
-others-left n (relisting v addresses count time) w h =
-    chosen (hasService n v && areRoutersRight (serviceOf n v .settings) addresses count) _ _ (λ m. serviceOf m w ≡ serviceOf n w)
-    (put-other n v _ time w h) (raised-service n time w)
+others-left n (relisting v addresses count time) w h = put-other n v _ time w h
 others-left n (asking v k time out) w h = put-other n v _ time w h
 others-left n (hearing v packet time) w h = put-other n v _ time w h
 others-left n (advertising v packet k a out) w h = refl

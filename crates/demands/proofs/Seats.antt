@@ -1,12 +1,11 @@
 -- What a call that names a service works on: the service, whether it is there, and the latest time; and what each call is to the collection of a
 -- service. Assumes nothing.
 use Prim.Native.Nat.{ℕ, max}
-use mathlib.Core.Path.{_≡_, refl, ap}
-use mathlib.Core.Bool.{Bool, _&&_}
+use mathlib.Core.Path.{_≡_, refl}
+use mathlib.Core.Bool.{Bool}
 use mathlib.Core.List.{List}
 use Rattle.receiving.specs.Collect.{Collected}
 use Rattle.receiving.specs.Receive.{receivedGiven}
-use Rattle.settings.specs.Settings.{areRoutersRight}
 use Rattle.node.specs.Node.{serviceOf, hasService, nodeWith}
 use Rattle.node.specs.Receive.{collectedBy, collectedThrough, receiveOf, receiveMemory}
 use Rattle.node.specs.Send.{sendOf}
@@ -19,8 +18,7 @@ use Rattle.node.specs.declared.Service.{Service}
 use Rattle.node.specs.declared.ServiceName.{ServiceName}
 use Rattle.node.specs.declared.ServiceName.the-variants.{First, Second}
 use Rattle.demands.specs.Calls.{NodeCall, receiving, receivingPart, sending, reporting, relisting, asking, hearing, advertising, Outcome, outcomeOf, OfPieces, aDatagram, noDatagram, piecesOf}
-use Rattle.node.proofs.Services.{put-kept, raised-service}
-use Rattle.demands.proofs.Left.{chosen}
+use Rattle.node.proofs.Services.{put-kept}
 
 pub record Seat : Type 0 where
   pub there : Bool
@@ -60,9 +58,7 @@ pieces-left Second n (receiving Second e interface time memory) = (refl, refl, r
 pieces-left w n (receivingPart v e interface) = refl
 pieces-left w n (sending v packet hop k time out) = put-pieces n v _ time refl w
 pieces-left w n (reporting m time) = refl
-pieces-left w n (relisting v addresses count time) =
-    chosen (hasService n v && areRoutersRight (serviceOf n v .settings) addresses count) _ _ (λ m. serviceOf m w .pieces ≡ serviceOf n w .pieces)
-    (put-pieces n v _ time refl w) (ap (λ (s : Service). s .pieces) (raised-service n time w))
+pieces-left w n (relisting v addresses count time) = put-pieces n v _ time refl w
 pieces-left w n (asking v k time out) = put-pieces n v _ time refl w
 pieces-left w n (hearing v packet time) = put-pieces n v _ time refl w
 pieces-left w n (advertising v packet k a out) = refl

@@ -12,7 +12,7 @@ use Rattle.header.specs.Fields.{quadAt}
 use Rattle.header.specs.Outer.{outerOf, quoteOf}
 use Rattle.settings.specs.Settings.{defaultsFor, isOurs, areRoutersRight}
 use Rattle.settings.proofs.Facts.{decides-ours}
-use Rattle.routers.specs.Routers.{live}
+use Rattle.routers.specs.Routers.{live, replacedOf}
 use Rattle.pieces.proofs.Exactly.{piece-exactly}
 use Rattle.pieces.proofs.History.{history-tells}
 use Rattle.pieces.proofs.ByHistory.{history-exactly}
@@ -33,7 +33,7 @@ use Rattle.node.specs.Size.{pathSizeOf}
 use Rattle.node.specs.Receive.{collectedBy, collectedThrough, receiveOf, receiveMemory, partIn}
 use Rattle.node.specs.Send.{pathSizeToward, withIdentification, sentBy, sentThrough, sendOf, sendOutput}
 use Rattle.node.specs.Report.{quotesOther, reportedTo, reportAnswerOf, reportOf}
-use Rattle.node.specs.RouterList.{replaceOf}
+use Rattle.node.specs.RouterList.{withRouters, replaceOf}
 use Rattle.node.specs.Ask.{askedBy, askedThrough, askOf, askOutput}
 use Rattle.node.specs.Hear.{heardBy, hearOf}
 use Rattle.node.specs.Advertise.{advertiseOf, advertiseOutput}
@@ -60,8 +60,8 @@ module _ (n : Node) (w : ServiceName) (there : hasService n w ≡ true) where
       let d = decides-right s addresses count in
       record {
         taken = λ right. rw (there, d .passes right);
-        replaced = λ right. rw (there, d .passes right, put-same n w) (replaced-list addresses count (max (n .latest) time) (serviceOf n w .routers));
-        refused = λ wrong. rw (there, refutes (areRoutersRight s addresses count) d wrong);
+        replaced = λ right. rw (there, d .passes right, put-same n w (withRouters (serviceOf n w) (replacedOf addresses count (max (n .latest) time) (serviceOf n w .routers))) time) (replaced-list addresses count (max (n .latest) time) (serviceOf n w .routers));
+        refused = λ wrong. rw (there, refutes (areRoutersRight s addresses count) d wrong, ← put-own n w time);
       }
 
   module _ (packet hop : List ℕ) (k time : ℕ) (out : List ℕ) where
@@ -134,7 +134,7 @@ module _ (n : Node) (w : ServiceName) (lacks : hasService n w ≡ false) where
     givesPart = λ d interface. rw lacks;
     receives = λ d interface time memory. (rw (lacks, ← put-own n w time), rw lacks);
     sends = λ packet hop k time out. (rw (lacks, ← put-own n w time), rw lacks);
-    relists = λ addresses count time. rw lacks;
+    relists = λ addresses count time. rw (lacks, ← put-own n w time);
     asks = λ k time out. (rw (lacks, ← put-own n w time), rw lacks);
     hears = λ packet time. rw (lacks, ← put-own n w time);
     advertises = λ packet k a out. (rw lacks, rw lacks);

@@ -1,6 +1,6 @@
 -- Answering a solicitation on a node (R22): answer and output; the node stays as it is.
 use Prim.Native.Nat.{ℕ}
-use mathlib.Core.Bool.{cond}
+use mathlib.Core.Bool.{Bool, cond}
 use mathlib.Core.List.{List}
 use Rattle.header.specs.declared.wrap.Written.{Written}
 use Rattle.header.specs.declared.wrap.Written.the-variants.{Refused}
@@ -10,14 +10,21 @@ use Rattle.advertisements.specs.declared.Advertisement.{Advertisement}
 use Rattle.advertising.specs.Advertise.{advertisedOf, advertisedOutput}
 use Rattle.node.specs.Node.{serviceOf, hasService}
 use Rattle.node.specs.declared.Node.{Node}
+use Rattle.node.specs.declared.Service.{Service}
 use Rattle.node.specs.declared.ServiceName.{ServiceName}
 
--- the length written, or the number; 11 where the node has no such service
-unfoldable pub advertiseOf : Node → ServiceName → List ℕ → ℕ → Advertisement → ℕ → Written
-advertiseOf node name packet k a room =
-    cond (hasService node name) (advertisedOf (locatorOf (serviceOf node name .settings) k) packet a room) (Refused NoLocator)
+-- what a service makes of it: the length written, or the number; 11 where it is not there
+abbrev pub advertisedBy : Bool → Service → List ℕ → ℕ → Advertisement → ℕ → Written
+advertisedBy there service packet k a room = cond there (advertisedOf (locatorOf (service .settings) k) packet a room) (Refused NoLocator)
 
 -- what stands in the lent output afterwards
+abbrev pub advertisedThrough : Bool → Service → List ℕ → ℕ → Advertisement → List ℕ → List ℕ
+advertisedThrough there service packet k a out = cond there (advertisedOutput (locatorOf (service .settings) k) packet a out) out
+
+-- the answer of the call
+unfoldable pub advertiseOf : Node → ServiceName → List ℕ → ℕ → Advertisement → ℕ → Written
+advertiseOf node name packet k a room = advertisedBy (hasService node name) (serviceOf node name) packet k a room
+
+-- the output of the call
 unfoldable pub advertiseOutput : Node → ServiceName → List ℕ → ℕ → Advertisement → List ℕ → List ℕ
-advertiseOutput node name packet k a out =
-    cond (hasService node name) (advertisedOutput (locatorOf (serviceOf node name .settings) k) packet a out) out
+advertiseOutput node name packet k a out = advertisedThrough (hasService node name) (serviceOf node name) packet k a out

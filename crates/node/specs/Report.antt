@@ -16,6 +16,7 @@ use Rattle.node.specs.Node.{serviceOf, nodeKeeping, pathSizeAt}
 use Rattle.node.specs.declared.Node.{Node}
 use Rattle.node.specs.declared.ServiceName.{ServiceName}
 use Rattle.node.specs.declared.ServiceName.the-variants.{First, Second}
+use Rattle.node.specs.declared.report.ReportStep.{ReportStep}
 use Rattle.node.specs.declared.report.Reported.{Reported}
 
 -- R26.5: a report quotes a locator address of the settings b, and none of the settings a
@@ -38,9 +39,14 @@ reportAnswerOf node m now =
     let j : Judged = judgedOf (serviceOf node name .settings) m in
     answerAt j (pathSizeAt node name (neighbourIn j) now)
 
+-- what the node makes of it, now: the answer, and the path table afterwards
+abbrev pub reportedBy : Node → List ℕ → ℕ → ReportStep
+reportedBy node m now =
+    let a : ReportAnswer = reportAnswerOf node m now in
+    record { answer = a; paths = pathsAfter a (node .paths) now }
+
 -- the answer and the next node, whose path sizes are those that the report leaves
 unfoldable pub reportOf : Node → List ℕ → ℕ → Reported
 reportOf node m time =
-    let now : ℕ = max (node .latest) time in
-    let a : ReportAnswer = reportAnswerOf node m now in
-    record { answer = a; node = nodeKeeping node (pathsAfter a (node .paths) now) time }
+    let step : ReportStep = reportedBy node m (max (node .latest) time) in
+    record { answer = step .answer; node = nodeKeeping node (step .paths) time }

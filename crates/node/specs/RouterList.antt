@@ -8,12 +8,13 @@ use Rattle.refusals.specs.declared.Refusal.the-variants as refusal
 use Rattle.routers.specs.Routers.{replacedOf}
 use Rattle.routers.specs.declared.RouterList.{RouterList}
 use Rattle.settings.specs.Settings.{areRoutersRight}
-use Rattle.node.specs.Node.{serviceOf, hasService, nodeWith, raisedTo}
+use Rattle.node.specs.Node.{serviceOf, hasService, nodeWith}
 use Rattle.node.specs.declared.Node.{Node}
 use Rattle.node.specs.declared.Service.{Service}
 use Rattle.node.specs.declared.ServiceName.{ServiceName}
 use Rattle.node.specs.declared.router_list.ListAnswer.{ListAnswer}
 use Rattle.node.specs.declared.router_list.ListAnswer.the-variants.{Replaced, Refused}
+use Rattle.node.specs.declared.router_list.ListStep as step
 use Rattle.node.specs.declared.router_list.Replaced as replaced
 
 -- the number (R4): a list that is taken has no values
@@ -29,13 +30,15 @@ withRouters service routers = record { settings = service .settings; routers = r
 abbrev pub listRefusal : Bool → Refusal
 listRefusal there = cond there refusal.Settings refusal.NoLocator
 
--- 11 and 1: the new list breaks the rules; else a router in both lists keeps its due time, a new one is due now
+-- what a service makes of a new list, now: 11 where it is not there, 1 where the list breaks the rules; else a router in both lists keeps its due time, a new one is due now
+abbrev pub replacedBy : Bool → Service → ℕ → List ℕ → ℕ → step.ListStep
+replacedBy there service now addresses count =
+    cond (there && areRoutersRight (service .settings) addresses count)
+    (record { answer = Replaced; routers = replacedOf addresses count now (service .routers) })
+    (record { answer = Refused (listRefusal there); routers = service .routers })
+
+-- the answer and the next node, whose service has the list in force afterwards
 unfoldable pub replaceOf : Node → ServiceName → List ℕ → ℕ → ℕ → replaced.Replaced
 replaceOf node name addresses count time =
-    let service : Service = serviceOf node name in
-    cond (hasService node name && areRoutersRight (service .settings) addresses count)
-    (record {
-      answer = Replaced;
-      node = nodeWith node name (withRouters service (replacedOf addresses count (max (node .latest) time) (service .routers))) time;
-    })
-    (record { answer = Refused (listRefusal (hasService node name)); node = raisedTo node time })
+    let done : step.ListStep = replacedBy (hasService node name) (serviceOf node name) (max (node .latest) time) addresses count in
+    record { answer = done .answer; node = nodeWith node name (withRouters (serviceOf node name) (done .routers)) time }

@@ -8,11 +8,17 @@ use reports::Judged;
 use reports::ReportAnswer;
 ghost use mathlib.Core.Path.{_≡_};
 ghost use Rattle.reports.specs.Report.{neighbourIn};
-ghost use Rattle.node.specs.Report.{pathsAfter, reportedTo, reportOf};
+ghost use Rattle.node.specs.Report.{pathsAfter, reportedTo, reportedBy, reportOf};
 
 pub struct Reported {
     pub answer: ReportAnswer,
     pub node: Node,
+}
+
+// The answer to a report, and the path table afterwards.
+pub struct ReportStep {
+    pub answer: ReportAnswer,
+    pub paths: PathTable,
 }
 
 // The neighbour that a judged report names.
@@ -51,20 +57,30 @@ impl Node {
         }
     }
 
-    pub fn report(mut self, message: &[u8], time: u32) -> Reported
-        ensures { λ r. ⌜ r ≡ reportOf self (now (message .entry)) time ⌝ }
+    // What the node makes of it at the latest time: the node is only read.
+    pub fn reported_by(self, message: &[u8], latest: u32) -> ReportStep
+        ensures { λ r. ⌜ r ≡ reportedBy self (now (message .entry)) latest ⌝ }
     {
-        let now = later(self.latest, time);
         let name = self.reported_to(message);
         let service = self.service(name);
         let settings = service.settings;
         let judged = reports::judge(settings, message);
-        let size = self.size_at(name, neighbour_in(judged), now);
+        let size = self.size_at(name, neighbour_in(judged), latest);
         let answer = reports::answer(judged, size);
         let table = self.paths;
-        let paths = paths_after(answer, table, now);
+        let paths = paths_after(answer, table, latest);
+        ReportStep { answer, paths }
+    }
+
+    pub fn report(mut self, message: &[u8], time: u32) -> Reported
+        ensures { λ r. ⌜ r ≡ reportOf self (now (message .entry)) time ⌝ }
+    {
+        let latest = later(self.latest, time);
+        let step = self.reported_by(message, latest);
+        let paths = step.paths;
+        let answer = step.answer;
         self.paths = paths;
-        self.latest = now;
+        self.latest = latest;
         Reported { answer, node: self }
     }
 }

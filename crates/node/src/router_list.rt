@@ -1,10 +1,12 @@
 // The call with a new router list.
 use super::Node;
+use super::Service;
 use super::ServiceName;
 use super::later;
 use refusals::Refusal;
+use routers::RouterList;
 ghost use mathlib.Core.Path.{_≡_};
-ghost use Rattle.node.specs.RouterList.{listGiven, listRefusal, replaceOf};
+ghost use Rattle.node.specs.RouterList.{listGiven, listRefusal, replacedBy, replaceOf};
 
 pub enum ListAnswer {
     Replaced,
@@ -39,6 +41,37 @@ fn list_refusal(there: bool) -> Refusal
     }
 }
 
+// The answer to a new list, and the list in force afterwards.
+pub struct ListStep {
+    pub answer: ListAnswer,
+    pub routers: RouterList,
+}
+
+// What a service makes of it at the latest time; 11 where the node has none such.
+pub fn replaced_by(
+    there: bool,
+    service: Service,
+    latest: u32,
+    addresses: [u32; 16],
+    count: usize,
+) -> ListStep
+    ensures { λ r. ⌜ r ≡ replacedBy there service latest addresses count ⌝ }
+{
+    let settings = service.settings;
+    let old = service.routers;
+    if there & settings.routers_right(addresses, count) {
+        let routers = old.replaced(addresses, count, latest);
+        return ListStep {
+            answer: ListAnswer::Replaced,
+            routers,
+        };
+    }
+    ListStep {
+        answer: ListAnswer::Refused(list_refusal(there)),
+        routers: old,
+    }
+}
+
 impl Node {
     // The first `count` of the addresses are the router list of the service from now on.
     pub fn replace_routers(
@@ -50,24 +83,18 @@ impl Node {
     ) -> Replaced
         ensures { λ r. ⌜ r ≡ replaceOf self name addresses count time ⌝ }
     {
-        let now = later(self.latest, time);
         let mut service = self.service(name);
-        let settings = service.settings;
-        let there = self.has(name);
-        if there & settings.routers_right(addresses, count) {
-            let old = service.routers;
-            let routers = old.replaced(addresses, count, now);
-            service.routers = routers;
-            let node = self.put_back(name, service, time);
-            return Replaced {
-                answer: ListAnswer::Replaced,
-                node,
-            };
-        }
+        let step = replaced_by(
+            self.has(name),
+            service,
+            later(self.latest, time),
+            addresses,
+            count,
+        );
+        let routers = step.routers;
+        service.routers = routers;
+        let answer = step.answer;
         let node = self.put_back(name, service, time);
-        Replaced {
-            answer: ListAnswer::Refused(list_refusal(there)),
-            node,
-        }
+        Replaced { answer, node }
     }
 }

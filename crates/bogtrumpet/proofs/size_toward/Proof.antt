@@ -30,7 +30,7 @@ use Rattle.bogtrumpet.proofs.size_toward.Code as code
 pub size-toward-spec : {M : Type 1} → stated.statement M
 unfolding code.routine
 size-toward-spec 𝓤 H 𝓜 𝓖 𝓡 =
-    looked #g (param (a-number w8) ∷ param (a-struct 𝓤 H (𝓖 .A) (givenOf 𝓤 H 𝓜 𝓖) P.the-type P′.the-laws refl (λ x. tt) (λ x f. refl)) ∷ param (a-number w32) ∷ []) u16 (tyInt w16) (λ κs x. x .0) (λ κs x. lastQuad (bytesOf (x .1 .0))) (λ κs latest x. max latest (x .1 .1 .0)) (λ κs x both size. size)
+    looked #g (param (a-number w8) ∷ param (a-struct 𝓤 H (𝓖 .A) (givenOf 𝓤 H 𝓜 𝓖) P.the-type P′.the-laws refl (λ x. tt) (λ x f. refl)) ∷ param (a-number w32) ∷ []) 0 u16 (tyInt w16) (λ κs x. x .0) (λ κs x. lastQuad (bytesOf (x .1 .0))) (λ κs latest x. max latest (x .1 .1 .0)) (λ κs x both size. size)
     (λ κs a r e. r ≡ pathSizeToward (now (a .0)) (nameOf (a .1 .0)) (bytesOf (a .1 .1 .0)) (a .1 .1 .1 .0)) 𝓤 H 𝓜 𝓖 𝓡 code.env #f (code.unfolded 𝓤 H 𝓜 𝓡)
     (cited 𝓤 H (tripleOf 𝓤 H (𝓖 .A) g.signature (g.spec 𝓤 H (𝓖 .A) (𝓜 .mem) (𝓡 .run))) 𝓜 𝓡 code.env #g g-def.routine code.calls-bogtrumpet·sizes·size-toward (g-thm.met 𝓤 H 𝓜 𝓖 𝓡))
-    (λ r v is. uint-lawful 𝓤 H (𝓖 .A) (givenOf 𝓤 H 𝓜 𝓖) w16 .typed r (v ∷ []) is .0) (λ κs a r e said. said ∙ size-toward (now (a .0)) (nameOf (a .1 .0)) (bytesOf (a .1 .1 .0)) (a .1 .1 .1 .0))
+    (λ r v is. uint-lawful 𝓤 H (𝓖 .A) (givenOf 𝓤 H 𝓜 𝓖) w16 .typed r (v ∷ []) is .0) tt (λ κs x. refl) (λ κs a r e said. said ∙ size-toward (now (a .0)) (nameOf (a .1 .0)) (bytesOf (a .1 .1 .0)) (a .1 .1 .1 .0))

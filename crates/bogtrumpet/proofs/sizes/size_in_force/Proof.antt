@@ -1,4 +1,4 @@
--- `sizes::size_in_force` meets its contract: `paths::size_among` over the link of the service, where this is there. Assumes nothing.
+-- `sizes::size_in_force` meets its contract: `paths::size_among` over the link, where the service is there. Assumes nothing.
 use native.Mathlib.Omega.{arith}
 use Rattle.bogtrumpet.specs.Steps.{sizedStep}
 use Rattle.bogtrumpet.proofs.sizes.size_in_force.Statement.{statement}
@@ -8,7 +8,7 @@ returns : tie.Need-returns
 unfolding sizedStep
 returns c =
     let d = c .before .before in
-    simp (c .plain-sized .ensures, ← d .there .ensures, c .before .if1 .taken, d .before .size-among .ensures, d .before .before .link-of .ensures)
+    simp (c .plain-sized .ensures, ← d .there .ensures, c .before .if1 .taken, d .before .size-among .ensures)
 
 returns-2 : tie.Need-returns-2
 unfolding sizedStep
@@ -19,4 +19,4 @@ returns-2 c =
 pub size-in-force-spec : {M : Type 1} → statement M
 size-in-force-spec =
     tie.close
-    (tie.spec (omega arith) (omega arith) (omega arith) (omega arith) (omega arith) returns returns-2)
+    (tie.spec (omega arith) (omega arith) (omega arith) (omega arith) returns returns-2)

@@ -1,4 +1,4 @@
--- `steps::advertised` meets its contract: the node's answer made plain. Assumes nothing.
+-- `steps::advertised` meets its contract: what `node::advertise::advertised_by` answers, made plain, and its output. Assumes nothing.
 use native.Mathlib.Omega.{arith}
 use Rattle.bogtrumpet.proofs.steps.advertised.Statement.{statement}
 use Rattle.bogtrumpet.proofs.steps.advertised.Tie as tie
@@ -7,9 +7,8 @@ returns : tie.Need-returns
 returns c =
     let a = c .before .before .before in
     let told = a .before .before .advertisement-from .ensures in
-    let name = a .before .before .before .name-of .ensures in
-    let both = a .before .before .before .before .both-for .ensures in
-    (rw (c .plain-advertised .ensures, a .advertise .ensures .0, told, name, both), rw (a .advertise .ensures .1, told, name, both))
+    let there = a .before .before .before .there .ensures in
+    (rw (c .plain-advertised .ensures, a .advertised-by .ensures .0, told, there), rw (a .advertised-by .ensures .1, told, there))
 
 pub advertised-spec : {M : Type 1} → statement M
-advertised-spec = tie.close (tie.spec (omega arith) (omega arith) (omega arith) (omega arith) (omega arith) (omega arith) returns)
+advertised-spec = tie.close (tie.spec (omega arith) (omega arith) (omega arith) (omega arith) (omega arith) returns)
