@@ -101,8 +101,8 @@ fn smaller(a: u16, b: u16) -> u16
     if a < b { a } else { b }
 }
 
-// The size in force over a link toward a neighbour at a time, of a table whose rows are lent: one pass over those in use, and
-// nothing is copied.
+// The size in force over a link toward a neighbour at a time, of a table whose rows are lent: one pass over those in use, where
+// there are any, and nothing is copied.
 pub fn size_among<'a>(
     link: u16,
     neighbours: &'a [u32],
@@ -114,6 +114,9 @@ pub fn size_among<'a>(
 ) -> u16
     ensures { λ r. ⌜ r ≡ inForce link (keptAmong (now (neighbours .entry)) (now (sizes .entry)) (now (times .entry)) count neighbour time) ⌝ }
 {
+    if count == 0 {
+        return link;
+    }
     let rows = lists::least(lists::least(neighbours.len(), sizes.len()), times.len());
     let used = lists::least(count, rows);
     let p = row_in_lent(neighbours, used, neighbour);

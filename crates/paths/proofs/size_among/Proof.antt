@@ -6,24 +6,29 @@ use Rattle.paths.proofs.size_among.Statement.{statement}
 use Rattle.paths.proofs.size_among.Tie as tie
 
 scanned : (c : tie.After-row-in-lent)
-    → let a = c .before .before .before .before .before .before .before .args in
+    → let a = c .before .before .before .before .before .before .before .before .args in
     Scanned (a .neighbours .now) (a .sizes .now) (a .times .now) (a .count) (a .neighbour) (c .before .least3 .result) (c .row-in-lent .result)
 scanned c = record { used = omega arith; row = c .row-in-lent .ensures }
 
+-- a table in which no row is in use keeps nothing
 returns : tie.Need-returns
-returns c =
-    let p = c .before .before .before .before .before in
-    rw (kept-at (scanned p) (p .before .before .before .before .before .before .before .args .time), lt-ltb _ _ (c .before .before .before .before .if1 .taken), ← c .before .while-young .ensures)
-    (c .in-force .ensures)
+unfolding inForce
+returns c = rw (c .if1 .taken)
 
 returns-2 : tie.Need-returns-2
-unfolding inForce
 returns-2 c =
+    let p = c .before .before .before .before .before in
+    rw (kept-at (scanned p) (p .before .before .before .before .before .before .before .before .args .time), lt-ltb _ _ (c .before .before .before .before .if2 .taken), ← c .before .while-young .ensures)
+    (c .in-force .ensures)
+
+returns-3 : tie.Need-returns-3
+unfolding inForce
+returns-3 c =
     let p = c .before in
-    rw (kept-at (scanned p) (p .before .before .before .before .before .before .before .args .time), le-ltb _ _ (c .if1 .left))
+    rw (kept-at (scanned p) (p .before .before .before .before .before .before .before .before .args .time), le-ltb _ _ (c .if2 .left))
 
 pub size-among-spec : {M : Type 1} → statement M
 size-among-spec =
     tie.close
-    (tie.spec (omega arith) (omega arith) (omega arith) (omega arith) (omega arith) (omega arith) (omega arith) (omega arith) (omega arith) (omega arith)
-    returns returns-2)
+    (tie.spec returns (omega arith) (omega arith) (omega arith) (omega arith) (omega arith) (omega arith) (omega arith) (omega arith) (omega arith) (omega arith)
+    returns-2 returns-3)
