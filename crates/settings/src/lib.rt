@@ -96,11 +96,14 @@ impl Settings {
         locators::has_locator(all, 0, self.locator_count, a, interface)
     }
 
-    // Whether the address can be no tunnel end and no router: forbidden, or our own.
+    // Whether the address can be no tunnel end and no router: forbidden, or our own. What is forbidden is not looked for among the locators.
     pub fn bad_end(self, a: u32) -> bool
         ensures { λ r. ⌜ r ≡ isBadEnd self a ⌝ }
     {
-        self.forbidden_to(a) | self.ours(a)
+        if self.forbidden_to(a) {
+            return true;
+        }
+        self.ours(a)
     }
 
     fn some_locator_forbidden(self) -> bool
