@@ -85,7 +85,7 @@ extern "C" {
 
 #define BOGTRUMPET_MEMORY 16384 /* the memory that bogtrumpet_receive is lent, in bytes */
 
-#define BOGTRUMPET_STACK 16384 /* bytes of stack that suffice for any call */
+#define BOGTRUMPET_STACK 8192 /* bytes of stack that suffice for any call */
 
 /* ---- Numbers ------------------------------------------------------------------------------------------------------ */
 

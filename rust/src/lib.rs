@@ -5,7 +5,7 @@
 //! as the part of the output that holds it. The library, `libbogtrumpet.a`, is machine code for x86-64 and ELF (`make` of the repository);
 //! the build script looks for it in `../target/staticlib`, or in the folder that `BOGTRUMPET_LIB_DIR` names.
 //!
-//! No call allocates, blocks, panics or keeps what it is lent. One needs at most 16 KiB of stack. After a refusal the output is as it
+//! No call allocates, blocks, panics or keeps what it is lent. One needs at most 8 KiB of stack. After a refusal the output is as it
 //! was and the node too, but for its latest time; of pieces of datagrams [`Node::receive`] says what else may have changed. Bytes of an
 //! output behind what was written stay as they were. Time is a count of seconds that the caller hands over; one earlier than the latest is
 //! read as the latest.

@@ -40,7 +40,7 @@ fn main() {
     let words: Vec<String> = std::env::args().skip(1).collect();
     let number = |place: usize, default: u64| words.get(place).map_or(default, |word| word.parse().expect("a number"));
     if words.first().is_some_and(|word| word == "stack") {
-        exit(if stack::stack(number(1, 16384) as usize) { 0 } else { 1 });
+        exit(if stack::stack(number(1, 8192) as usize) { 0 } else { 1 });
     }
     compare(&mut Check::new(number(0, 1)), number(1, 5_000_000), words.len() < 3);
 }
