@@ -117,6 +117,13 @@ pub fn right(s: &[u8]) -> bool
     right_from(0, s)
 }
 
+// Whether the checksum is right of words that were added up exactly, its own among them.
+pub fn right_words(words: u32) -> bool
+    ensures { λ r. ⌜ r ≡ isRightFrom words [] ⌝ }
+{
+    sum_of_words(words) == ALL_ONES
+}
+
 // Whether the checksum that s holds is right, the sum continued from a start value.
 pub fn right_from(start: u32, s: &[u8]) -> bool
     ensures { λ r. ⌜ r ≡ isRightFrom start (now (s .entry)) ⌝ }

@@ -8,6 +8,8 @@ pub mod DrawsLaws
 pub mod ByChain
 pub mod Examples
 pub mod Padded
+pub mod Words
+pub mod Implied
 pub mod WriterLaws
 pub mod Right
 pub mod ReadBack

@@ -5,8 +5,9 @@ use crate::fields;
 use refusals::Check;
 use refusals::Refusal;
 ghost use mathlib.Core.Path.{_≡_};
-ghost use Prim.Native.Nat.{_≤_};
-ghost use lib.ListN.{length};
+ghost use Prim.Native.Nat.{_+_, _/_, _%_, _≤_};
+ghost use lib.ListN.{length, take};
+ghost use Rattle.checksum.specs.Folding.{wordSum};
 ghost use Rattle.header.specs.Numbers.{outerHeader};
 ghost use Rattle.header.specs.Outer.{outerOf, isOuterMalformed, isSumWrong, headerCheck, outerGiven, headerReadOf, outerReadOf, payloadOf, quoteOf, isQuoteMalformed};
 
@@ -54,17 +55,17 @@ fn full_header(d: &[u8]) -> Outer
     requires { ⌜ outerHeader ≤ length (now d) ⌝ }
     ensures { λ r. ⌜ r ≡ outerOf (now (d .entry)) ⌝ }
 {
-    let first = d[0];
-    let total = fields::pair(d[2], d[3]);
-    let flags = fields::pair(d[6], d[7]);
-    let source = address::quad(d[12], d[13], d[14], d[15]);
-    let destination = address::quad(d[16], d[17], d[18], d[19]);
+    let first = fields::quad_in(d, 0);
+    let second = fields::quad_in(d, 4);
+    let third = fields::quad_in(d, 8);
+    let source = fields::quad_in(d, 12);
+    let destination = fields::quad_in(d, 16);
     Outer {
-        version: first / 16,
-        header: (first % 16) as usize * 4,
-        total: total as usize,
-        fragment: flags % 16384,
-        protocol: d[9],
+        version: (first / 268435456) as u8,
+        header: (first / 16777216 % 16) as usize * 4,
+        total: (first % 65536) as usize,
+        fragment: (second % 16384) as u16,
+        protocol: (third / 65536 % 256) as u8,
         source,
         destination,
     }
@@ -80,22 +81,37 @@ fn short_header(d: &[u8]) -> Outer
     full_header(&padded)
 }
 
-// Number 2, of a datagram of n bytes.
+// Number 2, of a datagram of n bytes. A header that is no longer than the total length, which the bytes have, is no longer than these.
 pub fn malformed(n: usize, o: Outer) -> bool
     ensures { λ r. ⌜ r ≡ isOuterMalformed n o ⌝ }
 {
-    (n < OUTER_HEADER)
-        | (o.version != 4)
-        | (o.header < OUTER_HEADER)
-        | (n < o.header)
-        | (o.total < o.header)
-        | (n < o.total)
+    (o.version != 4) | (o.header < OUTER_HEADER) | (o.total < o.header) | (n < o.total)
 }
 
-// Number 3.
+// The exact sum of the two words of a number.
+fn two_words(x: u32) -> u32
+    ensures { λ r. ⌜ (r ≡ x / 65536 + x % 65536) × (r ≤ 131070) ⌝ }
+{
+    x / 65536 + x % 65536
+}
+
+// The exact sum of the ten words of a header without options, which was read as numbers before.
+fn ten_words(d: &[u8]) -> u32
+    requires { ⌜ outerHeader ≤ length (now d) ⌝ }
+    ensures { λ r. ⌜ (r ≡ wordSum (take outerHeader (now (d .entry)))) × (r ≤ 655350) ⌝ }
+{
+    let first = two_words(fields::quad_in(d, 0)) + two_words(fields::quad_in(d, 4));
+    let second = two_words(fields::quad_in(d, 8)) + two_words(fields::quad_in(d, 12));
+    first + second + two_words(fields::quad_in(d, 16))
+}
+
+// Number 3. Most headers have no options.
 pub fn sum_wrong(d: &[u8], o: Outer) -> bool
     ensures { λ r. ⌜ r ≡ isSumWrong (now (d .entry)) o ⌝ }
 {
+    if (o.header == OUTER_HEADER) & (OUTER_HEADER <= d.len()) {
+        return !checksum::right_words(ten_words(d));
+    }
     let end = lists::least(o.header, d.len());
     !checksum::right(&d[..end])
 }

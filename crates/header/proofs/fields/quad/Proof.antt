@@ -16,12 +16,16 @@ returns c =
       c2 .byte3 .ensures,
       c2 .before .byte2 .ensures,
       c2 .before .before .byte .ensures,
-      c2 .before .before .before .tail .ensures,
+      c2 .before .before .before .before .tail .ensures,
       getD-drop,
       add-zero,
     )
 
+returns-2 : tie.Need-returns-2
+unfolding quadAt
+returns-2 c = simp (c .«quad-in» .ensures, c .before .before .tail .ensures, getD-drop, add-zero)
+
 pub quad-spec : {M : Type 1} → statement M
 quad-spec =
     tie.close
-    (tie.spec (search needs) (search needs) (search needs) (search needs) (search needs) (search needs) returns)
+    (tie.spec (search needs) (search needs) (search needs) (search needs) (search needs) (search needs) (search needs) returns returns-2)

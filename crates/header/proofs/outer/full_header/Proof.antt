@@ -1,18 +1,16 @@
--- `header::outer::full_header` meets its contract: each field is read at its place. Assumes nothing.
-use native.Mathlib.Omega.{arith}
-use Rattle.header.specs.Fields.{wordAt, quadAt}
-use Rattle.header.specs.Outer.{outerOf}
+-- `header::outer::full_header` meets its contract: each field is a part of the number that holds it. Assumes nothing.
+use borrow.Author.Needs.{needs}
+use Rattle.header.proofs.Words.{outer-in}
 use Rattle.header.proofs.outer.full_header.Statement.{statement}
 use Rattle.header.proofs.outer.full_header.Tie as tie
 
 returns : tie.Need-returns
-unfolding outerOf wordAt quadAt
 returns c =
-    let c6 = c .before .before .before .before .before .before in
-    let c11 = c6 .before .before .before .before .before in
-    rw (c .before .quad2 .ensures, c6 .quad .ensures, c11 .pair2 .ensures, c11 .before .before .before .pair .ensures)
+    let c2 = c .before .before in
+    rw (c .quad-in5 .ensures, c .before .quad-in4 .ensures, c2 .quad-in3 .ensures, c2 .before .quad-in2 .ensures, c2 .before .before .quad-in .ensures)
+    (outer-in (c2 .before .before .before .before .args .d .now) (λ i. c2 .before .before .before .shared-slice-known .given i .fits))
 
 pub full-header-spec : {M : Type 1} → statement M
 full-header-spec =
     tie.close
-    (tie.spec (omega arith) (omega arith) (omega arith) (omega arith) (omega arith) (omega arith) (omega arith) (omega arith) (omega arith) (omega arith) (omega arith) (omega arith) (omega arith) (omega arith) (omega arith) (omega arith) (omega arith) (omega arith) (omega arith) (omega arith) (omega arith) returns)
+    (tie.spec (search needs) (search needs) (search needs) (search needs) (search needs) (search needs) (search needs) (search needs) (search needs) (search needs) (search needs) returns)
