@@ -15,10 +15,14 @@ pub enum Embedded {
     Nothing,
 }
 
-// Whether no locator, router, outer source or tunnel end may have the address.
+// Whether no locator, router, outer source or tunnel end may have the address. Half of all addresses lie between 0.0.0.0 and 127.0.0.0, and
+// are told at once.
 pub fn forbidden(a: u32) -> bool
     ensures { λ r. ⌜ r ≡ isForbidden a ⌝ }
 {
+    if (1 <= a) & (a <= 0x7effffff) {
+        return false;
+    }
     (a == 0)
         | (((0x7f000000 <= a) & (a <= 0x7fffffff))
             | (((0xe0000000 <= a) & (a <= 0xefffffff)) | (a == 0xffffffff)))
