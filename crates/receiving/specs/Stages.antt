@@ -2,16 +2,18 @@
 -- `outerReadOf`). That they are the tables of `receiveRows` and `arrivalRows` is proved. No contract of node, boundary or program rests on this.
 use Prim.Native.Nat.{ℕ, _<_}
 use mathlib.Core.Path.{_≡_}
-use mathlib.Core.Bool.{Bool, false, cond, not}
+use mathlib.Core.Bool.{Bool, false, cond, not, _&&_}
 use mathlib.Core.List.{List, [], _∷_}
 use lib.ListN.{length}
+use lib.Dec.{eqb}
+use Rattle.address.specs.Address.{isLinkLocal, isIdentifier}
 use Rattle.address.specs.Quads.{bytesIn}
 use Rattle.refusals.specs.Refusals.{firstOf, stopOr}
 use Rattle.refusals.specs.declared.Refusal.{Refusal}
 use Rattle.refusals.specs.declared.Refusal.the-variants.{NotForUs, OuterSourceForbidden}
 use Rattle.refusals.specs.declared.Check.{Check}
 use Rattle.header.specs.Outer.{outerOf, payloadOf, readWith, readOr}
-use Rattle.header.specs.Inner.{innerOf}
+use Rattle.header.specs.Inner.{innerOf, isInnerMalformed}
 use Rattle.header.specs.declared.outer.Outer.{Outer}
 use Rattle.header.specs.declared.outer.OuterRead.{OuterRead}
 use Rattle.header.specs.declared.outer.OuterRead.the-variants as read
@@ -58,6 +60,12 @@ arrivalOf s interface lent d = readWith (firstOf (arrivalRows s interface lent d
 abbrev pub innerIn : Opening → Inner
 innerIn x = record { version = x .version; length = x .packet; next = 0; hop = 0; source = bytesIn (x .address) }
 
+-- whether 8 to 10 let it pass whatever settings and routers there are: a whole packet from a link-local ISATAP address that embeds the outer source
+unfoldable pub passesAnyhow : Opening → Bool
+passesAnyhow x =
+    let source : List ℕ = bytesIn (x .address) in
+    not (isInnerMalformed (x .length) (innerIn x)) && (isLinkLocal source && isIdentifier source && eqb (x .address .last) (x .source))
+
 -- where an inner packet of n bytes stands: in the memory if it was joined there, else in the datagram
 abbrev pub placedAt : Bool → ℕ → ℕ → Received
 placedAt joined offset n = cond joined (Joined offset n) (Delivered offset n)
@@ -66,6 +74,7 @@ placedAt joined offset n = cond joined (Joined offset n) (Delivered offset n)
 unfoldable pub judgedOf : Settings → List Router → Stage → Received
 judgedOf s routers (stage.Open x) =
     stopOr Refused (innerCheck s (listed (x .source) routers) (x .source) (x .length) (innerIn x)) (placedAt (x .joined) (x .offset) (x .packet))
+judgedOf s routers (stage.Passed p) = placedAt (p .joined) (p .offset) (p .length)
 judgedOf s routers (stage.Refused r) = Refused r
 
 -- what is read says all that is asked: what is judged of it is that answer, whatever settings and routers there are

@@ -5,6 +5,7 @@ use address::prefixes;
 use address::quads;
 use address::quads::Quads;
 use header::INNER_HEADER;
+use header::fields;
 use header::inner;
 use header::inner::Inner;
 use refusals::Check;
@@ -18,7 +19,7 @@ ghost use Rattle.header.specs.Inner.{isInnerMalformed};
 ghost use Rattle.settings.specs.Settings.{forbiddenTo};
 ghost use Rattle.routers.specs.Routers.{live, listed};
 ghost use Rattle.receiving.specs.Receive.{embeds, isSourceRight};
-ghost use Rattle.receiving.specs.Stages.{innerIn, innerCheck, placedAt, openedOf, judgedOf, ReadAs};
+ghost use Rattle.receiving.specs.Stages.{innerIn, passesAnyhow, innerCheck, placedAt, openedOf, judgedOf, ReadAs};
 
 // What 8 to 10 are asked of: whether it was joined in the memory, and where it stands there or in the datagram; the outer source and the
 // payload's length; and of the inner header the version, the packet's length and the source address.
@@ -32,10 +33,27 @@ pub struct Opening {
     pub address: Quads,
 }
 
-// That, or the number.
+// Where an inner packet stands, and its length.
+pub struct Standing {
+    pub joined: bool,
+    pub offset: usize,
+    pub length: usize,
+}
+
+// What is to be judged; or where the packet stands, if 8 to 10 let it pass whatever settings and routers there are; or the number.
 pub enum Stage {
     Open(Opening),
+    Passed(Standing),
     Refused(Refusal),
+}
+
+// Whether 8 to 10 let it pass whatever settings and routers there are: a whole packet from a link-local ISATAP address that embeds the outer
+// source. Such an address is on-link everywhere, and no bad one.
+fn passes_anyhow(x: Opening) -> bool
+    ensures { λ r. ⌜ r ≡ passesAnyhow x ⌝ }
+{
+    let q = x.address;
+    !malformed(x) & (quads::link_local_prefixed(q) & quads::identifier(q) & (q.last == x.source))
 }
 
 // What is read of a payload from that outer source. Its length is asked first, so that the header is then read without asking it again.
@@ -45,17 +63,25 @@ pub fn read_inner(joined: bool, offset: usize, source: u32, payload: &[u8]) -> S
     if payload.len() < INNER_HEADER {
         return Stage::Refused(Refusal::InnerMalformed);
     }
-    let i = inner::inner_header(payload);
-    let a = i.source;
+    let address = fields::quads(payload, 8);
+    let packet = INNER_HEADER + fields::word(payload, 4) as usize;
     let x = Opening {
         joined,
         offset,
         source,
         length: payload.len(),
-        version: i.version,
-        packet: i.length,
-        address: quads::numbers(a),
+        version: fields::byte(payload, 0) / 16,
+        packet,
+        address,
     };
+    if passes_anyhow(x) {
+        let standing = Standing {
+            joined,
+            offset,
+            length: packet,
+        };
+        return Stage::Passed(standing);
+    }
     Stage::Open(x)
 }
 
@@ -122,13 +148,13 @@ fn check_inner(settings: Settings, routers: RouterList, x: Opening) -> Check
     Check::Pass
 }
 
-// Where the inner packet stands: its length is by its header.
-fn placed(x: Opening) -> Received
-    ensures { λ r. ⌜ r ≡ placedAt (x .joined) (x .offset) (x .packet) ⌝ }
+// Where the inner packet stands.
+fn placed(at: Standing) -> Received
+    ensures { λ r. ⌜ r ≡ placedAt (at .joined) (at .offset) (at .length) ⌝ }
 {
-    let offset = x.offset;
-    let length = x.packet;
-    if x.joined {
+    let offset = at.offset;
+    let length = at.length;
+    if at.joined {
         return Received::Joined { offset, length };
     }
     Received::Delivered { offset, length }
@@ -142,10 +168,15 @@ pub fn judge(settings: Settings, routers: RouterList, stage: Stage) -> Received
         Stage::Open(x) => {
             let check = check_inner(settings, routers, x);
             match check {
-                Check::Pass => placed(x),
+                Check::Pass => placed(Standing {
+                    joined: x.joined,
+                    offset: x.offset,
+                    length: x.packet,
+                }),
                 Check::Stop(refusal) => Received::Refused(refusal),
             }
         }
+        Stage::Passed(at) => placed(at),
         Stage::Refused(refusal) => Received::Refused(refusal),
     }
 }

@@ -19,7 +19,13 @@ returns-2 c =
 
 returns-3 : tie.Need-returns-3
 unfolding judgedOf
-returns-3 c = rw (c .before .stage2 .given .1)
+returns-3 c = rw (c .before .before .stage2 .given .1, c .placed2 .ensures)
+
+returns-4 : tie.Need-returns-4
+unfolding judgedOf
+returns-4 c = rw (c .before .stage3 .given .1)
 
 pub judge-spec : {M : Type 1} → statement M
-judge-spec = tie.close (tie.spec (search needs) (omega arith) (search needs) (omega arith) (search needs) (search needs) returns returns-2 returns-3)
+judge-spec =
+    tie.close
+    (tie.spec (search needs) (search needs) (search needs) (search needs) (search needs) (search needs) (search needs) (search needs) returns returns-2 returns-3 returns-4)
