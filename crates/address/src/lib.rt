@@ -4,6 +4,7 @@ pub mod prefixes;
 pub mod quads;
 
 ghost use mathlib.Core.Path.{_≡_};
+ghost use Prim.Native.Nat.{_/_, _%_};
 ghost use Rattle.address.specs.Address.{isForbidden, quadOf, lastQuad, isLinkLocal, isOnLink, isIdentifier, embeddedIn, linkLocalOf, isUnspecified, isMulticastOrUnspecified, isBadSource};
 
 // The first identifier byte of an address that we form.
@@ -28,11 +29,25 @@ pub fn forbidden(a: u32) -> bool
             | (((0xe0000000 <= a) & (a <= 0xefffffff)) | (a == 0xffffffff)))
 }
 
-// Four bytes as a number, the first the highest.
+// Four bytes as the machine reads a number, the first the low-order one: of bytes that lie together the compiler makes one load.
+fn machine_number(a: u8, b: u8, c: u8, d: u8) -> u32
+    ensures { λ r. ⌜ (r % 256 ≡ a) × (r / 256 % 256 ≡ b) × (r / 65536 % 256 ≡ c) × (r / 16777216 ≡ d) ⌝ }
+{
+    (a as u32) + (b as u32) * 256 + (c as u32) * 65536 + (d as u32) * 16777216
+}
+
+// A number with its bytes exchanged: the compiler makes one instruction of it.
+fn exchanged(x: u32) -> u32
+    ensures { λ r. ⌜ r ≡ quadOf (x % 256) (x / 256 % 256) (x / 65536 % 256) (x / 16777216) ⌝ }
+{
+    x % 256 * 16777216 + x / 256 % 256 * 65536 + x / 65536 % 256 * 256 + x / 16777216
+}
+
+// Four bytes as a number, the first the highest. Put together in that order at once it would be taken apart again where a part of it is used.
 pub fn quad(a: u8, b: u8, c: u8, d: u8) -> u32
     ensures { λ r. ⌜ r ≡ quadOf a b c d ⌝ }
 {
-    (a as u32) * 16777216 + (b as u32) * 65536 + (c as u32) * 256 + (d as u32)
+    exchanged(machine_number(a, b, c, d))
 }
 
 // The last 32 bits of an IPv6 address.

@@ -4,7 +4,6 @@ ghost use mathlib.Core.Path.{_≡_};
 ghost use Prim.Native.Nat.{_+_, _*_, _/_, _%_, _≤_};
 ghost use mathlib.Core.List.{[]};
 ghost use lib.ListN.{getD, drop, length};
-ghost use Rattle.address.specs.Address.{quadOf};
 ghost use Rattle.address.specs.Quads.{bytesIn, quadsOf};
 ghost use Rattle.header.specs.Fields.{wordAt, quadAt, bytesFrom, addressAt};
 ghost use Rattle.header.specs.Wrap.{be16, be32};
@@ -83,34 +82,12 @@ pub fn quad(d: &[u8], k: usize) -> u32
     }
 }
 
-// Four bytes as a number, the first the low-order one.
-fn machine_number(a: u8, b: u8, c: u8, d: u8) -> u32
-    ensures { λ r. ⌜ (r % 256 ≡ a) × (r / 256 % 256 ≡ b) × (r / 65536 % 256 ≡ c) × (r / 16777216 ≡ d) ⌝ }
-{
-    (a as u32) + (b as u32) * 256 + (c as u32) * 65536 + (d as u32) * 16777216
-}
-
-// The four bytes from i on as the machine reads a number: the compiler makes one load of it.
-fn machine_quad(d: &[u8], i: usize) -> u32
-    requires { ⌜ i + 4 ≤ length (now d) ⌝ }
-    ensures { λ r. ⌜ (r % 256 ≡ getD (now (d .entry)) i 0) × (r / 256 % 256 ≡ getD (now (d .entry)) (i + 1) 0) × (r / 65536 % 256 ≡ getD (now (d .entry)) (i + 2) 0) × (r / 16777216 ≡ getD (now (d .entry)) (i + 3) 0) ⌝ }
-{
-    machine_number(d[i], d[i + 1], d[i + 2], d[i + 3])
-}
-
-// A number with its bytes exchanged: the compiler makes one instruction of it.
-fn exchanged(x: u32) -> u32
-    ensures { λ r. ⌜ r ≡ quadOf (x % 256) (x / 256 % 256) (x / 65536 % 256) (x / 16777216) ⌝ }
-{
-    x % 256 * 16777216 + x / 256 % 256 * 65536 + x / 65536 % 256 * 256 + x / 16777216
-}
-
-// The 32 bits at i, which are there. A number that is put together from its bytes, highest first, would be taken apart again by the compiler.
+// The 32 bits at i, which are there.
 pub(crate) fn quad_in(d: &[u8], i: usize) -> u32
     requires { ⌜ i + 4 ≤ length (now d) ⌝ }
     ensures { λ r. ⌜ r ≡ quadAt (now (d .entry)) i ⌝ }
 {
-    exchanged(machine_quad(d, i))
+    address::quad(d[i], d[i + 1], d[i + 2], d[i + 3])
 }
 
 // The 16 bytes at k, as four numbers.
