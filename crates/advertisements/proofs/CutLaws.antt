@@ -11,7 +11,7 @@ use lib.Seq.{take-all, drop-length}
 use Rattle.header.specs.Fields.{bytesFrom}
 use Rattle.lent.specs.Written.{writtenAt}
 use Rattle.lent.proofs.Laws.{writtenAt-first, writtenAt-more}
-use Rattle.messages.proofs.WriterLaws.{bytes-taken}
+use Rattle.header.proofs.Words.{bytes-taken}
 use Rattle.advertisements.specs.Bits.{firstBits, firstBitsOf}
 use Rattle.advertisements.proofs.BitLaws.{power, first-bits-append, length-first-bits-of, getD-first-bits-of}
 use Rattle.advertisements.proofs.FirstBitLaws.{bit-left}

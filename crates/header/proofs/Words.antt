@@ -14,11 +14,10 @@ use Rattle.header.specs.Fields.{wordAt, quadAt, bytesFrom, addressAt}
 use Rattle.header.specs.Outer.{outerOf}
 use Rattle.header.specs.declared.outer.Outer.{Outer}
 
--- bytes that are there are read one by one
-pub bytes-there : (n k : ℕ) (d : List ℕ) → k + n ≤ length d → take n (drop k d) ≡ bytesFrom n k d
-bytes-there zero k d h = refl
-bytes-there (suc n) k d h =
-    rw (drop-cons d k 0 (omega arith)) (ap (λ (rest : List ℕ). getD d k 0 ∷ rest) (bytes-there n (suc k) d (omega arith)))
+-- bytes that are all there, read one by one
+pub bytes-taken : (n i : ℕ) (d : List ℕ) → i + n ≤ length d → bytesFrom n i d ≡ take n (drop i d)
+bytes-taken zero i d h = refl
+bytes-taken (suc n) i d h = rw (drop-cons d i 0 (omega arith)) (ap (λ (r : List ℕ). getD d i 0 ∷ r) (bytes-taken n (suc i) d (omega arith)))
 
 -- what is read of bytes are bytes
 bytes-fit : (n k : ℕ) (d : List ℕ) → ((i : ℕ) → Fits w8 (getD d i 0)) → (i : ℕ) → Fits w8 (getD (bytesFrom n k d) i 0)
@@ -45,7 +44,7 @@ module _ (d : List ℕ) (long : outerHeader ≤ length d) (byte : (i : ℕ) → 
   -- the exact sum of the words of a header without options
   pub ten-words : twoWords (quadAt d 0) + twoWords (quadAt d 4) + (twoWords (quadAt d 8) + twoWords (quadAt d 12)) + twoWords (quadAt d 16) ≡ wordSum (take outerHeader d)
   unfolding wordSum
-  ten-words = rw (bytes-there 20 0 d long, at 0, at 4, at 8, at 12, at 16) (omega arith)
+  ten-words = rw (sym (bytes-taken 20 0 d long), at 0, at 4, at 8, at 12, at 16) (omega arith)
 
 -- the fields of the first three numbers of a header
 module _ (a b c d : ℕ) (hb : b < 256) (hc : c < 256) (hd : d < 256) where

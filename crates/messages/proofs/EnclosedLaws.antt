@@ -15,7 +15,8 @@ use Rattle.lent.proofs.Laws.{length-over, writtenAt-more}
 use Rattle.messages.specs.Sealed.{sealed}
 use Rattle.messages.specs.Icmp.{ipv6Header, icmpWith, icmpMessage, icmpPacket, messageHeaders, longestPacket, enclosed}
 use Rattle.messages.proofs.SealedLaws.{sealed-written, sealed-packet}
-use Rattle.messages.proofs.WriterLaws.{length-ipv6Header, bytes-taken}
+use Rattle.header.proofs.Words.{bytes-taken}
+use Rattle.messages.proofs.WriterLaws.{length-ipv6Header}
 
 -- what the test of a packet's length says
 pub fits : (n room : ℕ) {t : Bool} → t ≡ (leb messageHeaders n && leb n longestPacket && leb n room) → t ≡ true

@@ -1,15 +1,15 @@
 -- When a message is written, and how long its header is. Assumes nothing.
-use Prim.Native.Nat.{ℕ, zero, suc, _+_, _≤_, _<_}
-use mathlib.Core.Path.{_≡_, refl, ap}
+use Prim.Native.Nat.{ℕ, _+_, _≤_, _<_}
+use mathlib.Core.Path.{_≡_}
 use mathlib.Core.Bool.{cond}
-use mathlib.Core.List.{List, _∷_}
+use mathlib.Core.List.{List}
 use native.Mathlib.Omega.{arith}
 use borrow.Author.Tests.{lt-ltb, le-ltb}
-use lib.ListN.{length, take, drop, getD, length-append, length-drop}
+use lib.ListN.{length, take, drop, length-append, length-drop}
 use lib.Dec.{ltb}
-use lib.Seq.{drop-cons}
 use Rattle.header.specs.Numbers.{innerHeader}
-use Rattle.header.specs.Fields.{bytesFrom, addressAt}
+use Rattle.header.specs.Fields.{addressAt}
+use Rattle.header.proofs.Words.{bytes-taken}
 use Rattle.refusals.specs.declared.Refusal.the-variants.{InnerMalformed, OutputShort}
 use Rattle.refusals.specs.declared.Check.the-variants.{Pass, Stop}
 use Rattle.messages.specs.Icmp.{ipv6Header, tooBigLength, tooBigCheck, solicitationLength, solicitationCheck}
@@ -42,11 +42,6 @@ solicitation-pass room h = simp (le-ltb _ _ h)
 
 pub length-ipv6Header : (n hop : ℕ) (from to : List ℕ) → length from ≡ 16 → length to ≡ 16 → length (ipv6Header n hop from to) ≡ 40
 length-ipv6Header n hop from to lf lt = rw length-append (omega arith)
-
--- bytes that are all there, read one by one
-pub bytes-taken : (n i : ℕ) (d : List ℕ) → i + n ≤ length d → bytesFrom n i d ≡ take n (drop i d)
-bytes-taken zero i d h = refl
-bytes-taken (suc n) i d h = rw (drop-cons d i 0 (omega arith)) (ap (λ (r : List ℕ). getD d i 0 ∷ r) (bytes-taken n (suc i) d (omega arith)))
 
 -- an address that is all there is a part of its packet
 pub address-taken : (k : ℕ) (d : List ℕ) → k + 16 ≤ length d → addressAt d k ≡ take 16 (drop k d)

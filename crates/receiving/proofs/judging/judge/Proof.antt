@@ -1,6 +1,5 @@
 -- `receiving::judging::judge` meets its contract: by cases on what is read, and on the check. Assumes nothing.
 use borrow.Author.Needs.{needs}
-use native.Mathlib.Omega.{arith}
 use Rattle.receiving.specs.Stages.{judgedOf}
 use Rattle.receiving.proofs.judging.judge.Statement.{statement}
 use Rattle.receiving.proofs.judging.judge.Tie as tie
