@@ -101,26 +101,40 @@ pub fn work(name: String, call: Call, number: u8, nodes: Nodes, input: impl FnMu
     Work { all, ..work_of(name, call, number, nodes, &inputs) }
 }
 
+/// What all turns are given alike.
+struct Given<'a> {
+    service: u8,
+    next_hop: &'a Address,
+    advertised: &'a Advertised,
+    interface: u8,
+    locator: usize,
+    memory: &'a mut [u8],
+    out: &'a mut [u8],
+}
+
 /// Turns of a call, each run from the same node and time, the inputs in turn. Answers are handed to `black_box` where they stand: a
-/// copy of one, read in other pieces than it was written in, would wait for it.
+/// copy of one, read in other pieces than it was written in, would wait for it. What is given is read anew for each turn, from memory that
+/// `black_box` has seen: an instruction for each argument.
 pub fn turns<N: Copy + 'static>(work: &'static Work, start: N, call: impl Fn(&mut N, Turn) + 'static) -> Turns {
     let (mut memory, mut out) = (work.nodes.memory().clone(), vec![0; ROOM]);
     Box::new(move |turns| {
-        let (work, service, interface, locator) = black_box((work, work.nodes.service, work.interface, work.locator));
-        let Work { inputs, next_hop, advertised, step, .. } = work;
+        let Work { inputs, next_hop, advertised, interface, locator, step, .. } = work;
+        let (service, interface, locator) = (work.nodes.service, *interface, *locator);
         let (memory, out) = (&mut memory[..], &mut out[..]);
-        let (mut node, mut time, step) = (start, START, *step);
+        let given = &mut Given { service, next_hop, advertised, interface, locator, memory, out };
+        let given = black_box(given);
+        let (mut node, mut time) = (start, START);
         for lot in (0..turns).step_by(LOT as usize) {
             let left = (turns - lot).min(LOT) as usize;
             for (place, input) in inputs[..left].iter().enumerate() {
                 let place = place % 4;
-                call(
-                    &mut node,
-                    Turn { service, input, next_hop, advertised, interface, locator, time, memory, place, out },
-                );
+                let Given { service, next_hop, advertised, interface, locator, memory, out } = given;
+                let (service, interface, locator) = (*service, *interface, *locator);
+                let turn = Turn { service, input, next_hop, advertised, interface, locator, time, memory, place, out };
+                call(&mut node, turn);
                 time += step;
             }
         }
-        black_box((&node, memory, out));
+        black_box((&node, given));
     })
 }

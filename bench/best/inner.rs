@@ -6,6 +6,8 @@ use super::sum;
 use crate::plain::Refusal;
 
 pub const HEADER: usize = 40;
+/// Where the source stands.
+pub const SOURCE: usize = 8;
 pub const ICMPV6: u8 = 58;
 /// Of the messages of neighbour discovery.
 pub const FULL_HOP_LIMIT: u8 = 255;
@@ -36,7 +38,7 @@ impl<'p> Inner<'p> {
 
     #[inline(always)]
     pub fn source(&self) -> Six {
-        Six::at(self.header, 8)
+        Six::at(self.header, SOURCE)
     }
 
     pub fn next_header(&self) -> u8 {
@@ -54,7 +56,7 @@ impl<'p> Inner<'p> {
 #[inline(always)]
 pub fn is_checksum_right(packet: &[u8]) -> bool {
     let pseudo = (packet.len() - HEADER) as u32 + u32::from(ICMPV6);
-    sum::is_right(sum::added(u64::from(pseudo.swap_bytes()), &packet[8..]))
+    sum::is_right(sum::added(u64::from(pseudo.swap_bytes()), &packet[SOURCE..]))
 }
 
 /// Hands over the first eight bytes of each option, as a word; false where one has length 0 or they do not end where the bytes do.

@@ -33,7 +33,7 @@ mod state;
 pub use outer::wrap;
 pub use sum::checksum;
 
-use crate::plain::{Address, Advertisement, Received, Refusal, Sent, Settings};
+use crate::plain::{Address, Advertisement, Refusal, Sent, Settings};
 use address::word;
 use paths::Paths;
 use service::Service;
@@ -68,19 +68,6 @@ impl Node {
     }
 
     #[inline(never)]
-    pub fn receive(
-        &mut self,
-        service: u8,
-        datagram: &[u8],
-        interface: u8,
-        time: u32,
-        memory: &mut [u8],
-    ) -> Result<Received, Refusal> {
-        let now = self.raise(time);
-        named_mut(&mut self.first, &mut self.second, service)?.receive(datagram, interface, now, memory)
-    }
-
-    #[inline(never)]
     pub fn send(
         &mut self,
         service: u8,
@@ -91,26 +78,26 @@ impl Node {
         out: &mut [u8],
     ) -> Result<Sent, Refusal> {
         let now = self.raise(time);
-        let service = named_mut(&mut self.first, &mut self.second, service)?;
-        service.send(packet, next_hop, locator, &self.paths, now, out)
+        let (service, paths) = self.named_and_paths(service)?;
+        service.send(packet, next_hop, locator, paths, now, out)
     }
 
     #[inline(never)]
     pub fn replace_routers(&mut self, service: u8, routers: &[u32], time: u32) -> Result<(), Refusal> {
         let now = self.raise(time);
-        named_mut(&mut self.first, &mut self.second, service)?.replace_routers(routers, now)
+        self.named_mut(service)?.replace_routers(routers, now)
     }
 
     #[inline(never)]
     pub fn ask(&mut self, service: u8, locator: usize, time: u32, out: &mut [u8]) -> Result<u32, Refusal> {
         let now = self.raise(time);
-        named_mut(&mut self.first, &mut self.second, service)?.ask(locator, now, out)
+        self.named_mut(service)?.ask(locator, now, out)
     }
 
     #[inline(never)]
     pub fn hear(&mut self, service: u8, packet: &[u8], time: u32) -> Result<u32, Refusal> {
         let now = self.raise(time);
-        named_mut(&mut self.first, &mut self.second, service)?.hear(packet, now)
+        self.named_mut(service)?.hear(packet, now)
     }
 
     #[inline(never)]
@@ -139,6 +126,7 @@ impl Node {
         self.latest
     }
 
+    /// The service of that number; 11.
     #[inline(always)]
     fn named(&self, number: u8) -> Result<&Service, Refusal> {
         match (number, &self.second) {
@@ -156,18 +144,20 @@ impl Node {
         }
         self.second.as_ref().filter(|second| second.locators.has(address))
     }
-}
 
-/// The service of that number; 11.
-#[inline(always)]
-fn named_mut<'n>(
-    first: &'n mut Service,
-    second: &'n mut Option<Service>,
-    number: u8,
-) -> Result<&'n mut Service, Refusal> {
-    match (number, second) {
-        (0, _) => Ok(first),
-        (1, Some(second)) => Ok(second),
-        _ => Err(Refusal::NoSuchNumber),
+    /// The service of that number; 11.
+    #[inline(always)]
+    fn named_mut(&mut self, number: u8) -> Result<&mut Service, Refusal> {
+        self.named_and_paths(number).map(|(service, _)| service)
+    }
+
+    /// The same, with the sizes that are kept.
+    #[inline(always)]
+    fn named_and_paths(&mut self, number: u8) -> Result<(&mut Service, &Paths), Refusal> {
+        match (number, &mut self.second) {
+            (0, _) => Ok((&mut self.first, &self.paths)),
+            (1, Some(second)) => Ok((second, &self.paths)),
+            _ => Err(Refusal::NoSuchNumber),
+        }
     }
 }

@@ -2,6 +2,7 @@
 
 use super::address::word;
 use super::bytes::{put_words, upper, word32, word64, word_of};
+use super::pieces::Piece;
 use super::sum::{self, complement};
 use crate::plain::{rules, Refusal};
 
@@ -14,32 +15,27 @@ const FIRST: u8 = 0x45;
 const DONT_FRAGMENT: u16 = 0x4000u16.swap_bytes();
 const MORE_AND_OFFSET: u16 = 0x3fffu16.swap_bytes();
 
-/// An outer header as read. Addresses are words.
-#[derive(Clone, Copy)]
-pub struct Outer {
-    pub header: usize,
-    pub total: usize,
-    pub identification: u16,
-    /// Of a piece, more-fragments and the offset.
-    pub fragment: u16,
-    pub source: u32,
+/// An outer header as read.
+pub struct Outer<'d> {
+    first: u64,
+    second: u64,
+    /// The last word.
     pub destination: u32,
+    /// What stands between the header and the total length.
+    pub payload: &'d [u8],
 }
 
-impl Outer {
-    /// 2, 3, 4.
+impl<'d> Outer<'d> {
+    /// One of that length; 2, 3, 4.
     #[inline(always)]
-    pub fn read(datagram: &[u8]) -> Result<Outer, Refusal> {
+    pub fn read(length: usize, datagram: &'d [u8]) -> Result<Outer<'d>, Refusal> {
         let bytes: &[u8; HEADER] = datagram.first_chunk().ok_or(Refusal::OuterMalformed)?;
         let (first, second, destination) = (word64(bytes, 0), word64(bytes, 8), word32(bytes, 16));
         let total = usize::from(((first >> 16) as u16).swap_bytes());
-        let header = header_length(first as u8).ok_or(Refusal::OuterMalformed)?;
-        if total < header || total > datagram.len() {
-            return Err(Refusal::OuterMalformed);
-        }
+        let payload = datagram.get(length..total).ok_or(Refusal::OuterMalformed)?;
         let mut sum = sum::of_words([first, second, destination.into()]);
-        if header > HEADER {
-            sum = with_options(sum, &datagram[HEADER..header]);
+        if length > HEADER {
+            sum = sum::added((sum >> 32) + (sum & 0xffff_ffff), &datagram[HEADER..length]);
         }
         if !sum::is_right(sum) {
             return Err(Refusal::OuterChecksum);
@@ -47,15 +43,38 @@ impl Outer {
         if (second >> 8) as u8 != TUNNELLED {
             return Err(Refusal::Protocol);
         }
-        Ok(Outer {
-            header,
-            total,
-            identification: (first >> 32) as u16,
-            fragment: ((first >> 48) as u16 & MORE_AND_OFFSET).swap_bytes(),
-            source: upper(second),
-            destination,
-        })
+        Ok(Outer { first, second, destination, payload })
     }
+
+    #[inline(always)]
+    pub fn source(&self) -> u32 {
+        upper(self.second)
+    }
+
+    #[inline(always)]
+    pub fn is_piece(&self) -> bool {
+        self.fragment() != 0
+    }
+
+    /// More-fragments and the offset.
+    #[inline(always)]
+    fn fragment(&self) -> u16 {
+        (self.first >> 48) as u16 & MORE_AND_OFFSET
+    }
+
+    /// What a piece is; 30.
+    #[inline(always)]
+    pub fn piece(&self) -> Result<Piece<'d>, Refusal> {
+        let ends = word_of(self.source(), self.destination);
+        Piece::new(ends, (self.first >> 32) as u16, self.fragment().swap_bytes(), self.payload)
+    }
+}
+
+/// Whether the datagram begins as one that is whole and has no options.
+#[inline(always)]
+pub fn is_simple(datagram: &[u8]) -> bool {
+    const LOOKED_AT: u64 = (MORE_AND_OFFSET as u64) << 48 | 0xff;
+    datagram.first_chunk().is_some_and(|bytes: &[u8; HEADER]| word64(bytes, 0) & LOOKED_AT == FIRST.into())
 }
 
 /// The length of a header that begins so: version 4, and at least 5 words.
@@ -66,11 +85,6 @@ pub fn header_length(first: u8) -> Option<usize> {
         0x46..=0x4f => Some(usize::from(first & 0xf) * 4),
         _ => None,
     }
-}
-
-#[cold]
-fn with_options(sum: u64, options: &[u8]) -> u64 {
-    sum::added((sum >> 32) + (sum & 0xffff_ffff), options)
 }
 
 /// What is the same in all headers that are written from one address.

@@ -1,8 +1,6 @@
 //! The joining of datagrams that came in pieces (R23). Every piece that comes here has protocol 41, so its key is told by the addresses and the
 //! identification.
 
-use super::bytes::word_of;
-use super::outer::Outer;
 use crate::plain::Refusal;
 use std::ops::Range;
 
@@ -21,7 +19,7 @@ const MORE: u16 = 0x2000;
 const OFFSET: u16 = 0x1fff;
 
 /// A piece of a datagram.
-struct Piece<'d> {
+pub struct Piece<'d> {
     /// Source and destination.
     ends: u64,
     identification: u16,
@@ -32,15 +30,15 @@ struct Piece<'d> {
 }
 
 impl<'d> Piece<'d> {
-    /// 30.
-    fn new(outer: &Outer, payload: &'d [u8]) -> Result<Piece<'d>, Refusal> {
-        let more = outer.fragment & MORE != 0;
-        let offset = usize::from(outer.fragment & OFFSET);
-        if payload.is_empty() || UNIT * offset + payload.len() > ROOM || more && payload.len() % UNIT != 0 {
+    /// One with these fields; 30.
+    #[inline(always)]
+    pub fn new(ends: u64, identification: u16, fragment: u16, payload: &'d [u8]) -> Result<Piece<'d>, Refusal> {
+        let (offset, more) = (usize::from(fragment & OFFSET), fragment & MORE != 0);
+        let length = payload.len();
+        if length == 0 || UNIT * offset + length > ROOM || more && length % UNIT != 0 {
             return Err(Refusal::PieceUnfit);
         }
-        let ends = word_of(outer.source, outer.destination);
-        Ok(Piece { ends, identification: outer.identification, offset, more, payload })
+        Ok(Piece { ends, identification, offset, more, payload })
     }
 
     /// Where it ends in the datagram's payload.
@@ -129,21 +127,15 @@ pub struct Collection {
 }
 
 impl Collection {
-    /// Where in the memory the payload of the datagram stands that the piece completes; 30, 29, 28, 27.
-    pub fn take(
-        &mut self,
-        outer: &Outer,
-        payload: &[u8],
-        now: u32,
-        memory: &mut [u8; MEMORY],
-    ) -> Result<Range<usize>, Refusal> {
-        let piece = Piece::new(outer, payload)?;
-        let number = self.place(&piece, now)?;
+    /// Where in the memory the payload of the datagram stands that the piece completes; 29, 28, 27.
+    #[inline(always)]
+    pub fn take(&mut self, piece: &Piece, now: u32, memory: &mut [u8; MEMORY]) -> Result<Range<usize>, Refusal> {
+        let (payload, number) = (piece.payload, self.place(piece, now)?);
         let place = &mut self.places[number];
         let start = ROOM * number;
         let bytes = &mut memory[start + UNIT * piece.offset..][..payload.len()];
-        let (some, all) = place.held_of(&piece);
-        let apart = place.ends_apart(&piece);
+        let (some, all) = place.held_of(piece);
+        let apart = place.ends_apart(piece);
         if apart || some {
             if !apart && all && bytes == payload {
                 return Err(Refusal::PieceWaits);
@@ -152,7 +144,7 @@ impl Collection {
             return Err(Refusal::PiecesDisagree);
         }
         bytes.copy_from_slice(payload);
-        if !place.completes(&piece) {
+        if !place.completes(piece) {
             return Err(Refusal::PieceWaits);
         }
         place.until = 0;

@@ -1,68 +1,99 @@
 //! Receiving (R5, R23).
 
-use super::address::is_forbidden;
+use super::address::{is_forbidden, Six};
 use super::inner::Inner;
-use super::outer::Outer;
+use super::outer::{self, header_length, Outer};
 use super::pieces::MEMORY;
 use super::service::Service;
+use super::Node;
 use crate::plain::{Received, Refusal};
 
-impl Service {
+impl Node {
     /// Where the inner packet stands, also of a datagram that a piece completes; 15, 2, 3, 4, 6, 7, then for a piece 30, 29, 28, 27, and 8,
     /// 9, 10.
-    #[inline(always)]
+    #[inline(never)]
     pub fn receive(
         &mut self,
+        service: u8,
         datagram: &[u8],
         interface: u8,
-        now: u32,
+        time: u32,
         memory: &mut [u8],
     ) -> Result<Received, Refusal> {
+        if !outer::is_simple(datagram) {
+            return self.receive_any(service, datagram, interface, time, memory);
+        }
+        self.raise(time);
+        let service = self.named(service)?;
+        if memory.len() < MEMORY {
+            return Err(Refusal::Room);
+        }
+        let outer = service.arrived(outer::HEADER, datagram, interface)?;
+        service.receive_whole(outer::HEADER, &outer)
+    }
+
+    /// The same of a datagram that may have options, or be a piece.
+    #[inline(never)]
+    fn receive_any(
+        &mut self,
+        service: u8,
+        datagram: &[u8],
+        interface: u8,
+        time: u32,
+        memory: &mut [u8],
+    ) -> Result<Received, Refusal> {
+        let now = self.raise(time);
+        let service = self.named_mut(service)?;
         let memory = memory.first_chunk_mut().ok_or(Refusal::Room)?;
-        let outer = Outer::read(datagram)?;
+        let start = datagram.first().and_then(|&first| header_length(first)).ok_or(Refusal::OuterMalformed)?;
+        let outer = service.arrived(start, datagram, interface)?;
+        if !outer.is_piece() {
+            return service.receive_whole(start, &outer);
+        }
+        let joined = service.pieces.take(&outer.piece()?, now, memory)?;
+        let inner = Inner::read(&memory[joined.clone()])?;
+        service.admit(outer.source(), &inner.source())?;
+        Ok(Received::Joined(joined.start..joined.start + inner.length))
+    }
+}
+
+impl Service {
+    /// The outer header, of that length, of a datagram that is for us, from an address that may send; 2, 3, 4, 6, 7.
+    #[inline(always)]
+    fn arrived<'d>(&self, start: usize, datagram: &'d [u8], interface: u8) -> Result<Outer<'d>, Refusal> {
+        let outer = Outer::read(start, datagram)?;
         if !self.locators.admit(outer.destination, interface) {
             return Err(Refusal::NotOurs);
         }
-        if is_forbidden(outer.source) {
+        if is_forbidden(outer.source()) {
             return Err(Refusal::OuterSource);
         }
-        let payload = &datagram[outer.header..outer.total];
-        if outer.fragment != 0 {
-            return self.receive_piece(&outer, payload, now, memory);
-        }
-        let length = self.admitted(outer.source, payload)?;
-        Ok(Received::Whole(outer.header..outer.header + length))
+        Ok(outer)
     }
 
-    #[inline(never)]
-    fn receive_piece(
-        &mut self,
-        outer: &Outer,
-        payload: &[u8],
-        now: u32,
-        memory: &mut [u8; MEMORY],
-    ) -> Result<Received, Refusal> {
-        let joined = self.pieces.take(outer, payload, now, memory)?;
-        let length = self.admitted(outer.source, &memory[joined.clone()])?;
-        Ok(Received::Joined(joined.start..joined.start + length))
-    }
-
-    /// The length of the inner packet at the start of a datagram's payload, whose outer source may send it; 8, 9, 10.
+    /// Of a whole datagram; 8, 9, 10.
     #[inline(always)]
-    fn admitted(&self, outer_source: u32, payload: &[u8]) -> Result<usize, Refusal> {
-        let inner = Inner::read(payload)?;
+    fn receive_whole(&self, start: usize, outer: &Outer) -> Result<Received, Refusal> {
+        let inner = Inner::read(outer.payload)?;
         let source = inner.source();
-        let embeds = source.embeds(outer_source);
-        // No bad one is link-local.
-        if embeds && source.is_link_local() {
-            return Ok(inner.length);
+        // No bad source is link-local.
+        if source.is_link_local() && source.embeds(outer.source()) {
+            return Ok(Received::Whole(start..start + inner.length));
         }
+        self.admit(outer.source(), &source)?;
+        Ok(Received::Whole(start..start + inner.length))
+    }
+
+    /// Whether that outer source may send a packet of that source; 9, 10.
+    #[inline(always)]
+    fn admit(&self, outer_source: u32, source: &Six) -> Result<(), Refusal> {
         if source.is_bad_source() {
             return Err(Refusal::InnerSource);
         }
-        if embeds && self.prefixes.has(&source) || self.routers.find(outer_source).is_some() {
-            return Ok(inner.length);
+        let embeds = source.embeds(outer_source) && self.prefixes.has(source);
+        if !embeds && !self.routers.has(outer_source) {
+            return Err(Refusal::SourcesDiffer);
         }
-        Err(Refusal::SourcesDiffer)
+        Ok(())
     }
 }

@@ -3,7 +3,7 @@
 use super::address::{is_forbidden, word};
 use super::bytes::{word16, word32};
 use super::outer::{header_length, TUNNELLED};
-use super::sum::{added, is_right};
+use super::sum::{added_here, is_right};
 use super::Node;
 use crate::plain::Refusal;
 
@@ -21,8 +21,15 @@ impl Node {
     /// Takes an ICMPv4 message in, which belongs to the service whose locator it quotes, and gives the neighbour and its size; 16 to 19.
     #[inline(never)]
     pub fn report(&mut self, message: &[u8], time: u32) -> Result<(u32, u16), Refusal> {
-        let now = self.raise(time);
+        self.raise(time);
         let front = well_formed(message).ok_or(Refusal::NoReport)?;
+        self.take(front)
+    }
+
+    /// Of a well-formed report with that front; 17 to 19.
+    #[inline(never)]
+    fn take(&mut self, front: &[u8; SHORTEST]) -> Result<(u32, u16), Refusal> {
+        let now = self.latest;
         let (source, neighbour) = (word32(front, QUOTE + 12), word32(front, QUOTE + 16));
         let service = self.owner(source).ok_or(Refusal::ForeignQuote)?;
         if front[QUOTE + 9] != TUNNELLED || is_forbidden(neighbour) || service.locators.has(neighbour) {
@@ -44,7 +51,7 @@ fn well_formed(message: &[u8]) -> Option<&[u8; SHORTEST]> {
     let front: &[u8; SHORTEST] = message.first_chunk()?;
     let right = word16(front, 0) == TOO_BIG
         && QUOTE + header_length(front[QUOTE])? <= message.len()
-        && is_right(added(0, message));
+        && is_right(added_here(0, message));
     right.then_some(front)
 }
 

@@ -4,6 +4,8 @@ use super::address::{is_forbidden, word};
 use super::locators::Locators;
 
 pub const ROUTERS: usize = 16;
+/// Addresses that are compared at once.
+const GROUP: usize = 4;
 
 #[derive(Clone, Copy, Debug, PartialEq, Eq)]
 pub struct Routers {
@@ -37,21 +39,35 @@ impl Routers {
     /// The place of the router.
     #[inline(always)]
     pub fn find(&self, address: u32) -> Option<usize> {
-        self.addresses.iter().take(self.count).position(|&router| router == address)
+        let group = self.groups().position(|group| has(group, address))?;
+        let place = self.addresses.iter().skip(GROUP * group).position(|&router| router == address)?;
+        (GROUP * group + place < self.count).then_some(GROUP * group + place)
+    }
+
+    /// Whether it has the address, which is not forbidden.
+    #[inline(always)]
+    pub fn has(&self, address: u32) -> bool {
+        self.groups().any(|group| has(group, address))
+    }
+
+    /// The addresses that are in use, and behind them zeros to the end of a group.
+    #[inline(always)]
+    fn groups(&self) -> impl Iterator<Item = &[u32; GROUP]> {
+        let (groups, _) = self.addresses[..self.count.next_multiple_of(GROUP)].as_chunks();
+        groups.iter()
     }
 
     /// The place of the router with the earliest due time that is not in the future, the lowest on a tie.
     #[inline(always)]
     pub fn first_due(&self, now: u32) -> Option<usize> {
-        let mut found = None;
         // Later than any time.
-        let mut earliest = u64::from(now) + 1;
-        for (place, &due) in self.due.iter().take(self.count).enumerate() {
+        let (mut found, mut earliest) = (ROUTERS, u64::from(now) + 1);
+        for (place, &due) in self.due[..self.count].iter().enumerate() {
             if due < earliest {
-                (found, earliest) = (Some(place), due);
+                (found, earliest) = (place, due);
             }
         }
-        found
+        (found < ROUTERS).then_some(found)
     }
 
     pub fn address(&self, place: usize) -> u32 {
@@ -66,4 +82,9 @@ impl Routers {
     pub fn entries(&self) -> impl Iterator<Item = (u32, u64)> + '_ {
         self.addresses.iter().copied().zip(self.due).take(self.count)
     }
+}
+
+#[inline(always)]
+fn has(group: &[u32; GROUP], address: u32) -> bool {
+    group.iter().fold(false, |found, &router| found | (router == address))
 }

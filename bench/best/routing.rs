@@ -38,11 +38,20 @@ impl Service {
     #[inline(always)]
     pub fn hear(&mut self, packet: &[u8], now: u32) -> Result<u32, Refusal> {
         let inner = Inner::read(packet)?;
-        let source = inner.source();
-        if !inner.is_discovery() || !source.is_link_local() {
+        if !inner.is_discovery() {
             return Err(Refusal::NoAdvertisement);
         }
-        let lifetime = least_lifetime(&packet[..inner.length]).ok_or(Refusal::NoAdvertisement)?;
+        self.hear_discovery(&packet[..inner.length], now)
+    }
+
+    /// Of a packet with such a header.
+    #[inline(never)]
+    fn hear_discovery(&mut self, packet: &[u8], now: u32) -> Result<u32, Refusal> {
+        let source = Inner::read(packet)?.source();
+        if !source.is_link_local() {
+            return Err(Refusal::NoAdvertisement);
+        }
+        let lifetime = least_lifetime(packet).ok_or(Refusal::NoAdvertisement)?;
         let listed = if source.is_isatap() { self.routers.find(source.embedded()) } else { None };
         let place = listed.ok_or(Refusal::Unlisted)?;
         let wait = lifetime.counted().map_or(RENEWAL, |lifetime| (lifetime / 2).max(self.interval.into()));

@@ -6,6 +6,8 @@
 
 /// From so many bytes on, lanes take less time than a chain of carries.
 const LONG: usize = 256;
+/// So few blocks of 64 bytes that 32 bits hold the sum of their words.
+const BLOCKS: usize = 2048;
 
 /// The sum of `bytes`, continued from the two words of `start`; a last odd byte is the high half of a word.
 #[inline(never)]
@@ -45,6 +47,12 @@ pub fn of_words<const N: usize>(words: [u64; N]) -> u64 {
 /// The sum of the bytes and of `sum`, which is below 2^63.
 #[inline(never)]
 pub fn added(sum: u64, bytes: &[u8]) -> u64 {
+    added_here(sum, bytes)
+}
+
+/// The same in the caller, who need save nothing for a call.
+#[inline(always)]
+pub fn added_here(sum: u64, bytes: &[u8]) -> u64 {
     let Some(last) = bytes.last_chunk() else {
         return sum + bytes.iter().rev().fold(0, |word, &byte| word << 8 | u64::from(byte));
     };
@@ -82,14 +90,14 @@ fn long(start: u64, bytes: &[u8]) -> u64 {
     let (blocks, rest) = bytes.as_chunks();
     // Half of the bits are free for the carries.
     let start = (start >> 32) + (start & 0xffff_ffff);
-    let sum = blocks.chunks(1 << 14).fold(start, |sum, part| sum + lanes(part));
+    let sum = blocks.chunks(BLOCKS).fold(start, |sum, part| sum + u64::from(lanes(part)));
     added((sum >> 32) + (sum & 0xffff_ffff), rest)
 }
 
-/// Sixteen lanes of 32 bits over blocks of 64 bytes, so few of them that 32 bits hold a sum of halves: the words of 32 bits are added up modulo
-/// 2^32, and their high halves by themselves; the sum of the low halves follows.
+/// Sixteen lanes of 32 bits over at most `BLOCKS` blocks of 64 bytes: the words of 32 bits are added up modulo 2^32, and their high halves by
+/// themselves; the sum of the low halves follows.
 #[inline(always)]
-fn lanes(blocks: &[[u8; 64]]) -> u64 {
+fn lanes(blocks: &[[u8; 64]]) -> u32 {
     let mut all = [0u32; 16];
     let mut high = [0u32; 16];
     for block in blocks {
@@ -99,6 +107,10 @@ fn lanes(blocks: &[[u8; 64]]) -> u64 {
             *high += word >> 16;
         }
     }
-    let low_and_high = |(all, high): (&u32, &u32)| u64::from(all.wrapping_sub(high << 16)) + u64::from(*high);
-    all.iter().zip(&high).map(low_and_high).sum()
+    let mut lanes: [u32; 16] = std::array::from_fn(|lane| all[lane].wrapping_sub(high[lane] << 16) + high[lane]);
+    for half in [8, 4, 2, 1] {
+        let (sums, added) = lanes.split_at_mut(half);
+        sums.iter_mut().zip(added).for_each(|(sum, added)| *sum += *added);
+    }
+    lanes[0]
 }
