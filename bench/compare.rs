@@ -1,9 +1,41 @@
-//! A row of a work: its turns are made on all nodes and compared, before the ways to do it are measured.
+//! What is compared before anything is measured: the library, the simple plain Rust and the best one, on random lists of calls and on the turns
+//! of each row.
 
 use crate::check::Check;
+use crate::lists;
 use crate::measure::{Row, Turns, COUNTED};
 use crate::work::{Call, Turn, Work, ROOM};
 use crate::{best_way, inside, pointer_way};
+
+/// Calls of the random lists.
+const CALLS: u64 = 3_000_000;
+/// Calls that these lists have not.
+const OTHERS: [&str; 11] = [
+    "checksum",
+    "checksum_right",
+    "forbidden",
+    "isatap",
+    "link_local",
+    "bad_source",
+    "wrap",
+    "too_big",
+    "solicitation",
+    "with (NULL, 0)",
+    "on any node",
+];
+
+/// Random lists of calls. Every answer that can come must have come.
+pub fn lists() {
+    let mut check = Check::new(5214);
+    while check.totals.calls < CALLS {
+        let length = check.random.between(1, 2000);
+        lists::list(&mut check, length);
+    }
+    let mut missing = check.totals.missing();
+    missing.retain(|answer| !OTHERS.iter().any(|other| answer.starts_with(other)));
+    assert!(missing.is_empty(), "never met: {}", missing.join(", "));
+    println!("{} calls of random lists: the library and both of plain Rust the same", check.totals.calls);
+}
 
 /// Makes the calls of some turns on all nodes: answers, outputs and next states must be the same, and the number the row's.
 fn compare(check: &mut Check, work: &Work) {

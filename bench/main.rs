@@ -64,23 +64,10 @@ mod totals;
 #[path = "../tests/boundary/nodes.rs"]
 mod two_nodes;
 
-/// Calls of the random lists.
-const CALLS: u64 = 1_000_000;
-
-/// All three on random lists of calls.
-fn compare_lists() {
-    let mut check = check::Check::new(5214);
-    while check.totals.calls < CALLS {
-        let length = check.random.between(1, 2000);
-        lists::list(&mut check, length);
-    }
-    println!("{}", check.totals.line());
-}
-
 fn main() {
     let argument = std::env::args().nth(1);
     if argument.as_deref() == Some("--check") {
-        return compare_lists();
+        return compare::lists();
     }
     let mut check = check::Check::new(5214);
     let mut rows = rules::rows(&mut check.random);
@@ -97,13 +84,14 @@ fn main() {
         Some("--moves") => table::print_moves(&measure::moved(rows)),
         file => {
             let mut counts = measure::Counts::new(file);
+            println!("yardstick:");
             table::print_held(&held, &mut counts);
-            println!();
+            println!("figures:");
             let rows = measure::measured(rows, &mut counts);
             table::print_rows(&rows);
             println!();
             table::print_goals(&rows);
-            println!();
+            println!("growth:");
             table::print_grown(&grown, &mut counts);
         }
     }

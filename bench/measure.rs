@@ -30,7 +30,7 @@ pub const LOT: u32 = 128;
 /// Turns of the shorter of a way's two counted runs.
 pub const COUNTED: u32 = 2 * LOT;
 /// Every row is measured in each pass, so that a time in which the machine is busy does not hit one row alone.
-const PASSES: u32 = 1;
+const PASSES: u32 = 24;
 const ROUNDS: u32 = 10;
 const ROUND_NANOSECONDS: f64 = 5e5;
 

@@ -43,7 +43,7 @@ impl Reporter {
     }
 
     /// Writes the Packet Too Big that answers a packet, of which the quote is the front, and gives its length; 15.
-    #[inline(never)]
+    #[inline(always)]
     pub fn write_too_big(&self, size: u16, quote: &[u8; QUOTED], out: &mut [u8]) -> Result<usize, Refusal> {
         let out: &mut [u8; TOO_BIG_LENGTH] = out.first_chunk_mut().ok_or(Refusal::Room)?;
         let Six { prefix, identifier } = self.address;
