@@ -187,6 +187,10 @@ fn hears(check: &mut Check) -> Vec<Work> {
             packet
         }));
     }
+    let nodes = nodes(check, 0);
+    works.push(work("hear 1480, no advertisement".into(), Call::Hear, 20, nodes, |turn| {
+        packet(&mut check.random, 1480, 17, &link_local(ROUTER + turn))
+    }));
     works
 }
 
