@@ -3,15 +3,17 @@
 use super::address::{word, Six};
 use super::advertising::{is_solicitation, write_advertisement};
 use super::bytes::{upper, word16, word64};
-use super::inner::{each_option, is_checksum_right, Inner, HEADER};
+use super::inner::{each_option, is_checksum_right, Inner, HEADER, SOURCE};
 use super::messages::write_solicitation;
 use super::service::Service;
 use crate::plain::{Advertisement, Refusal};
 
 const ADVERTISEMENT: u16 = 134;
-const PREFIX: u8 = 3;
-const PREFIX_UNITS: u8 = 4;
-const ROUTE: u8 = 24;
+/// Type and length of the options that have a lifetime: a prefix, and a route of each length.
+const PREFIX: u16 = u16::from_le_bytes([3, 4]);
+const ROUTE_1: u16 = u16::from_le_bytes([24, 1]);
+const ROUTE_2: u16 = u16::from_le_bytes([24, 2]);
+const ROUTE_3: u16 = u16::from_le_bytes([24, 3]);
 /// When to ask a router again whose advertisement has no lifetime that counts.
 const RENEWAL: u32 = 3600;
 
@@ -47,7 +49,7 @@ impl Service {
     /// Of a packet with such a header.
     #[inline(never)]
     fn hear_discovery(&mut self, packet: &[u8], now: u32) -> Result<u32, Refusal> {
-        let source = Inner::read(packet)?.source();
+        let source = Six::at(packet.first_chunk::<HEADER>().ok_or(Refusal::InnerMalformed)?, SOURCE);
         if !source.is_link_local() {
             return Err(Refusal::NoAdvertisement);
         }
@@ -73,7 +75,7 @@ impl Service {
         if !is_solicitation(&inner, &packet[..inner.length]) {
             return Err(Refusal::NoSolicitation);
         }
-        let asker: Six = inner.source();
+        let asker = inner.source();
         if !asker.is_link_local() || !asker.is_isatap() {
             return Err(Refusal::Asker);
         }
@@ -105,8 +107,7 @@ fn least_lifetime(packet: &[u8]) -> Option<Least> {
     let mut least = Least(u32::MAX);
     least.add(((word64(front, 0) >> 48) as u16).swap_bytes().into());
     let walked = each_option(options, |front| {
-        let (kind, units) = (front as u8, (front >> 8) as u8);
-        if kind == PREFIX && units == PREFIX_UNITS || kind == ROUTE && units <= 3 {
+        if matches!(front as u16, PREFIX | ROUTE_1 | ROUTE_2 | ROUTE_3) {
             least.add(upper(front).swap_bytes());
         }
     });
