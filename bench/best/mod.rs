@@ -15,6 +15,7 @@ mod chain;
 mod inner;
 mod messages;
 mod outer;
+mod piece;
 
 mod advertising;
 mod locators;
@@ -134,15 +135,6 @@ impl Node {
             (1, Some(second)) => Ok(second),
             _ => Err(Refusal::NoSuchNumber),
         }
-    }
-
-    /// The first service that has a locator of the address.
-    #[inline(always)]
-    fn owner(&self, address: u32) -> Option<&Service> {
-        if self.first.locators.has(address) {
-            return Some(&self.first);
-        }
-        self.second.as_ref().filter(|second| second.locators.has(address))
     }
 
     /// The service of that number; 11.

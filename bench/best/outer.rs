@@ -2,7 +2,7 @@
 
 use super::address::word;
 use super::bytes::{put_words, upper, word32, word64, word_of};
-use super::pieces::Piece;
+use super::piece::Piece;
 use super::sum::{self, complement};
 use crate::plain::{rules, Refusal};
 

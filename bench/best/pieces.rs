@@ -1,56 +1,15 @@
-//! The joining of datagrams that came in pieces (R23). Every piece that comes here has protocol 41, so its key is told by the addresses and the
-//! identification.
+//! The joining of datagrams that came in pieces (R23).
 
+use super::piece::{Piece, ROOM, UNIT, WORDS};
 use crate::plain::Refusal;
 use std::ops::Range;
 
 /// Datagrams that are collected at once.
 pub const PLACES: usize = 8;
-/// The most bytes of payload that one has.
-const ROOM: usize = 2048;
 /// The memory that the caller lends: the payload of place k stands from `k * ROOM` on.
 pub const MEMORY: usize = PLACES * ROOM;
 /// Seconds from its first piece on in which a datagram is live.
 pub const LIFETIME: u64 = 30;
-/// Offsets count units of so many bytes.
-const UNIT: usize = 8;
-const WORDS: usize = ROOM / UNIT / 64;
-const MORE: u16 = 0x2000;
-const OFFSET: u16 = 0x1fff;
-
-/// A piece of a datagram.
-pub struct Piece<'d> {
-    /// Source and destination.
-    ends: u64,
-    identification: u16,
-    /// In units.
-    offset: usize,
-    more: bool,
-    payload: &'d [u8],
-}
-
-impl<'d> Piece<'d> {
-    /// One with these fields; 30.
-    #[inline(always)]
-    pub fn new(ends: u64, identification: u16, fragment: u16, payload: &'d [u8]) -> Result<Piece<'d>, Refusal> {
-        let (offset, more) = (usize::from(fragment & OFFSET), fragment & MORE != 0);
-        let length = payload.len();
-        if length == 0 || UNIT * offset + length > ROOM || more && length % UNIT != 0 {
-            return Err(Refusal::PieceUnfit);
-        }
-        Ok(Piece { ends, identification, offset, more, payload })
-    }
-
-    /// Where it ends in the datagram's payload.
-    fn end(&self) -> usize {
-        UNIT * self.offset + self.payload.len()
-    }
-
-    /// How many units it fills.
-    fn units(&self) -> usize {
-        self.payload.len().div_ceil(UNIT)
-    }
-}
 
 /// A datagram of which some pieces have come.
 #[derive(Clone, Copy, Debug, Default, PartialEq, Eq)]
@@ -87,7 +46,7 @@ impl Place {
     /// Of the units of the piece, whether some have come and whether all have.
     fn held_of(&self, piece: &Piece) -> (bool, bool) {
         let (mut some, mut all) = (false, true);
-        each_word(piece, |word, bits| {
+        piece.each_word(|word, bits| {
             some |= self.held[word] & bits != 0;
             all &= self.held[word] & bits == bits;
         });
@@ -96,7 +55,7 @@ impl Place {
 
     /// Whether the datagram is complete with the piece: no two have units in common, and none ends behind the last.
     fn completes(&mut self, piece: &Piece) -> bool {
-        each_word(piece, |word, bits| self.held[word] |= bits);
+        piece.each_word(|word, bits| self.held[word] |= bits);
         self.units += piece.units() as u16;
         let end = piece.end() as u16;
         if piece.more {
@@ -105,18 +64,6 @@ impl Place {
             self.end = end;
         }
         self.end != 0 && usize::from(self.units) == usize::from(self.end).div_ceil(UNIT)
-    }
-}
-
-/// The words that the units of the piece stand in, and their bits of each.
-#[inline(always)]
-fn each_word(piece: &Piece, mut seen: impl FnMut(usize, u64)) {
-    let (mut first, mut left) = (piece.offset % 64, piece.units());
-    let mut word = piece.offset / 64;
-    while left > 0 {
-        let count = left.min(64 - first);
-        seen(word % WORDS, u64::MAX >> (64 - count) << first);
-        (word, first, left) = (word + 1, 0, left - count);
     }
 }
 

@@ -3,6 +3,7 @@
 use super::address::{is_forbidden, word};
 use super::bytes::{word16, word32};
 use super::outer::{header_length, TUNNELLED};
+use super::service::Service;
 use super::sum::{added_here, is_right};
 use super::Node;
 use crate::plain::Refusal;
@@ -42,6 +43,15 @@ impl Node {
         }
         self.paths.accept(known, neighbour, size, now);
         Ok((word(neighbour), size))
+    }
+
+    /// The first service that has a locator of the address.
+    #[inline(always)]
+    fn owner(&self, address: u32) -> Option<&Service> {
+        if self.first.locators.has(address) {
+            return Some(&self.first);
+        }
+        self.second.as_ref().filter(|second| second.locators.has(address))
     }
 }
 
