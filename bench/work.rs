@@ -12,6 +12,9 @@ pub const INTERFACE: u8 = 1;
 pub const LOCATOR: usize = 0;
 /// Bytes of output that a call is lent.
 pub const ROOM: usize = 9216;
+/// So far apart, addresses are the same to some of the processor's tests; lines of its memory are so long.
+const PAGE: usize = 4096;
+const LINE: usize = 64;
 /// The time of the first turn.
 pub const START: u32 = 1000;
 
@@ -114,13 +117,15 @@ struct Given<'a> {
 
 /// Turns of a call, each run from the same node and time, the inputs in turn. Answers are handed to `black_box` where they stand: a
 /// copy of one, read in other pieces than it was written in, would wait for it. What is given is read anew for each turn, from memory that
-/// `black_box` has seen: an instruction for each argument.
+/// `black_box` has seen: an instruction for each argument. The output lies elsewhere in each run: a multiple of 4,096 bytes from the input or
+/// the node, what is written to it holds up what is read from them.
 pub fn turns<N: Copy + 'static>(work: &'static Work, start: N, call: impl Fn(&mut N, Turn) + 'static) -> Turns {
-    let (mut memory, mut out) = (work.nodes.memory().clone(), vec![0; ROOM]);
+    let (mut memory, mut out, mut shift) = (work.nodes.memory().clone(), vec![0; ROOM + PAGE], 0);
     Box::new(move |turns| {
+        shift = (shift + LINE) % PAGE;
         let Work { inputs, next_hop, advertised, interface, locator, step, .. } = work;
         let (service, interface, locator) = (work.nodes.service, *interface, *locator);
-        let (memory, out) = (&mut memory[..], &mut out[..]);
+        let (memory, out) = (&mut memory[..], &mut out[shift..][..ROOM]);
         let given = &mut Given { service, next_hop, advertised, interface, locator, memory, out };
         let given = black_box(given);
         let (mut node, mut time) = (start, START);
