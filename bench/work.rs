@@ -12,9 +12,10 @@ pub const INTERFACE: u8 = 1;
 pub const LOCATOR: usize = 0;
 /// Bytes of output that a call is lent.
 pub const ROOM: usize = 9216;
-/// So far apart, addresses are the same to some of the processor's tests; lines of its memory are so long.
+/// So far apart, addresses are the same to some of the processor's tests.
 const PAGE: usize = 4096;
-const LINE: usize = 64;
+/// From run to run the output moves by so much: to a place that is aligned alike, for which a copy has as many instructions.
+const STEP: usize = 256;
 /// The time of the first turn.
 pub const START: u32 = 1000;
 
@@ -122,7 +123,7 @@ struct Given<'a> {
 pub fn turns<N: Copy + 'static>(work: &'static Work, start: N, call: impl Fn(&mut N, Turn) + 'static) -> Turns {
     let (mut memory, mut out, mut shift) = (work.nodes.memory().clone(), vec![0; ROOM + PAGE], 0);
     Box::new(move |turns| {
-        shift = (shift + LINE) % PAGE;
+        shift = (shift + STEP) % PAGE;
         let Work { inputs, next_hop, advertised, interface, locator, step, .. } = work;
         let (service, interface, locator) = (work.nodes.service, *interface, *locator);
         let (memory, out) = (&mut memory[..], &mut out[shift..][..ROOM]);
