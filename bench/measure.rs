@@ -1,6 +1,7 @@
 //! Times, instruction counts and bytes moved of each way to do a row's work.
 
 use std::hint::black_box;
+use std::sync::atomic::{AtomicUsize, Ordering::Relaxed};
 use std::time::Instant;
 
 /// So many turns of a row's work, done in one way. Every run starts from the same state.
@@ -31,8 +32,14 @@ pub const LOT: u32 = 128;
 pub const COUNTED: u32 = 2 * LOT;
 /// Every row is measured in each pass, so that a time in which the machine is busy does not hit one row alone.
 const PASSES: u32 = 24;
+/// The number of this pass; 0 where instructions are counted, which must not depend on where something lies.
+static PASS: AtomicUsize = AtomicUsize::new(0);
 const ROUNDS: u32 = 10;
 const ROUND_NANOSECONDS: f64 = 5e5;
+
+pub fn pass() -> usize {
+    PASS.load(Relaxed)
+}
 
 /// What callgrind counts: it dumps its count, and starts again, after each call.
 #[no_mangle]
@@ -107,6 +114,7 @@ fn deeper(steps: u32, work: &mut dyn FnMut()) {
 pub fn measured(mut rows: Vec<Row>, counts: &mut Counts) -> Vec<Measured> {
     let mut times = vec![[f64::MAX; COUNT]; rows.len()];
     for pass in 0..PASSES {
+        PASS.store(pass as usize, Relaxed);
         deeper(pass, &mut || rows.iter_mut().zip(&mut times).for_each(|(row, best)| improve(row, best)));
     }
     let measured = |(row, times): (Row, [f64; COUNT])| Measured {

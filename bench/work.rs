@@ -1,6 +1,6 @@
 //! A row's work: one call of a node with its inputs in turn, and the number that it must give.
 
-use crate::measure::{Turns, LOT};
+use crate::measure::{pass, Turns, LOT};
 use crate::nodes::{plain_advertisement, Nodes};
 use crate::plain::rules::link_local;
 use crate::plain::{self, Address};
@@ -14,7 +14,7 @@ pub const LOCATOR: usize = 0;
 pub const ROOM: usize = 9216;
 /// So far apart, addresses are the same to some of the processor's tests.
 const PAGE: usize = 4096;
-/// From run to run the output moves by so much: to a place that is aligned alike, for which a copy has as many instructions.
+/// The output moves by so much from pass to pass.
 const STEP: usize = 256;
 /// The time of the first turn.
 pub const START: u32 = 1000;
@@ -118,15 +118,14 @@ struct Given<'a> {
 
 /// Turns of a call, each run from the same node and time, the inputs in turn. Answers are handed to `black_box` where they stand: a
 /// copy of one, read in other pieces than it was written in, would wait for it. What is given is read anew for each turn, from memory that
-/// `black_box` has seen: an instruction for each argument. The output lies elsewhere in each run: a multiple of 4,096 bytes from the input or
-/// the node, what is written to it holds up what is read from them.
+/// `black_box` has seen: an instruction for each argument. The output lies elsewhere in each pass: a multiple of 4,096 bytes from the input
+/// or the node, what is written to it holds up what is read from them.
 pub fn turns<N: Copy + 'static>(work: &'static Work, start: N, call: impl Fn(&mut N, Turn) + 'static) -> Turns {
-    let (mut memory, mut out, mut shift) = (work.nodes.memory().clone(), vec![0; ROOM + PAGE], 0);
+    let (mut memory, mut out) = (work.nodes.memory().clone(), vec![0; ROOM + PAGE]);
     Box::new(move |turns| {
-        shift = (shift + STEP) % PAGE;
         let Work { inputs, next_hop, advertised, interface, locator, step, .. } = work;
         let (service, interface, locator) = (work.nodes.service, *interface, *locator);
-        let (memory, out) = (&mut memory[..], &mut out[shift..][..ROOM]);
+        let (memory, out) = (&mut memory[..], &mut out[pass() * STEP % PAGE..][..ROOM]);
         let given = &mut Given { service, next_hop, advertised, interface, locator, memory, out };
         let given = black_box(given);
         let (mut node, mut time) = (start, START);
