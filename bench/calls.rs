@@ -1,15 +1,13 @@
 //! The rows of a node's calls: what each is given, turn by turn.
 
 use crate::check::Check;
-use crate::measure::Row;
 use crate::nodes::Nodes;
 use crate::packets::{address, advertisement, datagram, option, packet, put, put16, put32, put_chain, shortest};
 use crate::packets::{repair_outer, size_report, solicitation, EXTENSIONS, MOST_EXTENSIONS};
 use crate::plain::rules::link_local;
 use crate::plain::Address;
-use crate::work::{nodes, nodes_of_two, work, Advertised, Call, Turn, Work, INTERFACE, START};
-use crate::work::{KEPT, OTHER, OWN, OWNS, PREFIXES, ROOM, ROUTERS};
-use crate::{inside, plain_way, pointer_way};
+use crate::shape::{nodes, nodes_of_two, prefix, KEPT, OTHER, OWN, OWNS, ROUTER};
+use crate::work::{work, Advertised, Call, Work, INTERFACE, START};
 use bogtrumpet::raw::{AdvertisedPrefix, AdvertisedRoute, Advertisement};
 
 /// Four sources that pass: by fe80::/64, by either prefix, and a listed router's.
@@ -17,8 +15,8 @@ fn passing(turn: u32) -> (u32, Address) {
     let neighbour = OTHER + turn;
     match turn {
         0 => (neighbour, link_local(neighbour)),
-        1 | 2 => (neighbour, address(&PREFIXES[turn as usize - 1], 0, neighbour)),
-        _ => (ROUTERS[2], address(&[0x20, 2, 0, 0, 0, 0, 0, 0], 0, 1)),
+        1 | 2 => (neighbour, address(&prefix(turn as u8 - 1), 0, neighbour)),
+        _ => (ROUTER + 2, address(&[0x20, 2, 0, 0, 0, 0, 0, 0], 0, 1)),
     }
 }
 
@@ -182,13 +180,17 @@ fn hears(check: &mut Check) -> Vec<Work> {
         let nodes = nodes(check, 0);
         let name = if number == 0 { "advertisement".into() } else { format!("advertisement, refused by {number}") };
         works.push(work(name, Call::Hear, number, nodes, |turn| {
-            let router = if number == 21 { OTHER + turn } else { ROUTERS[turn as usize] };
+            let router = if number == 21 { OTHER + turn } else { ROUTER + turn };
             let options = [option(&mut check.random, 3, 4, 3600), option(&mut check.random, 1, 1, 0)].concat();
             let mut packet = advertisement(&mut check.random, &link_local(router), 1800, &options);
             packet[42] ^= u8::from(number == 20);
             packet
         }));
     }
+    let nodes = nodes(check, 0);
+    works.push(work("hear 1480, no advertisement".into(), Call::Hear, 20, nodes, |turn| {
+        packet(&mut check.random, 1480, 17, &link_local(ROUTER + turn))
+    }));
     works
 }
 
@@ -204,12 +206,12 @@ fn advertised(count: usize) -> Advertisement {
         managed: 1,
         ..Advertisement::default()
     };
-    for (place, prefix) in advertised.prefixes.iter_mut().enumerate() {
-        let bytes = address(&PREFIXES[place % 2], 0, OTHER + place as u32);
-        *prefix = AdvertisedPrefix { bytes, valid: 7200, preferred: 3600, length: 64, on_link: 1, autonomous: 1 };
+    for (place, advertised) in advertised.prefixes.iter_mut().enumerate() {
+        let bytes = address(&prefix(place as u8 % 2), 0, OTHER + place as u32);
+        *advertised = AdvertisedPrefix { bytes, valid: 7200, preferred: 3600, length: 64, on_link: 1, autonomous: 1 };
     }
     for (place, route) in advertised.routes.iter_mut().enumerate() {
-        let bytes = address(&PREFIXES[place % 2], 0, OTHER + place as u32);
+        let bytes = address(&prefix(place as u8 % 2), 0, OTHER + place as u32);
         *route = AdvertisedRoute { bytes, lifetime: 7200, length: ROUTES[place], preference: place as u8 % 3 };
     }
     advertised
@@ -229,31 +231,7 @@ fn advertises(check: &mut Check) -> Vec<Work> {
     works
 }
 
-/// Makes the calls of some turns on both nodes: answers, outputs and next states must be the same, and the number the row's.
-fn compare(check: &mut Check, work: &Work) {
-    let mut nodes = work.nodes.clone();
-    for turn in 0..256 {
-        let Turn { input, next_hop, advertised, interface, locator, time, place, .. } =
-            work.turn(turn, &mut [], &mut []);
-        let number = match work.call {
-            Call::Receive | Call::Piece => nodes.receive(check, input, interface, time).err().unwrap_or(0),
-            Call::Last => {
-                let answer = nodes.receive(check, input, interface, time);
-                nodes.library.first.pieces.places[place] = work.nodes.library.first.pieces.places[place];
-                plain_way::set_back(&mut nodes.plain, &work.nodes.plain, place);
-                answer.err().unwrap_or(0)
-            }
-            Call::Send => nodes.send(check, input, *next_hop, locator, time, ROOM),
-            Call::Report => nodes.report(check, input, time),
-            Call::Ask => nodes.ask(check, locator, time, ROOM),
-            Call::Hear => nodes.hear(check, input, time),
-            Call::Advertise => nodes.advertise(check, input, locator, &advertised.library, ROOM).err().unwrap_or(0),
-        };
-        assert_eq!(number, work.number, "{}, turn {turn}", work.name);
-    }
-}
-
-pub fn rows(check: &mut Check) -> Vec<Row> {
+pub fn works(check: &mut Check) -> Vec<Work> {
     let mut works = receives(check);
     works.extend(pieces(check));
     works.extend(sends(check));
@@ -261,11 +239,5 @@ pub fn rows(check: &mut Check) -> Vec<Row> {
     works.push(ask(check));
     works.extend(hears(check));
     works.extend(advertises(check));
-    let row = |work: Work| {
-        compare(check, &work);
-        let work: &'static Work = Box::leak(Box::new(work));
-        let ways = [Some(plain_way::way(work)), Some(pointer_way::way(work)), inside::way(work)];
-        Row { name: work.name.clone(), ways }
-    };
-    works.into_iter().map(row).collect()
+    works
 }

@@ -49,7 +49,7 @@ pub fn sizes(table: &Paths, link: u16, first: u32, count: u32, now: u32) -> u64 
 
 /// The sum of what so many calls answer, of a kind of call that has a loop: of the first service.
 fn many(work: &Work, memory: &mut [u8], out: &mut [u8], count: u32) -> Option<u64> {
-    if work.nodes.service != 0 {
+    if work.nodes.service != 0 || work.all.is_empty() {
         return None;
     }
     let (node, all, length) = (work.nodes.library, work.all.as_ptr(), work.all.len());

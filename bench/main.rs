@@ -1,6 +1,6 @@
-//! The proved library beside plain Rust, that of tests/boundary/plain.rs and for checksums best_sum.rs: the same work in each way, compared
-//! first and then measured.
+//! The proved library beside plain Rust, the best that was found: the same work in each way, compared first and then measured.
 //!
+//!     bench --check    compares on random lists of calls alone
 //!     bench            the table of times
 //!     bench --count    each way's turns, for callgrind to count
 //!     bench COUNTS     the table with the counts that callgrind wrote
@@ -8,19 +8,31 @@
 
 // From what needs nothing to what needs all: measuring; a row's work; the ways to do it; the rows; the tables.
 mod measure;
+
+#[forbid(unsafe_code)]
+mod best;
+mod nodes;
+
+mod shape;
 mod work;
 
-mod best_sum;
+mod best_way;
+mod compare;
 mod inside;
-mod plain_way;
 mod pointer_way;
 
 mod calls;
+mod growth;
 mod paths;
 mod rules;
+mod setup;
+mod yardstick;
 
 mod table;
 
+#[allow(dead_code)]
+#[path = "../tests/boundary/advertised.rs"]
+mod advertised;
 #[allow(dead_code)]
 #[path = "../tests/boundary/check.rs"]
 mod check;
@@ -28,11 +40,14 @@ mod check;
 #[path = "../tests/boundary/lent.rs"]
 mod lent;
 #[allow(dead_code)]
-#[path = "../tests/boundary/nodes.rs"]
-mod nodes;
+#[path = "../tests/boundary/lists.rs"]
+mod lists;
 #[allow(dead_code)]
 #[path = "../tests/boundary/packets.rs"]
 mod packets;
+#[allow(dead_code)]
+#[path = "../tests/boundary/pieces.rs"]
+mod pieces;
 #[allow(dead_code)]
 #[path = "../tests/boundary/plain.rs"]
 mod plain;
@@ -40,24 +55,44 @@ mod plain;
 #[path = "../tests/boundary/random.rs"]
 mod random;
 #[allow(dead_code)]
+#[path = "../tests/boundary/stateless.rs"]
+mod stateless;
+#[allow(dead_code)]
 #[path = "../tests/boundary/totals.rs"]
 mod totals;
+#[allow(dead_code)]
+#[path = "../tests/boundary/nodes.rs"]
+mod two_nodes;
 
 fn main() {
     let argument = std::env::args().nth(1);
+    if argument.as_deref() == Some("--check") {
+        return compare::lists();
+    }
     let mut check = check::Check::new(5214);
     let mut rows = rules::rows(&mut check.random);
     rows.extend(paths::rows(&mut check));
-    rows.extend(calls::rows(&mut check));
+    rows.extend(setup::rows(&mut check));
+    rows.extend(calls::works(&mut check).into_iter().map(|work| compare::row(&mut check, work)));
+    let (held, grown) = (yardstick::rows(&mut check), growth::rows(&mut check));
     match argument.as_deref() {
-        Some("--count") => measure::count(rows),
+        Some("--count") => {
+            let held = held.into_iter().map(|held| held.row);
+            measure::count(held.chain(rows).chain(grown.into_iter().flat_map(|grown| grown.rows)));
+        }
         #[cfg(moves)]
         Some("--moves") => table::print_moves(&measure::moved(rows)),
-        counts => {
-            let rows = measure::measured(rows, counts);
+        file => {
+            let mut counts = measure::Counts::new(file);
+            println!("yardstick:");
+            table::print_held(&held, &mut counts);
+            println!("figures:");
+            let rows = measure::measured(rows, &mut counts);
             table::print_rows(&rows);
             println!();
             table::print_goals(&rows);
+            println!("growth:");
+            table::print_grown(&grown, &mut counts);
         }
     }
 }

@@ -1,6 +1,7 @@
 //! Times, instruction counts and bytes moved of each way to do a row's work.
 
 use std::hint::black_box;
+use std::sync::atomic::{AtomicUsize, Ordering::Relaxed};
 use std::time::Instant;
 
 /// So many turns of a row's work, done in one way. Every run starts from the same state.
@@ -14,6 +15,8 @@ const COUNT: usize = 3;
 pub struct Row {
     pub name: String,
     pub ways: [Option<Turns>; COUNT],
+    /// Turns of the shorter of a way's two counted runs: mostly `COUNTED`.
+    pub counted: u32,
 }
 
 /// What was measured of one turn, way by way.
@@ -24,13 +27,19 @@ pub struct Measured {
 }
 
 /// Turns come in such lots: each of the inputs has come equally often after them.
-const LOT: u32 = 64;
+pub const LOT: u32 = 128;
 /// Turns of the shorter of a way's two counted runs.
-const COUNTED: u32 = 4 * LOT;
+pub const COUNTED: u32 = 2 * LOT;
 /// Every row is measured in each pass, so that a time in which the machine is busy does not hit one row alone.
 const PASSES: u32 = 24;
+/// The number of this pass; 0 where instructions are counted, which must not depend on where something lies.
+static PASS: AtomicUsize = AtomicUsize::new(0);
 const ROUNDS: u32 = 10;
 const ROUND_NANOSECONDS: f64 = 5e5;
+
+pub fn pass() -> usize {
+    PASS.load(Relaxed)
+}
 
 /// What callgrind counts: it dumps its count, and starts again, after each call.
 #[no_mangle]
@@ -41,22 +50,31 @@ fn counted(way: &mut Turns, turns: u32) {
 }
 
 /// Two runs of every way, one with twice the turns of the other.
-pub fn count(rows: Vec<Row>) {
-    for mut way in rows.into_iter().flat_map(|row| row.ways).flatten() {
-        counted(&mut way, COUNTED);
-        counted(&mut way, 2 * COUNTED);
+pub fn count(rows: impl Iterator<Item = Row>) {
+    for row in rows {
+        for mut way in row.ways.into_iter().flatten() {
+            counted(&mut way, row.counted);
+            counted(&mut way, 2 * row.counted);
+        }
     }
 }
 
-/// Instructions of one turn of each way, in the order of `count`: what the longer run has more.
-fn counts(file: &str) -> Vec<f64> {
-    let text = std::fs::read_to_string(file).expect("callgrind's file");
-    let totals: Vec<f64> = text
-        .lines()
-        .filter_map(|line| line.strip_prefix("totals: "))
-        .map(|total| total.parse().expect("a count"))
-        .collect();
-    totals.chunks_exact(2).map(|runs| (runs[1] - runs[0]) / f64::from(COUNTED)).collect()
+/// What callgrind counted of each run, in the order of `count`.
+pub struct Counts(std::vec::IntoIter<f64>);
+
+impl Counts {
+    /// Those of the file; none without one.
+    pub fn new(file: Option<&str>) -> Counts {
+        let text = file.map(|file| std::fs::read_to_string(file).expect("callgrind's file")).unwrap_or_default();
+        let totals = text.lines().filter_map(|line| line.strip_prefix("totals: "));
+        Counts(totals.map(|total| total.parse().expect("a count")).collect::<Vec<f64>>().into_iter())
+    }
+
+    /// Instructions of one turn of each way of the next row: what the longer run has more.
+    pub fn next(&mut self, row: &Row) -> [Option<f64>; COUNT] {
+        let mut one = || Some((-self.0.next()? + self.0.next()?) / f64::from(row.counted));
+        row.ways.each_ref().map(|way| way.as_ref().and_then(|_| one()))
+    }
 }
 
 /// Nanoseconds of one turn.
@@ -92,17 +110,17 @@ fn deeper(steps: u32, work: &mut dyn FnMut()) {
     black_box(());
 }
 
-/// Times of all rows, and the instructions counted in the file, if there is one.
-pub fn measured(mut rows: Vec<Row>, file: Option<&str>) -> Vec<Measured> {
+/// Times of all rows, and their instructions.
+pub fn measured(mut rows: Vec<Row>, counts: &mut Counts) -> Vec<Measured> {
     let mut times = vec![[f64::MAX; COUNT]; rows.len()];
     for pass in 0..PASSES {
+        PASS.store(pass as usize, Relaxed);
         deeper(pass, &mut || rows.iter_mut().zip(&mut times).for_each(|(row, best)| improve(row, best)));
     }
-    let mut counts = file.map(counts).unwrap_or_default().into_iter();
     let measured = |(row, times): (Row, [f64; COUNT])| Measured {
-        name: row.name,
         times: times.map(|time| (time < f64::MAX).then_some(time)),
-        counts: row.ways.map(|way| way.and_then(|_| counts.next())),
+        counts: counts.next(&row),
+        name: row.name,
     };
     rows.into_iter().zip(times).map(measured).collect()
 }

@@ -1,11 +1,12 @@
 //! The rows of the path table with 64 neighbours: the sizes toward each in turn.
 
+use crate::best;
 use crate::check::Check;
-use crate::measure::{Row, Turns};
-use crate::nodes::Nodes;
+use crate::inside;
+use crate::measure::{Row, Turns, COUNTED};
 use crate::plain::NEIGHBOURS;
-use crate::work::{nodes, KEPT, LINK_SIZE, OTHER, START};
-use crate::{inside, plain_way};
+use crate::shape::{nodes, KEPT, LINK_SIZE, OTHER};
+use crate::work::START;
 use bogtrumpet::raw::Node;
 use std::hint::black_box;
 
@@ -23,13 +24,12 @@ fn turns<T: 'static, A>(node: T, first: u32, lookup: impl Fn(&T, u8, u32) -> A +
 
 /// The sizes of the first service toward 64 neighbours from the first on.
 fn lookup(check: &mut Check, name: &str, first: u32) -> Row {
-    let Nodes { plain, library, .. } = nodes(check, COUNT);
+    let mut nodes = nodes(check, COUNT);
+    let (best, library) = (nodes.best, nodes.library);
     let table = library.paths;
     let mut sum = 0;
     for neighbour in first..first + COUNT {
-        let size = library.path_size(0, neighbour).size;
-        assert_eq!(plain_way::path_size(&plain, 0, neighbour), Ok(size), "{neighbour:#x}: {library:?}");
-        sum += u64::from(size);
+        sum += u64::from(nodes.path_size(check, neighbour).expect("a service"));
     }
     assert_eq!(sum, inside::sizes(&table, LINK_SIZE, first, COUNT, START), "{first:#x}: {library:?}");
     let inside: Turns = Box::new(move |turns| {
@@ -37,9 +37,9 @@ fn lookup(check: &mut Check, name: &str, first: u32) -> Row {
             black_box(inside::sizes(black_box(&table), LINK_SIZE, first, COUNT, START));
         }
     });
-    let plain = turns(plain, first, plain_way::path_size);
+    let best = turns(best, first, best::Node::path_size);
     let pointer = turns(library, first, Node::path_size);
-    Row { name: name.into(), ways: [plain, pointer, Some(inside)] }
+    Row { name: name.into(), ways: [best, pointer, Some(inside)], counted: COUNTED }
 }
 
 pub fn rows(check: &mut Check) -> Vec<Row> {

@@ -1,8 +1,8 @@
 //! The rows of the rules without state: checksums, and wrapping in an outer header.
 
-use crate::best_sum;
+use crate::best;
 use crate::inside;
-use crate::measure::{Row, Turns};
+use crate::measure::{Row, Turns, COUNTED};
 use crate::plain::rules::{self, Outer, Refusal};
 use crate::random::Random;
 use bogtrumpet::raw;
@@ -39,20 +39,20 @@ fn turns(inputs: &'static [u8], work: impl Fn(usize, &[u8], &mut [u8]) + 'static
 fn checksum(random: &mut Random, length: usize) -> Row {
     let inputs = inputs(random, length);
     for input in each(inputs) {
-        let sums = [best_sum::checksum(0, input), rules::checksum(0, input)];
+        let sums = [best::checksum(0, input), rules::checksum(0, input)];
         assert_eq!(sums, [raw::checksum(0, input); 2], "checksum of {length} bytes");
     }
-    let sum: u64 = each(inputs).iter().map(|input| u64::from(best_sum::checksum(0, input))).sum();
+    let sum: u64 = each(inputs).iter().map(|input| u64::from(best::checksum(0, input))).sum();
     assert_eq!(sum, inside::checksums(inputs, 4), "checksums of {length} bytes");
-    let plain = turns(inputs, |_, input, _| _ = black_box(best_sum::checksum(black_box(0), input)));
+    let best = turns(inputs, |_, input, _| _ = black_box(best::checksum(black_box(0), input)));
     let library = turns(inputs, |_, input, _| _ = black_box(raw::checksum(black_box(0), input)));
     let inside: Turns = Box::new(|turns| _ = black_box(inside::checksums(black_box(inputs), turns)));
-    Row { name: format!("checksum {length}"), ways: [plain, library, Some(inside)] }
+    Row { name: format!("checksum {length}"), ways: [best, library, Some(inside)], counted: COUNTED }
 }
 
 #[inline(never)]
-fn plain_wrap(outer: &Outer, packet: &[u8], out: &mut [u8]) -> Result<usize, Refusal> {
-    rules::wrap(outer, packet, out)
+fn best_wrap(outer: &Outer, packet: &[u8], out: &mut [u8]) -> Result<usize, Refusal> {
+    best::wrap(outer, packet, out)
 }
 
 /// Four headers, for the four packets.
@@ -78,16 +78,17 @@ fn wrap(random: &mut Random, length: usize) -> Row {
     let outers = outers(random);
     let library_outers = outers.map(library_outer);
     for (place, input) in each(inputs).iter().enumerate() {
-        let (mut plain, mut library) = (vec![0x55; ROOM], vec![0x55; ROOM]);
+        let [mut best, mut plain, mut library] = [0; 3].map(|_| vec![0x55; ROOM]);
         let written = raw::wrap(library_outers[place], input, &mut library);
-        assert_eq!(plain_wrap(&outers[place], input, &mut plain), Ok(written.length), "{length} bytes wrapped");
-        assert!(plain == library, "{length} bytes wrapped");
+        assert_eq!(best_wrap(&outers[place], input, &mut best), Ok(written.length), "{length} bytes wrapped");
+        assert_eq!(rules::wrap(&outers[place], input, &mut plain), Ok(written.length), "{length} bytes wrapped");
+        assert!(best == library && plain == library, "{length} bytes wrapped");
     }
-    let plain = turns(inputs, move |place, input, out| _ = black_box(plain_wrap(&outers[place], input, out)));
+    let best = turns(inputs, move |place, input, out| _ = black_box(best_wrap(&outers[place], input, out)));
     let library = turns(inputs, move |place, input, out| {
         black_box(raw::wrap(library_outers[place], input, out));
     });
-    Row { name: format!("wrap {length}"), ways: [plain, library, None] }
+    Row { name: format!("wrap {length}"), ways: [best, library, None], counted: COUNTED }
 }
 
 pub fn rows(random: &mut Random) -> Vec<Row> {

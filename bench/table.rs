@@ -1,6 +1,8 @@
 //! The tables, as they stand in docs/PERFORMANCE.md.
 
-use crate::measure::{Measured, WAYS};
+use crate::growth::Grown;
+use crate::measure::{Counts, Measured, WAYS};
+use crate::yardstick::Held;
 
 /// What is aimed at: the rows whose names have that first word, and the ratio to plain Rust.
 const GOALS: [(&str, f64); 6] =
@@ -37,6 +39,30 @@ pub fn print_goals(rows: &[Measured]) {
             [worst.map_or("-".into(), |_| format!("{within} of {}", ratios.len())), number(worst, 2)]
         });
         print_line(&format!("{name}, at most {limit:.1}"), &cells.collect::<Vec<_>>());
+    }
+}
+
+/// Instructions alone: the yardstick's, those of plain Rust and of the library over a pointer, and the library's by the yardstick's.
+pub fn print_held(rows: &[Held], counts: &mut Counts) {
+    let columns = ["yardstick", "Rust", "C", "ratio", "goal"].map(String::from);
+    print_heading("beside the yardstick", &columns);
+    for Held { row, yardstick, goal } in rows {
+        let [best, pointer, _] = counts.next(row);
+        let ratio = pointer.map(|pointer| pointer / yardstick);
+        let cells = [number(Some(*yardstick), 0), number(best, 0), number(pointer, 0), number(ratio, 2)];
+        print_line(&row.name, &[&cells[..], &[number(Some(*goal), 1)]].concat());
+    }
+}
+
+/// Instructions alone, by how many there are of something.
+pub fn print_grown(calls: &[Grown], counts: &mut Counts) {
+    println!("| {:<28} | {:>23} | {:>23} | {:>23} |", "what grows: the call", "how many", "Rust", "C");
+    println!("|{:-<30}|{}", "", format!("{:->24}:|", "").repeat(3));
+    for Grown { name, values, rows } in calls {
+        let counted: Vec<_> = rows.iter().map(|row| counts.next(row)).collect();
+        let cell = |way: usize| counted.iter().map(|row| number(row[way], 0)).collect::<Vec<_>>().join(" / ");
+        let values = values.iter().map(usize::to_string).collect::<Vec<_>>().join(" / ");
+        println!("| {name:<28} | {values:>23} | {:>23} | {:>23} |", cell(0), cell(1));
     }
 }
 

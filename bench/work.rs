@@ -1,32 +1,23 @@
 //! A row's work: one call of a node with its inputs in turn, and the number that it must give.
 
-use crate::check::Check;
-use crate::measure::Turns;
+use crate::measure::{pass, Turns, LOT};
 use crate::nodes::{plain_advertisement, Nodes};
-use crate::packets::size_report;
 use crate::plain::rules::link_local;
-use crate::plain::{self, Address, Locator, Settings};
+use crate::plain::{self, Address};
+use crate::shape::NEXT_HOP;
 use bogtrumpet::raw;
 use std::hint::black_box;
 
 pub const INTERFACE: u8 = 1;
 pub const LOCATOR: usize = 0;
 /// Bytes of output that a call is lent.
-pub const ROOM: usize = 2048;
+pub const ROOM: usize = 9216;
+/// So far apart, addresses are the same to some of the processor's tests.
+const PAGE: usize = 4096;
+/// The output moves by so much from pass to pass.
+const STEP: usize = 256;
 /// The time of the first turn.
 pub const START: u32 = 1000;
-
-pub const OWN: u32 = 0x0a01_0001;
-/// The first locator of each service.
-pub const OWNS: [u32; 2] = [OWN, OWN + 0x100];
-pub const PREFIXES: [[u8; 8]; 2] = [[0x20, 1, 0xd, 0xb8, 0, 0, 0, 1], [0x20, 1, 0xd, 0xb8, 0, 0, 0, 2]];
-pub const ROUTERS: [u32; 4] = [0x0a02_0001, 0x0a02_0002, 0x0a02_0003, 0x0a02_0004];
-/// The neighbours that a full path table keeps, and others.
-pub const KEPT: u32 = 0x0a03_0000;
-pub const OTHER: u32 = 0x0a04_0000;
-const NEXT_HOP: u32 = KEPT + 32;
-pub const LINK_SIZE: u16 = 9000;
-const REPORTED: u16 = 1500;
 
 /// What an operator has advertised, as either way is handed it.
 pub struct Advertised {
@@ -75,11 +66,14 @@ pub struct Work {
     /// What every turn must give.
     pub number: u8,
     pub nodes: Nodes,
-    /// The inputs, one behind the other, and each.
+    /// Four inputs of the same length, one behind the other; nothing where they are others.
     pub all: &'static [u8],
-    pub inputs: [&'static [u8]; 4],
+    /// The input of each turn of a lot.
+    pub inputs: Vec<&'static [u8]>,
     pub next_hop: Address,
     pub advertised: Advertised,
+    pub interface: u8,
+    pub locator: usize,
     /// Seconds from turn to turn.
     pub step: u32,
 }
@@ -87,11 +81,20 @@ pub struct Work {
 impl Work {
     /// What a turn is given.
     pub fn turn<'a>(&'a self, turn: u32, memory: &'a mut [u8], out: &'a mut [u8]) -> Turn<'a> {
-        let (place, time) = (turn as usize % 4, START + turn * self.step);
-        let Work { inputs, next_hop, advertised, .. } = self;
-        let (service, input, interface, locator) = (self.nodes.service, inputs[place], INTERFACE, LOCATOR);
-        Turn { service, input, next_hop, advertised, interface, locator, time, memory, place, out }
+        let (place, time) = ((turn % LOT) as usize, START + turn * self.step);
+        let Work { next_hop, advertised, interface, locator, .. } = self;
+        let (service, input, interface, locator) = (self.nodes.service, self.inputs[place], *interface, *locator);
+        Turn { service, input, next_hop, advertised, interface, locator, time, memory, place: place % 4, out }
     }
+}
+
+/// A work with these inputs in turn.
+pub fn work_of(name: String, call: Call, number: u8, nodes: Nodes, inputs: &[&'static [u8]]) -> Work {
+    let inputs = inputs.iter().copied().cycle().take(LOT as usize).collect();
+    let advertised = Advertised::new(raw::Advertisement::default());
+    let next_hop = link_local(NEXT_HOP);
+    let (interface, locator) = (INTERFACE, LOCATOR);
+    Work { name, call, number, nodes, all: &[], inputs, next_hop, advertised, interface, locator, step: 0 }
 }
 
 /// A work whose four inputs have the same length.
@@ -99,57 +102,44 @@ pub fn work(name: String, call: Call, number: u8, nodes: Nodes, input: impl FnMu
     let all = (0..4).flat_map(input).collect::<Vec<u8>>().leak();
     let size = all.len() / 4;
     let inputs = [0, 1, 2, 3].map(|place| &all[place * size..][..size]);
-    let advertised = Advertised::new(raw::Advertisement::default());
-    Work { name, call, number, nodes, all, inputs, next_hop: link_local(NEXT_HOP), advertised, step: 0 }
+    Work { all, ..work_of(name, call, number, nodes, &inputs) }
 }
 
-/// A service with two locators, two prefixes and four routers.
-fn settings(own: u32) -> Settings {
-    let mut settings = Settings { locator_count: 2, prefix_count: 2, router_count: 4, ..Settings::default() };
-    settings.locators[0] = Locator { address: own, interface: INTERFACE };
-    settings.locators[1] = Locator { address: own + 1, interface: INTERFACE + 1 };
-    settings.prefixes[..2].copy_from_slice(&PREFIXES);
-    settings.routers[..4].copy_from_slice(&ROUTERS);
-    Settings { link_size: LINK_SIZE, interval: 1, ..settings.defaults() }
-}
-
-/// A node of one such service, and `kept` neighbours in its path table.
-pub fn nodes(check: &mut Check, kept: u32) -> Nodes {
-    let nodes = Nodes::new(check, &settings(OWN)).expect("settings that are allowed");
-    keeping(check, nodes, kept)
-}
-
-/// A node of two, of which that one is named.
-pub fn nodes_of_two(check: &mut Check, kept: u32, service: u8) -> Nodes {
-    let [first, second] = OWNS.map(settings);
-    let mut nodes = Nodes::pair(check, &first, &second).expect("settings that are allowed");
-    nodes.service = service;
-    keeping(check, nodes, kept)
-}
-
-fn keeping(check: &mut Check, mut nodes: Nodes, kept: u32) -> Nodes {
-    for neighbour in KEPT..KEPT + kept {
-        let message = size_report(&mut check.random, REPORTED, 0, (OWN, neighbour), 0, 8);
-        assert_eq!(nodes.report(check, &message, START), 0);
-    }
-    nodes
+/// What all turns are given alike.
+struct Given<'a> {
+    service: u8,
+    next_hop: &'a Address,
+    advertised: &'a Advertised,
+    interface: u8,
+    locator: usize,
+    memory: &'a mut [u8],
+    out: &'a mut [u8],
 }
 
 /// Turns of a call, each run from the same node and time, the inputs in turn. Answers are handed to `black_box` where they stand: a
-/// copy of one, read in other pieces than it was written in, would wait for it.
+/// copy of one, read in other pieces than it was written in, would wait for it. What is given is read anew for each turn, from memory that
+/// `black_box` has seen: an instruction for each argument. The output lies elsewhere in each pass: a multiple of 4,096 bytes from the input
+/// or the node, what is written to it holds up what is read from them.
 pub fn turns<N: Copy + 'static>(work: &'static Work, start: N, call: impl Fn(&mut N, Turn) + 'static) -> Turns {
-    let (mut memory, mut out) = (work.nodes.memory().clone(), vec![0; ROOM]);
+    let (mut memory, mut out) = (work.nodes.memory().clone(), vec![0; ROOM + PAGE]);
     Box::new(move |turns| {
-        let (work, service, interface, locator) = black_box((work, work.nodes.service, INTERFACE, LOCATOR));
-        let mut node = start;
-        let mut time = START;
-        for (_, (place, input)) in (0..turns).zip(work.inputs.iter().enumerate().cycle()) {
-            let Work { next_hop, advertised, .. } = work;
-            let (memory, out) = (&mut memory, &mut out);
-            let turn = Turn { service, input, next_hop, advertised, interface, locator, time, memory, place, out };
-            call(&mut node, turn);
-            time += work.step;
+        let Work { inputs, next_hop, advertised, interface, locator, step, .. } = work;
+        let (service, interface, locator) = (work.nodes.service, *interface, *locator);
+        let (memory, out) = (&mut memory[..], &mut out[pass() * STEP % PAGE..][..ROOM]);
+        let given = &mut Given { service, next_hop, advertised, interface, locator, memory, out };
+        let given = black_box(given);
+        let (mut node, mut time) = (start, START);
+        for lot in (0..turns).step_by(LOT as usize) {
+            let left = (turns - lot).min(LOT) as usize;
+            for (place, input) in inputs[..left].iter().enumerate() {
+                let place = place % 4;
+                let Given { service, next_hop, advertised, interface, locator, memory, out } = given;
+                let (service, interface, locator) = (*service, *interface, *locator);
+                let turn = Turn { service, input, next_hop, advertised, interface, locator, time, memory, place, out };
+                call(&mut node, turn);
+                time += step;
+            }
         }
-        black_box((&node, &memory, &out));
+        black_box((&node, given));
     })
 }
