@@ -1,5 +1,5 @@
 //! One tunnel end, or two in one box, in plain Rust, written from the rules (docs/RULES.md) alone: the second implementation that the proved
-//! library is compared with, and the baseline of the benchmarks. No heap; each call changes the node in place.
+//! library is compared with, and by which the benchmark checks its own. No heap; each call changes the node in place.
 
 #[path = "plain_pieces.rs"]
 pub mod pieces;
