@@ -8,7 +8,7 @@
 mod words;
 
 ghost use mathlib.Core.Path.{_≡_};
-ghost use Prim.Native.Nat.{_+_, _%_, _≤_, min};
+ghost use Prim.Native.Nat.{_+_, _/_, _%_, _≤_, min};
 ghost use mathlib.Core.List.{[]};
 ghost use lib.ListN.{length, take, drop};
 ghost use Rattle.checksum.specs.Sum.{onesSumFrom, onesComplement, isRight, isRightFrom};
@@ -92,6 +92,13 @@ fn fold(x: u64) -> u16
         left = left % CARRY + left / CARRY;
     }
     left as u16
+}
+
+// The exact sum of the two words of a number.
+pub fn two_words(x: u32) -> u32
+    ensures { λ r. ⌜ (r ≡ x / 65536 + x % 65536) × (r ≤ 131070) ⌝ }
+{
+    x / 65536 + x % 65536
 }
 
 // The one's complement sum of words that were added up exactly: it is continued from them, and nothing follows.

@@ -1,10 +1,10 @@
 -- The words of a header that is read by numbers of two words. Assumes nothing.
 use Prim.Native.Nat.{ℕ, zero, suc, _+_, _*_, _/_, _%_, _<_, _≤_}
-use mathlib.Core.Path.{_≡_, refl, sym, ap, subst}
+use mathlib.Core.Path.{_≡_, refl, sym, ap, subst, _∙_}
 use mathlib.Core.List.{List, _∷_}
 use native.Mathlib.Omega.{arith}
 use lib.ListN.{length, getD, take, drop}
-use lib.Seq.{drop-cons, getD-drop}
+use lib.Seq.{drop-cons, getD-drop, take-all}
 use mir.Val.{Fits}
 use mir.Syntax.{w8}
 use Rattle.address.specs.Address.{quadOf}
@@ -36,15 +36,23 @@ twoWords x = x / 65536 + x % 65536
 quad-words : (a b c d : ℕ) → b < 256 → c < 256 → d < 256 → twoWords (quadOf a b c d) ≡ a * 256 + b + (c * 256 + d)
 quad-words a b c d hb hc hd = omega arith
 
-module _ (d : List ℕ) (long : outerHeader ≤ length d) (byte : (i : ℕ) → getD d i 0 < 256) where
+module _ (d : List ℕ) (byte : (i : ℕ) → getD d i 0 < 256) where
   at : (k : ℕ) → twoWords (quadAt d k) ≡ getD d k 0 * 256 + getD d (k + 1) 0 + (getD d (k + 2) 0 * 256 + getD d (k + 3) 0)
   unfolding quadAt
   at k = quad-words (getD d k 0) (getD d (k + 1) 0) (getD d (k + 2) 0) (getD d (k + 3) 0) (byte (k + 1)) (byte (k + 2)) (byte (k + 3))
 
   -- the exact sum of the words of a header without options
-  pub ten-words : twoWords (quadAt d 0) + twoWords (quadAt d 4) + (twoWords (quadAt d 8) + twoWords (quadAt d 12)) + twoWords (quadAt d 16) ≡ wordSum (take outerHeader d)
+  pub ten-words : outerHeader ≤ length d → twoWords (quadAt d 0) + twoWords (quadAt d 4) + (twoWords (quadAt d 8) + twoWords (quadAt d 12)) + twoWords (quadAt d 16) ≡ wordSum (take outerHeader d)
   unfolding wordSum
-  ten-words = rw (sym (bytes-taken 20 0 d long), at 0, at 4, at 8, at 12, at 16) (omega arith)
+  ten-words long = rw (sym (bytes-taken 20 0 d long), at 0, at 4, at 8, at 12, at 16) (omega arith)
+
+-- the exact sum of the words of an address
+pub eight-words : (a : List ℕ) → length a ≡ 16 → ((i : ℕ) → getD a i 0 < 256)
+    → twoWords (quadAt a 0) + twoWords (quadAt a 4) + twoWords (quadAt a 8) + twoWords (quadAt a 12) ≡ wordSum a
+unfolding wordSum
+eight-words a l byte =
+    let whole : bytesFrom 16 0 a ≡ a = bytes-taken 16 0 a (omega arith) ∙ take-all 16 a (omega arith) in
+    rw (at a byte 0, at a byte 4, at a byte 8, at a byte 12) (sym (ap wordSum (sym whole) ∙ omega arith))
 
 -- the fields of the first three numbers of a header
 module _ (a b c d : ℕ) (hb : b < 256) (hc : c < 256) (hd : d < 256) where

@@ -5,7 +5,7 @@ use crate::fields;
 use refusals::Check;
 use refusals::Refusal;
 ghost use mathlib.Core.Path.{_≡_};
-ghost use Prim.Native.Nat.{_+_, _/_, _%_, _≤_};
+ghost use Prim.Native.Nat.{_≤_};
 ghost use lib.ListN.{length, take};
 ghost use Rattle.checksum.specs.Folding.{wordSum};
 ghost use Rattle.header.specs.Numbers.{outerHeader};
@@ -88,21 +88,16 @@ pub fn malformed(n: usize, o: Outer) -> bool
     (o.version != 4) | (o.header < OUTER_HEADER) | (o.total < o.header) | (n < o.total)
 }
 
-// The exact sum of the two words of a number.
-fn two_words(x: u32) -> u32
-    ensures { λ r. ⌜ (r ≡ x / 65536 + x % 65536) × (r ≤ 131070) ⌝ }
-{
-    x / 65536 + x % 65536
-}
-
 // The exact sum of the ten words of a header without options, which was read as numbers before.
 fn ten_words(d: &[u8]) -> u32
     requires { ⌜ outerHeader ≤ length (now d) ⌝ }
     ensures { λ r. ⌜ (r ≡ wordSum (take outerHeader (now (d .entry)))) × (r ≤ 655350) ⌝ }
 {
-    let first = two_words(fields::quad_in(d, 0)) + two_words(fields::quad_in(d, 4));
-    let second = two_words(fields::quad_in(d, 8)) + two_words(fields::quad_in(d, 12));
-    first + second + two_words(fields::quad_in(d, 16))
+    let first = checksum::two_words(fields::quad_in(d, 0))
+        + checksum::two_words(fields::quad_in(d, 4));
+    let second = checksum::two_words(fields::quad_in(d, 8))
+        + checksum::two_words(fields::quad_in(d, 12));
+    first + second + checksum::two_words(fields::quad_in(d, 16))
 }
 
 // Number 3. Most headers have no options.

@@ -1,4 +1,5 @@
 // The ICMPv6 messages that we write: Packet Too Big and the router solicitation; and the headers of any.
+use address::quads;
 use header::ICMPV6;
 use header::INNER_HEADER;
 use header::fields;
@@ -7,12 +8,14 @@ use lent::write_at;
 use refusals::Refusal;
 ghost use mathlib.Core.Path.{_≡_};
 ghost use mathlib.Core.Bool.{_&&_};
+ghost use mathlib.Core.List.{[], _∷_, _++_};
 ghost use Prim.Native.Nat.{_≤_};
 ghost use lib.ListN.{length, take};
 ghost use lib.Dec.{leb};
+ghost use Rattle.checksum.specs.Folding.{wordSum};
 ghost use Rattle.header.specs.Numbers.{innerHeader};
 ghost use Rattle.lent.specs.Written.{written};
-ghost use Rattle.messages.specs.Icmp.{messageHeaders, longestPacket, ipv6Header, enclosed, tooBigAnswer, tooBigOutput, solicitationAnswer, solicitationOutput};
+ghost use Rattle.messages.specs.Icmp.{solicitationType, messageHeaders, longestPacket, icmpSum, icmpWith, ipv6Header, enclosed, tooBigAnswer, tooBigOutput, solicitationAnswer, solicitationOutput};
 ghost use Rattle.messages.specs.Sealed.{sealed};
 
 // The types of the router solicitation and the router advertisement (RFC 4861, 4.1 and 4.2).
@@ -34,6 +37,9 @@ pub const QUOTE: usize = 1232;
 
 // The length of a router solicitation: nothing stands behind its headers.
 pub const SOLICITATION: usize = HEADERS;
+
+// The length of its ICMPv6 message.
+const LENGTH: u16 = (SOLICITATION - INNER_HEADER) as u16;
 
 // Writes the Packet Too Big that names the size, from the reporting address to the packet's source.
 pub fn too_big(reporting: [u8; 16], size: u16, packet: &[u8], out: &mut [u8]) -> Written
@@ -62,16 +68,33 @@ pub fn solicitation(from: [u8; 16], to: [u8; 16], out: &mut [u8]) -> Written
     if out.len() < SOLICITATION {
         return Written::Refused(Refusal::OutputShort);
     }
-    enclose(
-        HOP_LIMIT,
-        from,
-        to,
-        ROUTER_SOLICITATION,
-        [0; 4],
-        SOLICITATION,
-        out,
-    );
+    let sum = checksum::complement(solicitation_sum(from, to));
+    let high = fields::high(sum);
+    let low = fields::low(sum);
+    write_ipv6_header(LENGTH, HOP_LIMIT, from, to, out);
+    let front = [ROUTER_SOLICITATION, 0, high, low, 0, 0, 0, 0];
+    write_at(&front, out, INNER_HEADER);
     Written::Length(SOLICITATION)
+}
+
+// The exact sum of the words of an address.
+fn address_words(a: [u8; 16]) -> u32
+    ensures { λ r. ⌜ (r ≡ wordSum a) × (r ≤ 524280) ⌝ }
+{
+    let q = quads::numbers(a);
+    let first = checksum::two_words(q.first);
+    let second = checksum::two_words(q.second);
+    let third = checksum::two_words(q.third);
+    first + second + third + checksum::two_words(q.last)
+}
+
+// The sum of a solicitation with 0 for its checksum. Its words are added up as numbers, not from the bytes just written: those of the
+// addresses, and beside them its length, the next header and the type.
+fn solicitation_sum(from: [u8; 16], to: [u8; 16]) -> u16
+    ensures { λ r. ⌜ r ≡ icmpSum (from ++ to) (icmpWith solicitationType 0 0 (0 ∷ 0 ∷ 0 ∷ 0 ∷ [])) ⌝ }
+{
+    let fixed = LENGTH as u32 + ICMPV6 as u32 + ROUTER_SOLICITATION as u32 * 256;
+    checksum::sum_of_words(fixed + address_words(from) + address_words(to))
 }
 
 // Puts the headers of an ICMPv6 packet of n bytes before what already stands in out from byte 48 on: its type, code 0, and four bytes

@@ -21,7 +21,7 @@ returns c =
         c8 .two-words .ensures .0,
         c8 .before .quad-in .ensures,
       )
-          (ten-words (c8 .before .before .before .args .d .now) (c8 .before .before .before .pre) (λ i. c8 .before .before .shared-slice-known .given i .fits)),
+          (ten-words (c8 .before .before .before .args .d .now) (λ i. c8 .before .before .shared-slice-known .given i .fits) (c8 .before .before .before .pre)),
       omega (arith, c .two-words5 .ensures .1, c .before .before .two-words4 .ensures .1, c4 .two-words3 .ensures .1, c4 .before .before .two-words2 .ensures .1, c8 .two-words .ensures .1),
     )
 
