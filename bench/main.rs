@@ -89,8 +89,6 @@ fn main() {
             println!("figures:");
             let rows = measure::measured(rows, &mut counts);
             table::print_rows(&rows);
-            println!();
-            table::print_goals(&rows);
             println!("growth:");
             table::print_grown(&grown, &mut counts);
         }
