@@ -57,22 +57,15 @@ pub(crate) fn make(task: Task, window: &mut Window) {
     let mut out = io::large_buffer();
     let mut memory = [outputs::BLANK; calls::MEMORIES];
     let mut text = lines::room();
-    make_in(task, window, &mut out, &mut memory, &mut text);
+    made(task, window, &mut out, &mut memory, &mut text);
 }
 
 // A call is made here, and not in a function between, to which the node would be copied, and back. One that does not change it comes
 // last, but for the shortest.
-fn make_in(
-    task: Task,
-    window: &mut Window,
-    out: &mut Space,
-    memory: &mut Memories,
-    text: &mut Text,
-) {
+fn made(task: Task, window: &mut Window, out: &mut Space, memory: &mut Memories, text: &mut Text) {
     let mut node = task.node;
-    let spool = task.spool;
-    let mut walk = start(task.first).on(task.first, spool, window, text);
-    while (walk.at < walk.next) & (walk.at < spool.size) {
+    let mut walk = start(task.first).on(task.first, task.spool, window, text);
+    while (walk.at < walk.next) & (walk.at < task.spool.size) {
         let next = walk.next;
         let c = walk.call(window);
         let kind = calls::kind(c);
@@ -103,10 +96,9 @@ fn make_in(
             node = made.node;
             walk.end = made.end;
         } else {
-            walk = walk.told(node, spool, window, out, memory, text);
+            walk = walk.told(node, task.spool, window, out, memory, text);
         }
-        walk.end = line::end(walk.end, text);
-        walk = walk.on(next, spool, window, text);
+        walk = walk.ended(text).on(next, task.spool, window, text);
     }
     lines::written(walk.end, text);
 }
@@ -156,6 +148,12 @@ impl Walk {
             held,
             end: ready.end,
         }
+    }
+
+    // Its line is ended.
+    fn ended(mut self, text: &mut Text) -> Walk {
+        self.end = line::end(self.end, text);
+        self
     }
 
     // The call, as it is held.
