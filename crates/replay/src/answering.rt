@@ -1,74 +1,190 @@
-// The call that answers a solicitation, up to the packet that asks. Its lists may be longer than what is held of the input, so they are
-// read at their own places.
-use crate::calls;
+// The call that answers a solicitation. Its lists may be longer than what is held of the input, so each is read at its own place.
 use crate::spool;
 use crate::spool::Spool;
-use crate::start;
-use crate::start::Section;
+use crate::spool::above;
+use crate::window::Held;
+use crate::window::Window;
 use advertisements::Advertisement;
 use advertisements::prefix::Prefix;
 use advertisements::route::Preference;
 use advertisements::route::Route;
 use header::fields;
+ghost use Prim.Native.Nat.{_≤_};
 
 // The bytes of a prefix: length, flags, valid and preferred lifetime, and the prefix itself.
-const PREFIX: u8 = 26;
+const PREFIX: usize = 26;
 
 // The bytes of a route: length, preference, lifetime and prefix.
-const ROUTE: u8 = 22;
+const ROUTE: usize = 22;
 
 // Where the list of prefixes stands in the call.
 const PREFIXES: usize = 8;
+
+// The most bytes that are read of a list: its count and eight prefixes.
+const LIST: usize = 210;
+
+// The index of each list and of the packet's length, and what is held of the input once they are known.
+struct Places {
+    prefixes: usize,
+    routes: usize,
+    packet: usize,
+    held: Held,
+}
+
+// Whether the preferences are ones that there are.
+struct Seen {
+    known: bool,
+    held: Held,
+}
+
+// The bytes of a call, 0 where a preference is unknown.
+pub(crate) struct Sized {
+    pub(crate) size: usize,
+    pub(crate) held: Held,
+}
+
+// The numbers that stand first.
+struct Numbers {
+    service: u8,
+    locator: usize,
+    room: usize,
+    managed: bool,
+    other: bool,
+    lifetime: u16,
+}
+
+// The first entries of each list, and how many it says to have.
+struct Lists {
+    prefixes: [Prefix; 8],
+    prefix_count: usize,
+    routes: [Route; 8],
+    route_count: usize,
+    held: Held,
+}
 
 pub(crate) struct Answering {
     pub(crate) service: u8,
     pub(crate) locator: usize,
     pub(crate) room: usize,
     pub(crate) advertisement: Advertisement,
-    // Whether the service and each preference is one that there is.
-    pub(crate) known: bool,
-    // The index of the packet's length.
+    // The index of the packet's length, and what is held of the input, the packet whole.
     pub(crate) packet: usize,
-    pub(crate) failed: bool,
+    pub(crate) held: Held,
 }
 
-// The call at an index.
-pub(crate) fn read(spool: Spool, at: usize) -> Answering {
-    let prefixes = start::section_at(spool, spool::inside(at) + PREFIXES, PREFIX);
-    let routes = start::section_at(spool, prefixes.behind, ROUTE);
-    let list = routes.bytes;
-    let seen = preferences(spool, prefixes.behind, fields::word(&list, 0));
-    let numbers = start::section_at(spool, at, 0);
-    joined(numbers, prefixes, routes, seen)
+// The places of the call at an index.
+fn places_of(start: Held, at: usize, spool: Spool, window: &mut Window) -> Places
+    ensures { λ r. ⌜ r .packet ≤ 4194304 ⌝ }
+{
+    let prefixes = spool::inside(at) + PREFIXES;
+    let first = start.reaching(prefixes, 2, spool, window);
+    let count = fields::word(first.bytes(prefixes, window), 0);
+    let routes = prefixes + 2 + count as usize * PREFIX;
+    let held = first.reaching(routes, 2, spool, window);
+    let more = fields::word(held.bytes(routes, window), 0);
+    Places {
+        prefixes,
+        routes,
+        packet: routes + 2 + more as usize * ROUTE,
+        held,
+    }
 }
 
-// The call from what was read of it, the numbers that stand first and the lists.
-fn joined(numbers: Section, prefixes: Section, routes: Section, seen: Seen) -> Answering {
-    let head = numbers.bytes;
+// The bytes of the call at an index.
+pub(crate) fn size_at(start: Held, at: usize, spool: Spool, window: &mut Window) -> Sized {
+    let places = places_of(start, at, spool, window);
+    let packet = places.packet;
+    let found = places.held;
+    let seen = preferences(found, places.routes, packet, spool, window);
+    let read = seen.held;
+    let held = read.reaching(packet, 2, spool, window);
+    let length = fields::word(held.bytes(packet, window), 0);
+    let size = if seen.known {
+        above(packet, at) + 2 + length as usize
+    } else {
+        0
+    };
+    Sized { size, held }
+}
+
+// Reads the preferences of the routes of the list at an index, behind which the packet's length stands.
+fn preferences(start: Held, routes: usize, packet: usize, spool: Spool, window: &mut Window) -> Seen
+    requires { ⌜ packet ≤ 4194304 ⌝ }
+{
+    let mut held = start;
+    let mut at = spool::inside(routes) + 2;
+    while at < packet {
+        held = held.reaching(at, 2, spool, window);
+        if held.failed | (2 < fields::byte(held.bytes(at, window), 1)) {
+            return Seen { known: false, held };
+        }
+        at += ROUTE;
+    }
+    Seen { known: true, held }
+}
+
+// The call at an index, whose numbers are held, and all of which is there.
+pub(crate) fn read(start: Held, at: usize, spool: Spool, window: &mut Window) -> Answering {
+    let numbers = numbers_of(start.bytes(at, window));
+    let places = places_of(start, at, spool, window);
+    let lists = lists_at(places, spool, window);
+    let packet = places.packet;
+    let listed = lists.held;
+    let held = listed.reaching_all(packet, spool, window);
+    let advertisement = advertisement(numbers, lists);
     Answering {
-        service: fields::byte(&head, 1),
-        locator: fields::byte(&head, 2) as usize,
-        room: fields::word(&head, 3) as usize,
-        advertisement: advertisement(&head, prefixes, routes),
-        known: seen.known & calls::service_known(fields::byte(&head, 1)),
-        packet: routes.behind,
-        failed: numbers.failed | prefixes.failed | routes.failed | seen.failed,
+        service: numbers.service,
+        locator: numbers.locator,
+        room: numbers.room,
+        advertisement,
+        packet,
+        held,
+    }
+}
+
+fn numbers_of(head: &[u8]) -> Numbers {
+    let flags = fields::byte(head, 5);
+    Numbers {
+        service: fields::byte(head, 1),
+        locator: fields::byte(head, 2) as usize,
+        room: fields::word(head, 3) as usize,
+        managed: first_flag(flags),
+        other: second_flag(flags),
+        lifetime: fields::word(head, 6),
+    }
+}
+
+// The lists at their places.
+fn lists_at(places: Places, spool: Spool, window: &mut Window) -> Lists {
+    let start = places.held;
+    let first = start.reaching(places.prefixes, LIST, spool, window);
+    let prefix_count = fields::word(first.bytes(places.prefixes, window), 0) as usize;
+    let prefixes = first_prefixes(first.bytes(places.prefixes, window));
+    let held = first.reaching(places.routes, LIST, spool, window);
+    let route_count = fields::word(held.bytes(places.routes, window), 0) as usize;
+    let routes = first_routes(held.bytes(places.routes, window));
+    Lists {
+        prefixes,
+        prefix_count,
+        routes,
+        route_count,
+        held,
     }
 }
 
 // What the operator sets. A count is handed over as it stands. Entries behind it are read from whatever follows: the node does not look
 // at them.
-fn advertisement(head: &[u8], prefixes: Section, routes: Section) -> Advertisement {
-    let p = prefixes.bytes;
-    let r = routes.bytes;
+fn advertisement(numbers: Numbers, lists: Lists) -> Advertisement {
+    let prefixes = lists.prefixes;
+    let routes = lists.routes;
     Advertisement {
-        managed: first_flag(fields::byte(head, 5)),
-        other: second_flag(fields::byte(head, 5)),
-        lifetime: fields::word(head, 6),
-        prefixes: first_prefixes(&p),
-        prefix_count: fields::word(&p, 0) as usize,
-        routes: first_routes(&r),
-        route_count: fields::word(&r, 0) as usize,
+        managed: numbers.managed,
+        other: numbers.other,
+        lifetime: numbers.lifetime,
+        prefixes,
+        prefix_count: lists.prefix_count,
+        routes,
+        route_count: lists.route_count,
     }
 }
 
@@ -80,7 +196,7 @@ fn second_flag(flags: u8) -> bool {
     64 <= flags % 128
 }
 
-// The first eight prefixes of a section.
+// The first eight prefixes of a list.
 fn first_prefixes(s: &[u8]) -> [Prefix; 8] {
     [
         prefix(s, 0),
@@ -95,7 +211,7 @@ fn first_prefixes(s: &[u8]) -> [Prefix; 8] {
 }
 
 fn prefix(s: &[u8], i: u8) -> Prefix {
-    let r = fields::tail(s, 2 + i as usize * PREFIX as usize);
+    let r = fields::tail(s, 2 + i as usize * PREFIX);
     let flags = fields::byte(r, 1);
     Prefix {
         bytes: fields::address(r, 10),
@@ -107,7 +223,7 @@ fn prefix(s: &[u8], i: u8) -> Prefix {
     }
 }
 
-// The first eight routes of a section.
+// The first eight routes of a list.
 fn first_routes(s: &[u8]) -> [Route; 8] {
     [
         route(s, 0),
@@ -122,7 +238,7 @@ fn first_routes(s: &[u8]) -> [Route; 8] {
 }
 
 fn route(s: &[u8], i: u8) -> Route {
-    let r = fields::tail(s, 2 + i as usize * ROUTE as usize);
+    let r = fields::tail(s, 2 + i as usize * ROUTE);
     Route {
         bytes: fields::address(r, 6),
         lifetime: fields::quad(r, 2),
@@ -137,32 +253,5 @@ fn preference(n: u8) -> Preference {
         0 => Preference::Medium,
         1 => Preference::High,
         _ => Preference::Low,
-    }
-}
-
-// What a look at all preferences found.
-struct Seen {
-    known: bool,
-    failed: bool,
-}
-
-// Reads the preferences of so many routes, whose section is at an index.
-fn preferences(spool: Spool, at: usize, count: u16) -> Seen {
-    let first = spool::inside(at) + 2;
-    let mut i: usize = 0;
-    while i < count as usize {
-        let mut bytes = [0; 2];
-        let read = spool.read(first + i * ROUTE as usize, &mut bytes);
-        if read.failed | (2 < fields::byte(&bytes, 1)) {
-            return Seen {
-                known: false,
-                failed: read.failed,
-            };
-        }
-        i += 1;
-    }
-    Seen {
-        known: true,
-        failed: false,
     }
 }

@@ -2,9 +2,8 @@
 // the end reads as 0.
 use crate::answering::Answering;
 use crate::answers;
-use crate::line::Line;
+use crate::lines::Text;
 use crate::outputs;
-use crate::spool;
 use header::fields;
 use input::section;
 use node::Node;
@@ -15,23 +14,52 @@ ghost use Prim.Native.Nat.{_≤_};
 // the call that answers a solicitation the packet alone.
 pub(crate) const LONGEST: usize = 27 + 65535;
 
-// The kind of the call that answers a solicitation, and of the one that names no service.
-const ADVERTISE: u8 = 8;
+// The bytes of a call up to what it has of any length, at most.
+pub(crate) const HEAD: usize = 27;
 
-const REPORT: u8 = 3;
+// The kinds.
+pub(crate) const RECEIVE: u8 = 1;
+
+pub(crate) const SEND: u8 = 2;
+
+// The one that names no service.
+pub(crate) const REPORT: u8 = 3;
+
+pub(crate) const ROUTERS: u8 = 4;
+
+pub(crate) const ASK: u8 = 5;
+
+pub(crate) const ADVERTISEMENT: u8 = 6;
+
+pub(crate) const SIZE: u8 = 7;
+
+// The one that answers a solicitation.
+pub(crate) const ADVERTISE: u8 = 8;
+
+pub(crate) const WHOLE_MEMORY: u8 = 9;
+
+pub(crate) const PART: u8 = 10;
 
 // The bytes of each service's memory, one behind the other.
 pub(crate) const MEMORY: usize = 65535;
 
-// A call's line, and the next node.
+// The memories for what the two services collect, one behind the other.
+pub(crate) const MEMORIES: usize = MEMORY + MEMORY;
+
+pub(crate) type Memories = [u8; MEMORIES];
+
+// The space for outputs: no room is longer.
+pub(crate) type Space = [u8; 65536];
+
+// The index behind a call's line, and the next node.
 pub(crate) struct Made {
-    pub(crate) line: Line,
+    pub(crate) end: usize,
     pub(crate) node: Node,
 }
 
-// Whether the call answers a solicitation. The other functions on a whole call take one that does not.
-pub(crate) fn advertises(c: &[u8]) -> bool {
-    fields::byte(c, 0) == ADVERTISE
+// Whether the call answers a solicitation, of a service that there is. The other functions on a whole call take one that does not.
+pub(crate) fn answers_another(c: &[u8]) -> bool {
+    (fields::byte(c, 0) == ADVERTISE) & service_known(fields::byte(c, 1))
 }
 
 // The bytes of the call with its kind; 0 where the kind or the service is unknown.
@@ -44,14 +72,14 @@ pub(crate) fn size_of(c: &[u8]) -> usize {
         return 0;
     }
     match kind {
-        1 => 11 + fields::word(c, 9) as usize,
-        2 => 27 + fields::word(c, 25) as usize,
-        6 => 8 + fields::word(c, 6) as usize,
-        4 => 8 + 4 * fields::word(c, 6) as usize,
-        5 => 9,
-        7 => 6,
-        9 => 2,
-        10 => 5 + fields::word(c, 3) as usize,
+        RECEIVE => 11 + fields::word(c, 9) as usize,
+        SEND => 27 + fields::word(c, 25) as usize,
+        ADVERTISEMENT => 8 + fields::word(c, 6) as usize,
+        ROUTERS => 8 + 4 * fields::word(c, 6) as usize,
+        ASK => 9,
+        SIZE => 6,
+        WHOLE_MEMORY => 2,
+        PART => 5 + fields::word(c, 3) as usize,
         _ => 0,
     }
 }
@@ -82,14 +110,6 @@ fn memory_at(c: &[u8]) -> usize
     if fields::byte(c, 1) == 1 { MEMORY } else { 0 }
 }
 
-// The bytes of the call at an index that answers the solicitation behind its length; 0 where a preference is unknown.
-pub(crate) fn size_with(call: Answering, at: usize, c: &[u8]) -> usize {
-    if !call.known {
-        return 0;
-    }
-    spool::inside(spool::above(call.packet, at)) + 2 + fields::word(c, 0) as usize
-}
-
 // The index behind a call of so many bytes at an index, or that one where it has none or is cut off by the end.
 pub(crate) fn behind(size: usize, at: usize, end: usize) -> usize {
     if end < at {
@@ -101,19 +121,8 @@ pub(crate) fn behind(size: usize, at: usize, end: usize) -> usize {
     at + size
 }
 
-// Makes the call. An output is lent from the space, and what is collected stands in the memory.
-pub(crate) fn make(node: Node, c: &[u8], space: &mut [u8], memory: &mut [u8]) -> Made {
-    let kind = fields::byte(c, 0);
-    match kind {
-        1 => receive(node, c, memory),
-        3 => report(node, c),
-        4 => routers(node, c),
-        2 | 5 => writing(node, c, space),
-        6 => advertisement(node, c),
-        9 => whole_memory(node, c, memory),
-        10 => part(node, c),
-        _ => size(node, c),
-    }
+pub(crate) fn kind(c: &[u8]) -> u8 {
+    fields::byte(c, 0)
 }
 
 // Bytes behind their two-byte length, which stands at k.
@@ -123,13 +132,23 @@ fn counted(c: &[u8], k: u8) -> &[u8] {
 }
 
 // Of the service's memory as many bytes are lent as the call says.
-fn receive(node: Node, c: &[u8], memory: &mut [u8]) -> Made {
-    let from = lists::least(memory_at(c), memory.len());
-    let end = lists::least(from + fields::word(c, 7) as usize, memory.len());
-    receive_with(node, c, &mut memory[from..end])
+pub(crate) fn receive(
+    node: Node,
+    c: &[u8],
+    memory: &mut Memories,
+    at: usize,
+    text: &mut Text,
+) -> Made {
+    receive_in(node, c, memory, at, text)
 }
 
-fn receive_with(node: Node, c: &[u8], memory: &mut [u8]) -> Made {
+fn receive_in(node: Node, c: &[u8], memory: &mut [u8], at: usize, text: &mut Text) -> Made {
+    let from = lists::least(memory_at(c), memory.len());
+    let end = lists::least(from + fields::word(c, 7) as usize, memory.len());
+    receive_with(node, c, &mut memory[from..end], at, text)
+}
+
+fn receive_with(node: Node, c: &[u8], memory: &mut [u8], at: usize, text: &mut Text) -> Made {
     let received = node.receive(
         service_of(c),
         counted(c, 9),
@@ -138,46 +157,48 @@ fn receive_with(node: Node, c: &[u8], memory: &mut [u8]) -> Made {
         memory,
     );
     let answer = received.answer;
-    let line = answers::receive(answer, memory);
+    let end = answers::receive(answer, memory, at, text);
     let next = received.node;
-    Made { line, node: next }
+    Made { end, node: next }
 }
 
 // No call of the node: all of the service's memory as it stands.
-fn whole_memory(node: Node, c: &[u8], memory: &[u8]) -> Made {
-    let line = answers::memory(section::front(fields::tail(memory, memory_at(c)), MEMORY));
-    Made { line, node }
+pub(crate) fn whole_memory(c: &[u8], memory: &Memories, at: usize, text: &mut Text) -> usize {
+    answers::memory(
+        section::front(fields::tail(memory, memory_at(c)), MEMORY),
+        at,
+        text,
+    )
 }
 
-fn part(node: Node, c: &[u8]) -> Made {
-    let line = answers::part(node.received_part(service_of(c), counted(c, 3), fields::byte(c, 2)));
-    Made { line, node }
+pub(crate) fn part(node: Node, c: &[u8], at: usize, text: &mut Text) -> usize {
+    answers::part(
+        node.received_part(service_of(c), counted(c, 3), fields::byte(c, 2)),
+        at,
+        text,
+    )
 }
 
-// A call with an output, which has the room that the call says.
-fn writing(node: Node, c: &[u8], space: &mut [u8]) -> Made {
-    let room = lists::least(room(c) as usize, space.len());
-    writing_to(node, c, &mut space[..room])
+pub(crate) fn send(node: Node, c: &[u8], space: &mut Space, at: usize, text: &mut Text) -> Made {
+    send_in(node, c, space, at, text)
 }
 
-fn room(c: &[u8]) -> u16 {
-    let kind = fields::byte(c, 0);
-    match kind {
-        2 => fields::word(c, 23),
-        _ => fields::word(c, 7),
-    }
+fn send_in(node: Node, c: &[u8], space: &mut [u8], at: usize, text: &mut Text) -> Made {
+    let room = lists::least(fields::word(c, 23) as usize, space.len());
+    send_to(node, c, &mut space[..room], at, text)
 }
 
-fn writing_to(node: Node, c: &[u8], out: &mut [u8]) -> Made {
+pub(crate) fn ask(node: Node, c: &[u8], space: &mut Space, at: usize, text: &mut Text) -> Made {
+    ask_in(node, c, space, at, text)
+}
+
+fn ask_in(node: Node, c: &[u8], space: &mut [u8], at: usize, text: &mut Text) -> Made {
+    let room = lists::least(fields::word(c, 7) as usize, space.len());
+    ask_to(node, c, &mut space[..room], at, text)
+}
+
+fn send_to(node: Node, c: &[u8], out: &mut [u8], at: usize, text: &mut Text) -> Made {
     outputs::blank(out);
-    let kind = fields::byte(c, 0);
-    match kind {
-        2 => send(node, c, out),
-        _ => ask(node, c, out),
-    }
-}
-
-fn send(node: Node, c: &[u8], out: &mut [u8]) -> Made {
     let locator = fields::byte(c, 2) as usize;
     let next_hop = fields::address(c, 7);
     let sent = node.send(
@@ -189,20 +210,20 @@ fn send(node: Node, c: &[u8], out: &mut [u8]) -> Made {
         out,
     );
     let answer = sent.answer;
-    let line = answers::send(answer, outputs::digest(out));
+    let end = answers::send(answer, out, at, text);
     let next = sent.node;
-    Made { line, node: next }
+    Made { end, node: next }
 }
 
-fn report(node: Node, c: &[u8]) -> Made {
+pub(crate) fn report(node: Node, c: &[u8], at: usize, text: &mut Text) -> Made {
     let reported = node.report(counted(c, 5), fields::quad(c, 1));
     let answer = reported.answer;
-    let line = answers::report(answer);
+    let end = answers::report(answer, at, text);
     let next = reported.node;
-    Made { line, node: next }
+    Made { end, node: next }
 }
 
-fn routers(node: Node, c: &[u8]) -> Made {
+pub(crate) fn routers(node: Node, c: &[u8], at: usize, text: &mut Text) -> Made {
     let list = fields::tail(c, 6);
     let count = section::count(list);
     let replaced = node.replace_routers(
@@ -212,12 +233,13 @@ fn routers(node: Node, c: &[u8]) -> Made {
         fields::quad(c, 2),
     );
     let answer = replaced.answer;
-    let line = answers::routers(answer, count);
+    let end = answers::routers(answer, count, at, text);
     let next = replaced.node;
-    Made { line, node: next }
+    Made { end, node: next }
 }
 
-fn ask(node: Node, c: &[u8], out: &mut [u8]) -> Made {
+fn ask_to(node: Node, c: &[u8], out: &mut [u8], at: usize, text: &mut Text) -> Made {
+    outputs::blank(out);
     let asked = node.ask(
         service_of(c),
         fields::byte(c, 2) as usize,
@@ -225,26 +247,51 @@ fn ask(node: Node, c: &[u8], out: &mut [u8]) -> Made {
         out,
     );
     let answer = asked.answer;
-    let line = answers::ask(answer, outputs::digest(out));
+    let end = answers::ask(answer, out, at, text);
     let next = asked.node;
-    Made { line, node: next }
+    Made { end, node: next }
 }
 
-fn advertisement(node: Node, c: &[u8]) -> Made {
+pub(crate) fn advertisement(node: Node, c: &[u8], at: usize, text: &mut Text) -> Made {
     let heard = node.hear(service_of(c), counted(c, 6), fields::quad(c, 2));
     let answer = heard.answer;
-    let line = answers::advertisement(answer);
+    let end = answers::advertisement(answer, at, text);
     let next = heard.node;
-    Made { line, node: next }
+    Made { end, node: next }
 }
 
 // Answers the solicitation behind its length. An output is lent from the space.
-pub(crate) fn advertise(node: Node, call: Answering, c: &[u8], space: &mut [u8]) -> Made {
-    let room = lists::least(call.room, space.len());
-    advertise_to(node, call, c, &mut space[..room])
+pub(crate) fn advertise(
+    node: Node,
+    call: Answering,
+    c: &[u8],
+    space: &mut Space,
+    at: usize,
+    text: &mut Text,
+) -> usize {
+    advertise_in(node, call, c, space, at, text)
 }
 
-fn advertise_to(node: Node, call: Answering, c: &[u8], out: &mut [u8]) -> Made {
+fn advertise_in(
+    node: Node,
+    call: Answering,
+    c: &[u8],
+    space: &mut [u8],
+    at: usize,
+    text: &mut Text,
+) -> usize {
+    let room = lists::least(call.room, space.len());
+    advertise_to(node, call, c, &mut space[..room], at, text)
+}
+
+fn advertise_to(
+    node: Node,
+    call: Answering,
+    c: &[u8],
+    out: &mut [u8],
+    at: usize,
+    text: &mut Text,
+) -> usize {
     outputs::blank(out);
     let advertisement = call.advertisement;
     let answer = node.advertise(
@@ -254,12 +301,10 @@ fn advertise_to(node: Node, call: Answering, c: &[u8], out: &mut [u8]) -> Made {
         advertisement,
         out,
     );
-    let line = answers::advertise(answer, outputs::digest(out));
-    Made { line, node }
+    answers::advertise(answer, out, at, text)
 }
 
 // The size in force for a service toward a neighbour.
-fn size(node: Node, c: &[u8]) -> Made {
-    let line = answers::size(node.path_size(service_of(c), fields::quad(c, 2)));
-    Made { line, node }
+pub(crate) fn size(node: Node, c: &[u8], at: usize, text: &mut Text) -> usize {
+    answers::size(node.path_size(service_of(c), fields::quad(c, 2)), at, text)
 }

@@ -1,73 +1,110 @@
-// A line of the output, built from its words and values.
-use input::section;
+// A line of the output, written word by word. Each function writes from an index on and gives the index behind what it wrote; where the
+// text has no room for it, nothing is written.
+use crate::lines::Text;
+use header::fields;
 use refusals::Refusal;
 
-// No line is longer.
+// No line is longer, its line feed too.
 pub(crate) const LONGEST: usize = 64;
 
-pub(crate) struct Line {
-    pub(crate) bytes: [u8; LONGEST],
-    pub(crate) length: usize,
+// Writes words as they are.
+pub(crate) fn words(bytes: &[u8], at: usize, text: &mut Text) -> usize {
+    if text.len() < at {
+        return at;
+    }
+    if text.len() - at < bytes.len() {
+        return at;
+    }
+    lent::write_at(bytes, text, at);
+    at + bytes.len()
 }
 
-impl Line {
-    // A line that begins with these words.
-    pub(crate) fn new(words: &[u8]) -> Line {
-        let empty = Line {
-            bytes: [0; LONGEST],
-            length: 0,
-        };
-        empty.with(words)
+fn byte(value: u8, at: usize, text: &mut Text) -> usize {
+    if at < text.len() {
+        text[at] = value;
+        return at + 1;
     }
+    at
+}
 
-    fn with(self, text: &[u8]) -> Line {
-        let at = lists::least(self.length, LONGEST);
-        let n = lists::least(text.len(), LONGEST - at);
-        let mut bytes = self.bytes;
-        lent::write_at(section::front(text, n), &mut bytes, at);
-        Line {
-            bytes,
-            length: at + n,
-        }
-    }
+// Writes a number behind a space.
+pub(crate) fn number(n: u16, at: usize, text: &mut Text) -> usize {
+    decimal(n, byte(b' ', at, text), text)
+}
 
-    fn decimal(self, n: u64) -> Line {
-        let mut digits = [0; 20];
-        let k = io::decimal(n, &mut digits);
-        self.with(&digits[..k])
-    }
+// Writes a number in decimal.
+fn decimal(n: u16, at: usize, text: &mut Text) -> usize {
+    let digits = [
+        digit(n / 10000),
+        digit(n / 1000),
+        digit(n / 100),
+        digit(n / 10),
+        digit(n),
+    ];
+    words(fields::tail(&digits, zeros(n)), at, text)
+}
 
-    pub(crate) fn number(self, n: u64) -> Line {
-        let spaced = self.with(b" ");
-        spaced.decimal(n)
-    }
+// The last decimal digit of a number.
+fn digit(n: u16) -> u8 {
+    48 + (n % 10) as u8
+}
 
-    pub(crate) fn refusal(self, refusal: Refusal) -> Line {
-        self.number(refusal.number() as u64)
+// How many of a number's five digits are zeros in front.
+fn zeros(n: u16) -> usize {
+    if n < 10 {
+        4
+    } else if n < 100 {
+        3
+    } else if n < 1000 {
+        2
+    } else if n < 10000 {
+        1
+    } else {
+        0
     }
+}
 
-    // An IPv4 address in dotted decimal.
-    pub(crate) fn address(self, a: u32) -> Line {
-        let first = self.number((a / 16777216) as u64);
-        let second = first.octet(a / 65536 % 256);
-        let third = second.octet(a / 256 % 256);
-        third.octet(a % 256)
-    }
+pub(crate) fn refusal(refusal: Refusal, at: usize, text: &mut Text) -> usize {
+    number(refusal.number() as u16, at, text)
+}
 
-    fn octet(self, n: u32) -> Line {
-        let dotted = self.with(b".");
-        dotted.decimal(n as u64)
-    }
+// Writes an IPv4 address in dotted decimal behind a space.
+pub(crate) fn address(a: u32, at: usize, text: &mut Text) -> usize {
+    let bytes = fields::quad_bytes(a);
+    let first = number(bytes[0] as u16, at, text);
+    let second = octet(bytes[1], first, text);
+    let third = octet(bytes[2], second, text);
+    octet(bytes[3], third, text)
+}
 
-    pub(crate) fn digest(self, digest: u32) -> Line {
-        let mut digits = [0; 16];
-        let k = io::hex(digest as u64, 8, &mut digits);
-        let spaced = self.with(b" ");
-        spaced.with(&digits[..k])
-    }
+// Writes a number behind a dot.
+fn octet(n: u8, at: usize, text: &mut Text) -> usize {
+    decimal(n as u16, byte(b'.', at, text), text)
+}
 
-    // With the line feed that ends it.
-    pub(crate) fn ended(self) -> Line {
-        self.with(b"\n")
-    }
+// Writes a digest behind a space.
+pub(crate) fn digest(n: u32, at: usize, text: &mut Text) -> usize {
+    let digits = [
+        b' ',
+        hexadecimal(n / 268435456),
+        hexadecimal(n / 16777216),
+        hexadecimal(n / 1048576),
+        hexadecimal(n / 65536),
+        hexadecimal(n / 4096),
+        hexadecimal(n / 256),
+        hexadecimal(n / 16),
+        hexadecimal(n),
+    ];
+    words(&digits, at, text)
+}
+
+// The last hexadecimal digit of a number.
+fn hexadecimal(n: u32) -> u8 {
+    let digit = (n % 16) as u8;
+    if digit < 10 { 48 + digit } else { 87 + digit }
+}
+
+// Writes the line feed that ends a line.
+pub(crate) fn end(at: usize, text: &mut Text) -> usize {
+    byte(b'\n', at, text)
 }

@@ -4,25 +4,20 @@ mod answering;
 mod answers;
 mod calls;
 mod line;
+mod lines;
 mod outputs;
 mod spool;
 mod start;
 mod walk;
+mod window;
 
-use line::Line;
 use node::Node;
 use node::Setup;
 use node::SetupAnswer;
+use refusals::Refusal;
 use spool::Spool;
 use start::Start;
-ghost use mathlib.Core.Path.{_≡_};
-ghost use lib.ListN.{length};
-
-// The part of the input that is held at a time: the longest call, and so much more that it is not read again for each short one.
-const WINDOW: usize = calls::LONGEST + 8192;
-
-// The memories for what the two services collect, one behind the other.
-const MEMORIES: usize = calls::MEMORY + calls::MEMORY;
+use walk::Task;
 
 fn main() {
     let spool = spool::input();
@@ -34,18 +29,6 @@ fn main() {
         return;
     }
     run(spool, start);
-}
-
-fn window() -> [u8; WINDOW]
-    ensures { λ r. ⌜ 73754 ≡ length r ⌝ }
-{
-    [0; WINDOW]
-}
-
-fn memory() -> [u8; MEMORIES]
-    ensures { λ r. ⌜ 131070 ≡ length r ⌝ }
-{
-    [outputs::BLANK; MEMORIES]
 }
 
 // The node of the start.
@@ -62,40 +45,37 @@ fn setup(start: Start) -> Setup {
 // Reads all calls through, and then makes them.
 fn run(spool: Spool, start: Start) {
     let setup = setup(start);
-    let node = setup.node;
-    let mut window = window();
-    let mut out = io::large_buffer();
-    let mut memory = memory();
-    let mut lines = io::buffer();
-    let first = walk::start(node, false, start.calls);
-    let read = walk::through(first, spool, &mut window, &mut out, &mut memory, &mut lines);
-    if read.failed {
+    let mut window = [0; window::LENGTH];
+    let read = walk::checked(start.calls, spool, &mut window);
+    let held = read.held;
+    if held.failed {
         return;
     }
-    if !start.known | (spool::LIMIT < spool.size) | (read.at != spool.size) {
-        walk::write(b"bad input\n");
+    if !start.known | (spool::LIMIT < spool.size) | (read.next != spool.size) {
+        lines::write(b"bad input\n");
         return;
     }
     let answer = setup.answer;
     match answer {
         SetupAnswer::Made => {
-            let second = walk::start(node, true, start.calls);
-            walk::through(
-                second,
+            let node = setup.node;
+            let task = Task {
+                node,
+                first: start.calls,
                 spool,
-                &mut window,
-                &mut out,
-                &mut memory,
-                &mut lines,
-            );
+            };
+            walk::make(task, &mut window);
         }
         SetupAnswer::Refused(refusal) => {
-            refused(Line::new(b"settings refuse").refusal(refusal).ended());
+            refused(refusal);
         }
     }
 }
 
-fn refused(line: Line) {
-    let bytes = line.bytes;
-    walk::write(input::section::front(&bytes, line.length));
+// Says that the settings are refused.
+fn refused(refusal: Refusal) {
+    let mut text = lines::room();
+    let end = answers::settings(refusal, 0, &mut text);
+    let n = line::end(end, &mut text);
+    lines::written(n, &text);
 }

@@ -88,7 +88,9 @@ fn copy_block(file: i32) -> Reading
 }
 
 // How far a is above b.
-pub(crate) fn above(a: usize, b: usize) -> usize {
+pub(crate) fn above(a: usize, b: usize) -> usize
+    ensures { λ r. ⌜ r ≤ a ⌝ }
+{
     if b < a { a - b } else { 0 }
 }
 

@@ -5,14 +5,14 @@ use header::fields;
 use input::section;
 use settings::Settings;
 
-// A section's count and its longest list that is accepted: eight prefixes of an advertisement.
-const HEAD: usize = 210;
+// A section's count and its longest list that is accepted: sixteen routers, or eight prefixes.
+const HEAD: usize = 66;
 
 // The first bytes of a section, and the index behind the whole of it.
-pub(crate) struct Section {
-    pub(crate) bytes: [u8; HEAD],
-    pub(crate) behind: usize,
-    pub(crate) failed: bool,
+struct Section {
+    bytes: [u8; HEAD],
+    behind: usize,
+    failed: bool,
 }
 
 // The settings of one service, and the index behind them.
@@ -78,7 +78,7 @@ fn part_at(spool: Spool, at: usize) -> Part {
 }
 
 // The section at an index, whose records have so many bytes.
-pub(crate) fn section_at(spool: Spool, at: usize, record: u8) -> Section {
+fn section_at(spool: Spool, at: usize, record: u8) -> Section {
     let mut bytes = [0; HEAD];
     let read = spool.read(at, &mut bytes);
     let records = fields::word(&bytes, 0) as usize * record as usize;

@@ -1,193 +1,198 @@
-// A walk through the calls of the input, once to see that they are whole, and once to make them.
+// The calls of the input, gone through once to see that they are whole, and once to make them.
 use crate::answering;
-use crate::answering::Answering;
 use crate::calls;
-use crate::calls::Made;
+use crate::calls::Memories;
+use crate::calls::Space;
 use crate::line;
-use crate::line::Line;
+use crate::lines;
+use crate::lines::Text;
+use crate::outputs;
 use crate::spool::Spool;
 use crate::spool::above;
-use header::fields;
-use input::section;
+use crate::window;
+use crate::window::Held;
+use crate::window::Window;
 use node::Node;
+ghost use mathlib.Core.Path.{_≡_};
 
-// The room for lines that wait.
-const LINES: usize = 4096;
+// The calls of a spool from an index on, and the node that they are made on.
+pub(crate) struct Task {
+    pub(crate) node: Node,
+    pub(crate) first: usize,
+    pub(crate) spool: Spool,
+}
 
 pub(crate) struct Walk {
-    pub(crate) node: Node,
-    // Whether calls are made.
-    pub(crate) making: bool,
-    // The index of the next call. It stays where a call is unknown or cut off, or a read or a write fails.
+    // The index of a call, and of what stands behind it: the same one where it is unknown or cut off, or a read or a write failed.
     pub(crate) at: usize,
-    // The part of the input that the window holds.
-    pub(crate) from: usize,
-    pub(crate) held: usize,
-    // The bytes of lines that wait to be written.
-    pub(crate) waiting: usize,
-    pub(crate) failed: bool,
+    pub(crate) next: usize,
+    // What is held of the input.
+    pub(crate) held: Held,
+    // The index behind the lines that wait.
+    pub(crate) end: usize,
 }
 
-// A walk from an index on.
-pub(crate) fn start(node: Node, making: bool, at: usize) -> Walk {
+// Before the call at an index.
+fn start(at: usize) -> Walk {
+    let held = window::nothing();
     Walk {
-        node,
-        making,
         at,
-        from: 0,
-        held: 0,
-        waiting: 0,
-        failed: false,
+        next: at,
+        held,
+        end: 0,
     }
 }
 
-// Goes on to the end of the input, or to where the walk stays.
-pub(crate) fn through(
-    start: Walk,
-    spool: Spool,
-    window: &mut [u8],
-    out: &mut [u8],
-    memory: &mut [u8],
-    lines: &mut [u8],
-) -> Walk {
-    let mut walk = start;
-    while walk.at < spool.size {
-        let next = walk.turn(spool, window, out, memory, lines);
-        if next.at <= walk.at {
-            return next;
-        }
-        walk = next;
+// Goes through the calls from an index on, to the end of the input, or to one that it cannot pass.
+pub(crate) fn checked(first: usize, spool: Spool, window: &mut Window) -> Walk {
+    let mut walk = start(first).past(first, spool, window);
+    while (walk.at < walk.next) & (walk.at < spool.size) {
+        walk = walk.past(walk.next, spool, window);
     }
-    walk.written(lines)
+    walk
+}
+
+// Makes the calls, which are whole, up to where a read or a write fails.
+pub(crate) fn make(task: Task, window: &mut Window) {
+    let mut out = io::large_buffer();
+    let mut memory = [outputs::BLANK; calls::MEMORIES];
+    let mut text = lines::room();
+    made(task, window, &mut out, &mut memory, &mut text);
+}
+
+// A call is made here, and not in a function between, to which the node would be copied, and back. One that does not change it comes
+// last, but for the shortest.
+fn made(task: Task, window: &mut Window, out: &mut Space, memory: &mut Memories, text: &mut Text) {
+    let mut node = task.node;
+    let mut walk = start(task.first).on(task.first, task.spool, window, text);
+    while (walk.at < walk.next) & (walk.at < task.spool.size) {
+        let next = walk.next;
+        let c = walk.call(window);
+        let kind = calls::kind(c);
+        if kind == calls::SIZE {
+            walk.end = calls::size(node, c, walk.end, text);
+        } else if kind == calls::RECEIVE {
+            let made = calls::receive(node, c, memory, walk.end, text);
+            node = made.node;
+            walk.end = made.end;
+        } else if kind == calls::SEND {
+            let made = calls::send(node, c, out, walk.end, text);
+            node = made.node;
+            walk.end = made.end;
+        } else if kind == calls::REPORT {
+            let made = calls::report(node, c, walk.end, text);
+            node = made.node;
+            walk.end = made.end;
+        } else if kind == calls::ROUTERS {
+            let made = calls::routers(node, c, walk.end, text);
+            node = made.node;
+            walk.end = made.end;
+        } else if kind == calls::ASK {
+            let made = calls::ask(node, c, out, walk.end, text);
+            node = made.node;
+            walk.end = made.end;
+        } else if kind == calls::ADVERTISEMENT {
+            let made = calls::advertisement(node, c, walk.end, text);
+            node = made.node;
+            walk.end = made.end;
+        } else {
+            walk = walk.told(node, task.spool, window, out, memory, text);
+        }
+        walk = walk.ended(text).on(next, task.spool, window, text);
+    }
+    lines::written(walk.end, text);
 }
 
 impl Walk {
-    // The window holds the input from an index on, as far as a call is read.
-    fn filled(mut self, at: usize, spool: Spool, window: &mut [u8]) -> Walk {
-        let ahead = above(self.held, above(at, self.from));
-        if (calls::LONGEST <= ahead) | (above(spool.size, at) <= ahead) {
-            return self;
+    // At the call at an index.
+    fn past(self, at: usize, spool: Spool, window: &mut Window) -> Walk
+        ensures { λ r. ⌜ r .at ≡ at ⌝ }
+    {
+        let start = self.held;
+        let held = start.reaching(at, calls::HEAD, spool, window);
+        let c = held.bytes(at, window);
+        if calls::answers_another(c) {
+            let sized = answering::size_at(held, at, spool, window);
+            let read = sized.held;
+            return self.before(at, sized.size, read, spool.size);
         }
-        let read = spool.read(at, window);
-        self.from = at;
-        self.held = read.count;
-        self.failed = read.failed;
+        self.before(at, calls::size_of(c), held, spool.size)
+    }
+
+    // At the call at an index, of so many bytes, in an input of so many.
+    fn before(self, at: usize, size: usize, held: Held, end: usize) -> Walk
+        ensures { λ r. ⌜ r .at ≡ at ⌝ }
+    {
+        let size = if held.failed { 0 } else { size };
+        Walk {
+            at,
+            next: calls::behind(size, at, end),
+            held,
+            end: self.end,
+        }
+    }
+
+    // At the call at an index, which is held, or as much of it as is read at once, with room for its line.
+    fn on(self, at: usize, spool: Spool, window: &mut Window, text: &Text) -> Walk
+        ensures { λ r. ⌜ r .at ≡ at ⌝ }
+    {
+        let past = self.past(at, spool, window);
+        let start = past.held;
+        let size = lists::least(above(past.next, at), calls::LONGEST);
+        let held = start.reaching(at, size, spool, window);
+        let ready = lines::with_room(self.end, text);
+        let whole = !held.failed & !ready.failed;
+        Walk {
+            at,
+            next: if whole { past.next } else { at },
+            held,
+            end: ready.end,
+        }
+    }
+
+    // Its line is ended.
+    fn ended(mut self, text: &mut Text) -> Walk {
+        self.end = line::end(self.end, text);
         self
     }
 
-    // What the window holds from an index on.
-    fn ahead(self, at: usize, window: &[u8]) -> &[u8] {
-        fields::tail(section::front(window, self.held), above(at, self.from))
+    // The call, as it is held.
+    fn call(self, window: &Window) -> &[u8] {
+        let held = self.held;
+        held.bytes(self.at, window)
     }
 
-    // Past the next call.
-    fn turn(
+    // The call changes nothing, and its line is written.
+    fn told(
         self,
+        node: Node,
         spool: Spool,
-        window: &mut [u8],
-        out: &mut [u8],
-        memory: &mut [u8],
-        lines: &mut [u8],
+        window: &mut Window,
+        out: &mut Space,
+        memory: &Memories,
+        text: &mut Text,
     ) -> Walk {
-        let walk = self.filled(self.at, spool, window);
-        if calls::advertises(walk.ahead(walk.at, window)) {
-            return walk.past_lists(spool, window, out, lines);
-        }
-        walk.past(spool.size, window, out, memory, lines)
-    }
-
-    // Past the call that the window holds, of an input of so many bytes.
-    fn past(
-        mut self,
-        size: usize,
-        window: &[u8],
-        out: &mut [u8],
-        memory: &mut [u8],
-        lines: &mut [u8],
-    ) -> Walk {
-        let c = self.ahead(self.at, window);
-        let next = calls::behind(calls::size_of(c), self.at, size);
-        if self.failed {
-            return self;
-        }
-        if self.making {
-            let node = self.node;
-            return self.made(next, calls::make(node, c, out, memory), lines);
-        }
-        self.at = next;
-        self
-    }
-
-    // Past the next call, which answers a solicitation: the window holds its packet once its lists are read.
-    fn past_lists(self, spool: Spool, window: &mut [u8], out: &mut [u8], lines: &mut [u8]) -> Walk {
-        let call = answering::read(spool, self.at);
-        let mut walk = self.filled(call.packet, spool, window);
-        walk.failed = walk.failed | call.failed;
-        walk.answered(call, spool.size, window, out, lines)
-    }
-
-    // Past the call whose packet the window holds, of an input of so many bytes.
-    fn answered(
-        mut self,
-        call: Answering,
-        size: usize,
-        window: &[u8],
-        out: &mut [u8],
-        lines: &mut [u8],
-    ) -> Walk {
-        let c = self.ahead(call.packet, window);
-        let next = calls::behind(calls::size_with(call, self.at, c), self.at, size);
-        if self.failed {
-            return self;
-        }
-        if self.making {
-            let node = self.node;
-            return self.made(next, calls::advertise(node, call, c, out), lines);
-        }
-        self.at = next;
-        self
-    }
-
-    // The call is made: its line is written. The next call is at the index.
-    fn made(mut self, next: usize, made: Made, lines: &mut [u8]) -> Walk {
-        let after = made.node;
-        self.node = after;
-        let line = made.line;
-        let mut walk = self.with_line(line.ended(), lines);
-        if !walk.failed {
-            walk.at = next;
-        }
-        walk
-    }
-
-    // The line waits with the others, which are written first where there may be no room for it.
-    fn with_line(self, line: Line, lines: &mut [u8]) -> Walk {
         let mut walk = self;
-        if above(LINES, walk.waiting) < line::LONGEST {
-            walk = self.written(lines);
+        let c = self.call(window);
+        let kind = calls::kind(c);
+        if kind == calls::ADVERTISE {
+            let start = self.held;
+            let call = answering::read(start, self.at, spool, window);
+            let held = call.held;
+            walk.held = held;
+            walk.end = calls::advertise(
+                node,
+                call,
+                held.bytes(call.packet, window),
+                out,
+                self.end,
+                text,
+            );
+        } else if kind == calls::PART {
+            walk.end = calls::part(node, c, self.end, text);
+        } else {
+            walk.end = calls::whole_memory(c, memory, self.end, text);
         }
-        let at = lists::least(walk.waiting, LINES);
-        let bytes = line.bytes;
-        let n = lists::least(line.length, line::LONGEST);
-        lent::write_at(section::front(&bytes, n), lines, at);
-        walk.waiting = at + n;
         walk
     }
-
-    // The lines that wait are written.
-    fn written(mut self, lines: &[u8]) -> Walk {
-        let done = write(section::front(lines, self.waiting));
-        self.waiting = 0;
-        self.failed = self.failed | !done;
-        self
-    }
-}
-
-// Writes to standard output. That it failed is said.
-pub(crate) fn write(bytes: &[u8]) -> bool {
-    let done = io::write_all(1, bytes);
-    if !done {
-        io::write_all(2, b"replay: standard output could not be written\n");
-    }
-    done
 }
