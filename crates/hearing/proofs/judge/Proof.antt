@@ -1,4 +1,4 @@
--- `hearing::hear` meets its contract: at each return the tests that led there say which row holds. Assumes nothing.
+-- `hearing::judge` meets its contract: at each return the tests that led there say which row holds. Assumes nothing.
 use native.Mathlib.Omega.{arith}
 use mathlib.Core.Path.{_≡_, sym, _∙_}
 use mathlib.Core.Bool.{true, false}
@@ -7,8 +7,8 @@ use Rattle.checksum.proofs.Bytes.{bytes-of}
 use Rattle.header.specs.Inner.{innerOf, isInnerMalformed}
 use Rattle.hearing.specs.Heard.{isAdvertisement, heardOf}
 use Rattle.hearing.proofs.Stages.{taken-length, taken-bounds, message-stage, no-message}
-use Rattle.hearing.proofs.hear.Statement.{statement}
-use Rattle.hearing.proofs.hear.Tie as tie
+use Rattle.hearing.proofs.judge.Statement.{statement}
+use Rattle.hearing.proofs.judge.Tie as tie
 
 returns : tie.Need-returns
 unfolding heardOf
@@ -35,7 +35,7 @@ returns-2 c =
     let right : isInnerMalformed (length (a .packet .now)) (innerOf (a .packet .now)) ≡ false = rw (← h) (sym (m .inner-malformed .ensures) ∙ v .before .before .if1 .left) in
     let is : isAdvertisement (innerOf (a .packet .now)) (take (innerOf (a .packet .now) .length) (a .packet .now)) ≡ true =
     rw (← h) (sym (v .advertisement .ensures) ∙ c .before .before .if2 .taken) in
-    c .hear-message .ensures ∙ rw h (message-stage (a .settings) (a .routers) (a .time) (a .packet .now) right is)
+    c .judge-message .ensures ∙ rw h (message-stage (a .settings) (a .routers) (a .time) (a .packet .now) right is)
 
 returns-3 : tie.Need-returns-3
 returns-3 c =
@@ -46,9 +46,9 @@ returns-3 c =
     let right : isInnerMalformed (length (a .packet .now)) (innerOf (a .packet .now)) ≡ false = rw (← h) (sym (m .inner-malformed .ensures) ∙ v .before .before .if1 .left) in
     let none : isAdvertisement (innerOf (a .packet .now)) (take (innerOf (a .packet .now) .length) (a .packet .now)) ≡ false =
     rw (← h) (sym (v .advertisement .ensures) ∙ c .before .if2 .left) in
-    c .refused2 .ensures ∙ no-message (a .settings) (a .routers) (a .time) (a .packet .now) right none
+    rw (c .refused2 .ensures) (no-message (a .settings) (a .routers) (a .time) (a .packet .now) right none)
 
-pub hear-spec : {M : Type 1} → statement M
-hear-spec =
+pub judge-spec : {M : Type 1} → statement M
+judge-spec =
     tie.close
     (tie.spec (omega arith) (omega arith) (omega arith) returns slice-aggregate-p advertisement-requires (omega arith) (omega arith) returns-2 returns-3)
