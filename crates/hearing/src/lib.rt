@@ -5,6 +5,7 @@ pub mod solicitation;
 
 use address::Embedded;
 use address::prefixes;
+use header::ICMPV6;
 use header::INNER_HEADER;
 use header::fields;
 use header::inner;
@@ -52,12 +53,15 @@ impl HeardAnswer {
     }
 }
 
-// Whether a packet with the header i is a router advertisement, its options aside. The checksum, which takes a pass over all bytes,
-// is asked last.
+// Whether a packet with the header i is a router advertisement, its options aside. What most other packets lack is asked first, and the
+// checksum, which takes a pass over all bytes, last.
 fn advertisement(i: Inner, p: &[u8]) -> bool
     requires { ⌜ (40 ≤ length (now p)) × (length (now p) ≤ 65575) ⌝ }
     ensures { λ r. ⌜ r ≡ isAdvertisement i (now (p .entry)) ⌝ }
 {
+    if i.next != ICMPV6 {
+        return false;
+    }
     let source = i.source;
     if address::link_local_prefixed(source)
         & message::fields_right(ROUTER_ADVERTISEMENT, OPTIONS, i, p)

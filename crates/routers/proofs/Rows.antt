@@ -6,7 +6,7 @@ use mathlib.Core.Bool.{Bool, cond, _||_}
 use Prim.Native.Nat.{ℕ, zero, suc, _<_, _≤_, min}
 use native.Mathlib.Nat.{zero-min, le-of-suc-le-suc, not-suc-le-zero}
 use native.Mathlib.Omega.{arith}
-use lib.ListN.{length, getD, take, length-take}
+use lib.ListN.{length, getD, take, replicate, length-take}
 use lib.Dec.{eqb}
 use Rattle.routers.specs.declared.Router.{Router}
 use Rattle.routers.specs.Routers.{pairs, heldIn, listed, dueIf, rescheduled, duesAfter, among}
@@ -55,3 +55,8 @@ stored-due a d i bs ds h k = rw (pair-at i bs ds h k)
 pub dues-made : (a d : ℕ) (rs : List Router) → map (λ (r : Router). dueIf a d r .due) rs ≡ map (λ (r : Router). r .due) (rescheduled a d rs)
 dues-made a d [] = refl
 dues-made a d (r ∷ rs) = ap (λ (q : List ℕ). dueIf a d r .due ∷ q) (dues-made a d rs)
+
+-- the row of due times at setup
+pub zeros : (bs : List ℕ) → replicate {A = ℕ} (length bs) 0 ≡ map (λ b. 0) bs
+zeros [] = refl
+zeros (b ∷ bs) = ap (λ (q : List ℕ). 0 ∷ q) (zeros bs)

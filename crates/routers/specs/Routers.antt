@@ -2,7 +2,7 @@
 use Prim.Native.Nat.{ℕ}
 use mathlib.Core.List.{List, [], _∷_, map}
 use mathlib.Core.Bool.{Bool, true, cond, not, _&&_}
-use lib.ListN.{take, replicate}
+use lib.ListN.{take}
 use lib.Dec.{ltb, leb, eqb}
 use Rattle.lists.specs.Any.{anyOf}
 use Rattle.routers.specs.declared.Router.{Router}
@@ -82,7 +82,7 @@ replacedOf addresses n now l = record { addresses = addresses; dues = map (λ a.
 
 -- R2.12: at setup all are due at time 0
 abbrev pub newOf : List ℕ → ℕ → RouterList
-newOf addresses n = record { addresses = addresses; dues = replicate places 0; count = n }
+newOf addresses n = record { addresses = addresses; dues = map (λ a. 0) addresses; count = n }
 
 -- the address is among the addresses
 abbrev pub among : ℕ → List ℕ → Bool
