@@ -257,12 +257,13 @@ pub fn asked(
     let there = numbered::there(both, service);
     let given = ask::answered_by(there, named, latest, locator, out);
     let answer = answers::plain_asked(given);
+    let asked = answer.number == 0;
     AskedStep {
         answer,
         latest,
         router: answer.router,
         due: latest as u64 + named.settings.interval as u64,
-        changed: answer.number == 0,
+        changed: asked,
     }
 }
 
@@ -282,12 +283,13 @@ pub fn heard(
     let judged = hear::judged_by(there, named, latest, packet);
     let given = judged.answer;
     let answer = answers::plain_heard(given);
+    let accepted = answer.number == 0;
     HeardStep {
         answer,
         latest,
         router: answer.router,
         due: judged.due,
-        changed: answer.number == 0,
+        changed: accepted,
     }
 }
 

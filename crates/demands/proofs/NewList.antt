@@ -33,7 +33,7 @@ module _ (other a : ℕ) where
 
 -- the routers at the places of a list whose due times are made of its addresses
 module _ (f : ℕ → ℕ) (addresses : List ℕ) where
-  made : ℕ → Router
+  abbrev made : ℕ → Router
   made a = record { address = a; due = f a }
 
   made-length : length (pairs addresses (map f addresses)) ≡ length addresses

@@ -75,10 +75,13 @@ duesAfter a d addresses dues = map (λ r. r .due) (rescheduled a d (pairs addres
 abbrev pub rescheduledOf : ℕ → ℕ → RouterList → RouterList
 rescheduledOf a d l = record { addresses = l .addresses; dues = duesAfter a d (l .addresses) (l .dues); count = l .count }
 
--- R2.13: the router list replaced, with a time: a router in both lists keeps its due time, a new one is due now; a count above 16 is read
--- as 16, here as everywhere
+-- R2.13: a router in both lists keeps its due time, a new one is due now
+abbrev pub kept : ℕ → List Router → ℕ → ℕ
+kept now old a = dueOr now a old
+
+-- R2.13: the router list replaced, with a time; a count above 16 is read as 16, here as everywhere
 abbrev pub replacedOf : List ℕ → ℕ → ℕ → RouterList → RouterList
-replacedOf addresses n now l = record { addresses = addresses; dues = map (λ a. dueOr now a (live l)) addresses; count = n }
+replacedOf addresses n now l = record { addresses = addresses; dues = map (kept now (live l)) addresses; count = n }
 
 -- R2.12: at setup all are due at time 0
 abbrev pub newOf : List ℕ → ℕ → RouterList

@@ -1,6 +1,5 @@
 // The router list: which addresses are listed, which router is asked next, and when each is due again.
-// Every list is taken: what counts are the first `count` of its 16 places. What is looked up is looked up over lent rows, so that none is
-// copied.
+// Every list is taken: what counts are the first `count` of its 16 places. A search runs over lent rows; a list by value lends its own.
 ghost use mathlib.Core.Path.{_≡_};
 ghost use Prim.Native.Nat.{min};
 ghost use mathlib.Core.Bool.{cond};
@@ -123,7 +122,7 @@ fn due_if(same: bool, due: u64, other: u64) -> u64
 }
 
 // The due times once the router of that address is due at `due`.
-pub fn dues_after(
+fn dues_after(
     addresses: [u32; PLACES],
     mut dues: [u64; PLACES],
     address: u32,
