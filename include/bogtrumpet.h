@@ -44,7 +44,7 @@
 #include <stddef.h>
 #include <stdint.h>
 
-#define BOGTRUMPET_VERSION "0.6.0"
+#define BOGTRUMPET_VERSION "0.7.0"
 #define BOGTRUMPET_VERSION_MAJOR 0
 #define BOGTRUMPET_VERSION_MINOR 6
 #define BOGTRUMPET_VERSION_PATCH 0
@@ -189,14 +189,10 @@ struct bogtrumpet_settings {
     uint8_t reporting[16];   /* the address that Too Big messages come from, neither multicast nor :: */
 };
 
-/* A router and the time at which it is asked next, which may lie past the last 32-bit second. */
-struct bogtrumpet_router {
-    uint32_t address;
-    uint64_t due;
-};
-
+/* Row by row the address of a router, and the time at which it is asked next, which may lie past the last 32-bit second. */
 struct bogtrumpet_router_list {
-    struct bogtrumpet_router routers[BOGTRUMPET_MAX_ROUTERS];
+    uint32_t addresses[BOGTRUMPET_MAX_ROUTERS];
+    uint64_t dues[BOGTRUMPET_MAX_ROUTERS];
     size_t count;
 };
 
@@ -239,7 +235,7 @@ struct bogtrumpet_paths {
 };
 
 /* A node's state: a plain value, which may be copied and kept. A call changes it in place. Nodes are not to be compared bytewise: what
-   stands between fields, and behind a count, is not determined. It has 2,576 bytes, 960 more than before 0.6.0: the second service. */
+   stands between fields, and behind a count, is not determined. It has 2,448 bytes, after 2,576 in 0.6.0: the router lists. */
 struct bogtrumpet_node {
     struct bogtrumpet_service first;
     struct bogtrumpet_service second; /* of empty settings, all values 0, where the node has one service */
@@ -522,10 +518,9 @@ BOGTRUMPET_AT(settings, ttl, 218);
 BOGTRUMPET_AT(settings, interval, 220);
 BOGTRUMPET_AT(settings, identification, 222);
 BOGTRUMPET_AT(settings, reporting, 224);
-BOGTRUMPET_SIZE(router, 16);
-BOGTRUMPET_AT(router, due, 8);
-BOGTRUMPET_SIZE(router_list, 264);
-BOGTRUMPET_AT(router_list, count, 256);
+BOGTRUMPET_SIZE(router_list, 200);
+BOGTRUMPET_AT(router_list, dues, 64);
+BOGTRUMPET_AT(router_list, count, 192);
 BOGTRUMPET_SIZE(key, 12);
 BOGTRUMPET_AT(key, destination, 4);
 BOGTRUMPET_AT(key, identification, 8);
@@ -537,19 +532,19 @@ BOGTRUMPET_AT(place, end, 48);
 BOGTRUMPET_AT(place, reach, 50);
 BOGTRUMPET_AT(place, used, 52);
 BOGTRUMPET_SIZE(collection, 448);
-BOGTRUMPET_SIZE(service, 960);
+BOGTRUMPET_SIZE(service, 896);
 BOGTRUMPET_AT(service, routers, 240);
-BOGTRUMPET_AT(service, pieces, 504);
-BOGTRUMPET_AT(service, identification, 952);
+BOGTRUMPET_AT(service, pieces, 440);
+BOGTRUMPET_AT(service, identification, 888);
 BOGTRUMPET_SIZE(paths, 648);
 BOGTRUMPET_AT(paths, sizes, 256);
 BOGTRUMPET_AT(paths, times, 384);
 BOGTRUMPET_AT(paths, count, 640);
-BOGTRUMPET_SIZE(node, 2576);
-BOGTRUMPET_AT(node, second, 960);
-BOGTRUMPET_AT(node, paths, 1920);
-BOGTRUMPET_AT(node, latest, 2568);
-BOGTRUMPET_AT(node, both, 2572);
+BOGTRUMPET_SIZE(node, 2448);
+BOGTRUMPET_AT(node, second, 896);
+BOGTRUMPET_AT(node, paths, 1792);
+BOGTRUMPET_AT(node, latest, 2440);
+BOGTRUMPET_AT(node, both, 2444);
 BOGTRUMPET_SIZE(addresses, 72);
 BOGTRUMPET_AT(addresses, count, 64);
 BOGTRUMPET_SIZE(advertised_prefix, 28);

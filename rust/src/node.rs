@@ -6,7 +6,7 @@ use crate::refusal::{unless, Refusal};
 use crate::settings::{numbers, Settings};
 use std::net::{Ipv4Addr, Ipv6Addr};
 
-/// One tunnel end, or two in one box: a node has one service or two. A plain value of 2,576 bytes: a copy keeps the state that it had.
+/// One tunnel end, or two in one box: a node has one service or two. A plain value of 2,448 bytes: a copy keeps the state that it had.
 ///
 /// Each service has settings, a router list, an identification and a collection of pieces of its own; the kept path sizes and the latest
 /// time are the node's, and both services share them. Every call but [`report`](Node::report) names its service, and what it says of
@@ -292,8 +292,8 @@ impl Node {
     /// [`Refusal::NoLocator`]: the node has no such service.
     pub fn routers(&self, service: ServiceName) -> Result<impl Iterator<Item = Router> + '_, Refusal> {
         let list = &self.service(service)?.routers;
-        let router = |router: &raw::Router| Router { address: router.address.into(), due: router.due };
-        Ok(list.routers.iter().take(list.count).map(router))
+        let router = |(&address, &due): (&u32, &u64)| Router { address: address.into(), due };
+        Ok(list.addresses.iter().zip(&list.dues).take(list.count).map(router))
     }
 
     fn service(&self, service: ServiceName) -> Result<&raw::Service, Refusal> {

@@ -54,22 +54,14 @@ pub struct Settings {
     pub reporting: [u8; 16],
 }
 
-/// A router and the time at which it is asked next, which may lie past the last 32-bit second.
-#[repr(C)]
-#[derive(Clone, Copy, Debug, Default, PartialEq, Eq)]
-pub struct Router {
-    /// Its IPv4 address.
-    pub address: u32,
-    /// When it is asked next.
-    pub due: u64,
-}
-
-/// The router list in force.
+/// The router list in force: row by row the IPv4 address of a router, and the time at which it is asked next.
 #[repr(C)]
 #[derive(Clone, Copy, Debug, PartialEq, Eq)]
 pub struct RouterList {
     /// The first `count` are in force.
-    pub routers: [Router; 16],
+    pub addresses: [u32; 16],
+    /// When each is asked next, which may lie past the last 32-bit second.
+    pub dues: [u64; 16],
     /// How many there are.
     pub count: usize,
 }
@@ -472,7 +464,7 @@ impl Service {
     /// The service of empty settings: all values 0.
     pub const EMPTY: Service = Service {
         settings: Settings::EMPTY,
-        routers: RouterList { routers: [Router { address: 0, due: 0 }; 16], count: 0 },
+        routers: RouterList { addresses: [0; 16], dues: [0; 16], count: 0 },
         pieces: Collection { places: [Place::EMPTY; 8] },
         identification: 0,
     };
@@ -660,9 +652,9 @@ pub fn solicitation(locator: u32, router: u32, out: &mut [u8]) -> Written {
 
 // The header asserts the same of the C structs, and the places of all fields.
 const _: () = {
-    assert!(size_of::<Node>() == 2576 && align_of::<Node>() == 8, "the archive is for 64-bit targets");
-    assert!(offset_of!(Node, second) == 960 && offset_of!(Node, paths) == 1920);
-    assert!(offset_of!(Node, latest) == 2568 && offset_of!(Node, both) == 2572);
+    assert!(size_of::<Node>() == 2448 && align_of::<Node>() == 8, "the archive is for 64-bit targets");
+    assert!(offset_of!(Node, second) == 896 && offset_of!(Node, paths) == 1792);
+    assert!(offset_of!(Node, latest) == 2440 && offset_of!(Node, both) == 2444);
     assert!(size_of::<Settings>() == 240 && size_of::<Paths>() == 648 && size_of::<Sent>() == 24);
     assert!(size_of::<Key>() == 12 && size_of::<Place>() == 56 && size_of::<Received>() == 24);
     assert!(size_of::<PathSize>() == 4 && offset_of!(PathSize, size) == 2);

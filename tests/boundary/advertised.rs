@@ -114,8 +114,8 @@ pub fn heard(
 ) {
     let number = hearer.hear(check, written, time);
     let service = &hearer.library.first;
-    let routers = &service.routers.routers[..service.routers.count];
-    let given = routers.iter().find(|router| router.address == writer).map(|router| router.due);
+    let list = &service.routers;
+    let given = list.addresses[..list.count].iter().position(|&router| router == writer).map(|place| list.dues[place]);
     let wait = smallest(advertised).map_or(3600, |lifetime| (lifetime / 2).max(service.settings.interval.into()));
     let due = u64::from(hearer.library.latest) + u64::from(wait);
     let call = || format!("{} written for {advertised:?} and heard at {time}", hex(written));

@@ -86,7 +86,7 @@ impl Named<'_> {
 /// The first locator of the named service, and its first router.
 fn ends(node: &Node, service: u8) -> (Locator, u32) {
     let service = Named { node, service };
-    (service.service().settings.locators[0], service.service().routers.routers[0].address)
+    (service.service().settings.locators[0], service.service().routers.addresses[0])
 }
 
 /// A report about the second of two ends, quoting the first.
@@ -342,7 +342,7 @@ fn node(check: &mut Check) -> Node {
         settings.router_count = random.one_of(&COUNTS);
         settings.link_size = random.one_of(&[0, 1, 19, 20, 21, 1300, 1500, 65535]);
         service.routers.count = random.one_of(&COUNTS);
-        node.paths.neighbours[random.below(64)] = service.routers.routers[0].address;
+        node.paths.neighbours[random.below(64)] = service.routers.addresses[0];
     }
     node.paths.count = random.one_of(&COUNTS);
     node.both = random.one_of(&[0, 1, 2, 128, 255, node.both]);

@@ -70,8 +70,7 @@ fn places() {
         Address: bytes;
         Locator: address interface;
         Settings: locators locator_count prefixes prefix_count routers router_count link_size ttl interval identification reporting;
-        Router: address due;
-        RouterList: routers count;
+        RouterList: addresses dues count;
         Key: source destination identification protocol;
         Place: held key first end reach used;
         Collection: places;

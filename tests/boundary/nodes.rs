@@ -493,9 +493,9 @@ fn same_service(name: &str, plain: Option<&plain::Service>, library: &raw::Servi
     same(&format!("{name} identification"), &plain.identification(), &library.identification, call);
     same(&format!("{name} count of routers"), &plain.routers().len(), &library.routers.count, call);
     for (place, router) in plain.routers().iter().enumerate() {
-        let given = &library.routers.routers[place];
-        if (given.address, given.due) != (router.address, router.due) {
-            same(&format!("{name} router {place}"), &(router.address, router.due), &(given.address, given.due), call);
+        let given = (library.routers.addresses[place], library.routers.dues[place]);
+        if given != (router.address, router.due) {
+            same(&format!("{name} router {place}"), &(router.address, router.due), &given, call);
         }
     }
     for (number, (place, given)) in plain.places().iter().zip(&library.pieces.places).enumerate() {

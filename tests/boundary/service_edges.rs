@@ -11,7 +11,7 @@ use crate::pieces::{joins, Part};
 use crate::plain::pieces::{Key, MEMORY};
 use crate::plain::rules::link_local;
 use crate::plain::{Locator, Settings};
-use bogtrumpet::raw::{Advertisement, Router};
+use bogtrumpet::raw::Advertisement;
 
 /// The locator of the second service; that of the first is `LOCATOR`, on the same interface.
 const OTHER: u32 = 0x0a00_0011;
@@ -333,7 +333,7 @@ fn routers(check: &mut Check) {
     {
         let given = nodes.through(service).ask(check, 0, time, 48);
         let asked = boundary_service(&mut nodes.library.clone(), service).routers;
-        let due = asked.routers[..2].iter().find(|entry| entry.address == router).map(|entry| entry.due);
+        let due = asked.addresses[..2].iter().position(|&address| address == router).map(|place| asked.dues[place]);
         let interval = [120, 10][usize::from(service)];
         same("number and due time", &(0, Some(u64::from(time) + interval)), &(given, due), &|| format!("{router:#x}"));
     }
@@ -434,7 +434,8 @@ fn interferes_not(check: &mut Check, nodes: &mut [Nodes; 2], changed: u8) {
     let [one, two] = nodes.each_mut().map(|nodes| {
         let mut service = *boundary_service(&mut nodes.library, 1 - changed);
         // What stands behind the count is not determined, and each call was lent other entries there.
-        service.routers.routers[service.routers.count..].fill(Router::default());
+        service.routers.addresses[service.routers.count..].fill(0);
+        service.routers.dues[service.routers.count..].fill(0);
         (service, nodes.library.paths, nodes.library.latest, nodes.through(1 - changed).memory()[..MEMORY].to_vec())
     });
     same("the other service", &one, &two, &call);

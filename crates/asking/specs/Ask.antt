@@ -33,10 +33,19 @@ planFor (Address from) (Due router) room = cond (ltb room solicitationLength) (R
 unfoldable pub askPlan : Settings → RouterList → ℕ → ℕ → ℕ → Plan
 askPlan s routers now locator room = planFor (locatorOf s locator) (nextOf now (live routers)) room
 
--- the answer names the router; its due time becomes `due`
+-- the answer names the router
+abbrev pub answerOf : Plan → AskAnswer
+answerOf (Ask from router) = Router router
+answerOf (Refuse refusal) = Refused refusal
+
+-- an answer, and the router list after it: the due time of a router that is asked becomes `due`
+abbrev pub answeredWith : AskAnswer → ℕ → RouterList → Asked
+answeredWith (Router router) due routers = record { answer = Router router; routers = rescheduledOf router due routers }
+answeredWith (Refused refusal) due routers = record { answer = Refused refusal; routers = routers }
+
+-- what comes of a plan
 abbrev pub carriedOut : Plan → ℕ → RouterList → Asked
-carriedOut (Ask from router) due routers = record { answer = Router router; routers = rescheduledOf router due routers }
-carriedOut (Refuse refusal) due routers = record { answer = Refused refusal; routers = routers }
+carriedOut p due routers = answeredWith (answerOf p) due routers
 
 -- the output gets a solicitation: our link-local address to the router's
 abbrev pub plannedOutput : Plan → List ℕ → List ℕ

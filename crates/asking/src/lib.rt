@@ -7,7 +7,8 @@ use settings::Settings;
 use settings::locators::Found;
 ghost use mathlib.Core.Path.{_≡_};
 ghost use lib.ListN.{length};
-ghost use Rattle.asking.specs.Ask.{planFor, askPlan, askedOf, askedOutput, askGiven};
+ghost use Rattle.asking.specs.Ask.{planFor, askPlan, answeredWith, askedOf, askedOutput, askGiven};
+ghost use Prim.Native.Nat.{_+_};
 
 // The router that is asked, by its address, or the number.
 pub enum AskAnswer {
@@ -64,6 +65,45 @@ fn ask_plan(settings: Settings, routers: RouterList, time: u32, locator: usize, 
     plan_for(settings.locator(locator), routers.next(time), room)
 }
 
+// The answer to one asking at a time; out gets the solicitation.
+pub fn answer(
+    settings: Settings,
+    routers: RouterList,
+    time: u32,
+    locator: usize,
+    out: &mut [u8],
+) -> AskAnswer
+    ensures { λ r. ⌜ answeredWith r (time + settings .interval) routers ≡ askedOf settings routers time locator (length (now (out .entry))) ⌝ }
+    ensures { λ _. ⌜ now (out .exit) ≡ askedOutput settings routers time locator (now (out .entry)) ⌝ }
+{
+    let plan = ask_plan(settings, routers, time, locator, out.len());
+    match plan {
+        Plan::Ask { from, router } => {
+            let source = address::link_local(from);
+            let destination = address::link_local(router);
+            messages::solicitation(source, destination, out);
+            AskAnswer::Router(router)
+        }
+        Plan::Refuse(refusal) => AskAnswer::Refused(refusal),
+    }
+}
+
+// An answer, and the router list after it: a router that is asked is due at `due`.
+pub fn answered_with(answer: AskAnswer, due: u64, routers: RouterList) -> Asked
+    ensures { λ r. ⌜ r ≡ answeredWith answer due routers ⌝ }
+{
+    match answer {
+        AskAnswer::Router(router) => Asked {
+            answer: AskAnswer::Router(router),
+            routers: routers.rescheduled(router, due),
+        },
+        AskAnswer::Refused(refusal) => Asked {
+            answer: AskAnswer::Refused(refusal),
+            routers,
+        },
+    }
+}
+
 // One asking at a time: who is asked, and the router list after it; out gets the solicitation.
 pub fn ask(
     settings: Settings,
@@ -75,21 +115,6 @@ pub fn ask(
     ensures { λ r. ⌜ r ≡ askedOf settings routers time locator (length (now (out .entry))) ⌝ }
     ensures { λ _. ⌜ now (out .exit) ≡ askedOutput settings routers time locator (now (out .entry)) ⌝ }
 {
-    let plan = ask_plan(settings, routers, time, locator, out.len());
-    match plan {
-        Plan::Ask { from, router } => {
-            let source = address::link_local(from);
-            let destination = address::link_local(router);
-            messages::solicitation(source, destination, out);
-            let due = time as u64 + settings.interval as u64;
-            Asked {
-                answer: AskAnswer::Router(router),
-                routers: routers.rescheduled(router, due),
-            }
-        }
-        Plan::Refuse(refusal) => Asked {
-            answer: AskAnswer::Refused(refusal),
-            routers,
-        },
-    }
+    let given = answer(settings, routers, time, locator, out);
+    answered_with(given, time as u64 + settings.interval as u64, routers)
 }

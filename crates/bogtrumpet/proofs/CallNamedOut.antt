@@ -1,6 +1,6 @@
 -- A function over a `&mut Node`, any number of parameters that are plain data or `&`, one of them the number of a service, and an output, a `&mut [u8]`, that takes a reference to that service, hands the service, what is there of the two, the latest
 -- time and all parameters to a covered function, and ends as `finish` does, which has the answer: one walk for all of them. Its contract is that of `HandOn.antt`. Assumes `Given`.
---     Finish           what such an end makes of the node and which answer it gives.        Finishing     that its code does so.        Handed, met     what the covered function is handed, and that its contract takes it
+--     Finish           what such an end makes of the node and which answer it gives.        Finishing, FinishingAt     that its code does so.        Handed, met     what the covered function is handed, and that its contract takes it
 --     shape            the function's MIR.        walk     the walk.        called-named     the function meets its contract, by what the covered function says and writes
 use mathlib.Core.Path.{_≡_, refl, sym, subst, _∙_}
 use Prim.Native.Nat.{ℕ, zero, suc}
@@ -61,17 +61,23 @@ pub record Finish (Z R : RattleType) : Type 1 where
   pub good : Z .Denot → Type 0
   pub next : Node → ServiceName → Z .Denot → Node
   pub answer : Node → ServiceName → Z .Denot → R .Denot
-  pub next-fits : (h : Node) (w : ServiceName) → Fits h → (z : Z .Denot) (vs : List Val) → Is Z z vs → Fits (next h w z)
 
--- the code `finish n`, with the reference to the service in local n, the answer in local 1 + n, a bool in 2 + n, a service in 4 + n, and further locals from 9 + n on
-abbrev pub Finishing : {M : Type 1} (𝓤 : URA M) (H : Heap 𝓤) (A : Atoms 𝓤) → Given 𝓤 H A → {Z R : RattleType} (σ ρ : Ty) (es : List Ty) → Finish Z R → (C : Calls 𝓤 H) → (ℕ → Code) → Type 2
-Finishing 𝓤 H A W {Z} {R} σ ρ es F C finish =
+-- the code `finish n`, with the reference to the service in local n, the answer in local 1 + n, a bool in 2 + n, a service in 4 + n, and further locals from `far n` on; the node that it leaves fits
+abbrev pub FinishingAt : {M : Type 1} (𝓤 : URA M) (H : Heap 𝓤) (A : Atoms 𝓤) → Given 𝓤 H A → {Z R : RattleType} (σ ρ : Ty) (es : List Ty) → (ℕ → ℕ) → Finish Z R → (C : Calls 𝓤 H) → (ℕ → Code) → Type 2
+FinishingAt 𝓤 H A W {Z} {R} σ ρ es far F C finish =
     (Λ : Loops 𝓤 H) (E : Locals 𝓤 H) (q : After 𝓤 H) (Γ : List (Item 𝓤)) (b o p l₀ l₁ lₙ lₛ lₜ lᵥ n : ℕ) (cs : Spaces es) (w : ServiceName) → ((g : Node) → Within 𝓤 H A W fullShare w b o p g) → (h : Node) → Fits h → (z : Z .Denot) (v : Val) → Is Z z (v ∷ []) → F .good z
     → getD E 0 (noLocal 𝓤 H) ≡ (ρ, l₀) → getD E 1 (noLocal 𝓤 H) ≡ (node-ref, l₁) → getD E n (noLocal 𝓤 H) ≡ (service-ref, lₙ) → getD E (suc n) (noLocal 𝓤 H) ≡ (σ, lₛ) → getD E (suc (suc n)) (noLocal 𝓤 H) ≡ (tyBool, lₜ) → getD E (suc (suc (suc (suc n)))) (noLocal 𝓤 H) ≡ (S′.mir, lᵥ)
-    → Skips (noLocal 𝓤 H) E (suc (suc (suc (suc (suc (suc (suc (suc (suc n))))))))) (spaceEnv es cs)
-    → ((r : R .Denot) (u : Val) → r ≡ F .answer h w z
+    → Skips (noLocal 𝓤 H) E (far n) (spaceEnv es cs)
+    → ((r : R .Denot) (u : Val) → r ≡ F .answer h w z → Fits (F .next h w z)
     → Seq Go W (‵ (R .own r (u ∷ [])) ∷ ‵ (fat fullShare T′.mir b o (mach (F .next h w z))) ∷ ‵ (fat fullShare ρ l₀ zero u) ∷ ‵ (fat fullShare node-ref l₁ zero (vptr b o)) ∷ ‵ (fat fullShare service-ref lₙ zero (vptr b p)) ∷ ‵ (froom σ lₛ zero) ∷ ‵ (froom tyBool lₜ zero) ∷ ‵ (froom S′.mir lᵥ zero) ∷ ‵ (SpaceRooms es cs) ∷ Γ) (runs C Λ E return q))
     → Seq Go W (‵ (Z .own z (v ∷ [])) ∷ ‵ (fat fullShare T′.mir b o (mach h)) ∷ ‵ (froom ρ l₀ zero) ∷ ‵ (fat fullShare node-ref l₁ zero (vptr b o)) ∷ ‵ (fat fullShare service-ref lₙ zero (vptr b p)) ∷ ‵ (fat fullShare σ lₛ zero v) ∷ ‵ (froom tyBool lₜ zero) ∷ ‵ (fat fullShare S′.mir lᵥ zero (svc (serviceOf h w))) ∷ ‵ (SpaceRooms es cs) ∷ Γ) (runs C Λ E (finish n) q)
+
+-- beside an output they start at 9 + n
+abbrev pub beside-output : ℕ → ℕ
+beside-output n = suc (suc (suc (suc (suc (suc (suc (suc (suc n))))))))
+
+abbrev pub Finishing : {M : Type 1} (𝓤 : URA M) (H : Heap 𝓤) (A : Atoms 𝓤) → Given 𝓤 H A → {Z R : RattleType} (σ ρ : Ty) (es : List Ty) → Finish Z R → (C : Calls 𝓤 H) → (ℕ → Code) → Type 2
+Finishing 𝓤 H A W {Z} {R} σ ρ es F C finish = FinishingAt 𝓤 H A W {Z = Z} {R = R} σ ρ es beside-output F C finish
 
 -- the covered function has the service, what is there of the two, the latest time and the parameters
 module _ {M : Type 1} (𝓤 : URA M) (H : Heap 𝓤) (A : Atoms 𝓤) (W : Given 𝓤 H A) (m : ℕ) (κs : Lfts m) (qs : Shares m) (s : Service) (k t : ℕ) (ts : List RattleType) (x : Denots ts) (vss : Valss ts) where
@@ -195,9 +201,9 @@ module _ (callee : Name) (m j : ℕ) (ok : AllWithin (suc m) (j ∷ [])) (ps : L
           answered ! tt U u y v (λ z ws. φ z (zs ws)) told (λ z ws e. peeks ! Z (Is Z) (shows 𝓤 H A Z) z (v ∷ []) (λ is.
           -- [the answer's; the last values; the tokens; the node's cell; the parameters; _1; the named; the bool; the chosen; the service; the both; the time; the open borrow; obs; auth; further room; the lent output; …; its pointer; …; room for the answer; …; the output; …; room for _0; …]
           land ! (from-at ! (σ, l₄) (at 2) (stop !)) (init ! 25 refl (typed z v is)) $ forget ! 7 refl $ move ! (0 ∷ 3 ∷ 31 ∷ 5 ∷ 6 ∷ 25 ∷ 7 ∷ 9 ∷ 15 ∷ []) $
-          finishes Λ E _ _ b o p l₀ l₁ l₃ l₄ l₅ l₇ at-named cs w N h was z v is (good z (zs ws) e) refl refl (at 1) (at 2) (at 3) (at 5) (λ i. at (suc (suc (suc (suc (suc (suc (suc (suc (suc (suc i))))))))))) (λ r v′ r-is.
+          finishes Λ E _ _ b o p l₀ l₁ l₃ l₄ l₅ l₇ at-named cs w N h was z v is (good z (zs ws) e) refl refl (at 1) (at 2) (at 3) (at 5) (λ i. at (suc (suc (suc (suc (suc (suc (suc (suc (suc (suc i))))))))))) (λ r v′ r-is fits.
           -- [the result; the node's cell; _0; _1; the named; …; the last values; the tokens; the parameters; the chosen; the both; the time; the open borrow; obs; auth; the lent output; …; its pointer; …; the output; …]
-          move ! (1 ∷ 15 ∷ 16 ∷ 17 ∷ []) $ closes-in ! tt (F .next h w z) b o (F .next-fits h w was z (v ∷ []) is) $
+          move ! (1 ∷ 15 ∷ 16 ∷ 17 ∷ []) $ closes-in ! tt (F .next h w z) b o fits $
           move ! (12 ∷ []) $ use1 W (raw (toks 𝓤 A m κs qs)) back $ move ! (3 ∷ 0 ∷ []) $ join ! $ use1 W (raw (alive 𝓤 H A (On.signature m j ok ps R) (κ, κs) (q, qs))) (id⊢ 𝓤 _) $
           move ! (2 ∷ []) $ drop ! $ move ! (10 ∷ []) $ use1 W (‵ (Lasting (zs ws))) (ends ws) $ fsplit ! $ move ! (1 ∷ []) $ feqL ! (λ l.
           move ! (2 ∷ []) $ name-done ! tt $ move ! (1 ∷ 0 ∷ 3 ∷ 2 ∷ []) $

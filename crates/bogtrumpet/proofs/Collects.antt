@@ -112,7 +112,7 @@ pub left-fits : (h : Node) (w : ServiceName) → Fits h → (z : GatheredStep) (
 left-fits h w was z vs is = at-time-fits (collected h w z) (z .latest) (LL.owed Z.the-type Z′.the-laws z vs is .1 .1 .1 .0 .1) (collected-fits h w was z vs is)
 
 abbrev pub gathered-finish : Finish Z.the-row R.the-row
-gathered-finish = record { good = λ z. z .at < places; next = left-by; answer = λ h w z. judgedStep (serviceOf (left-by h w z) w) z; next-fits = left-fits }
+gathered-finish = record { good = λ z. z .at < places; next = left-by; answer = λ h w z. judgedStep (serviceOf (left-by h w z) w) z }
 
 -- a service's machine value, with these for its places
 abbrev placed-svc : Service → List Val → Val
@@ -147,8 +147,8 @@ module _ {M : Type 1} (𝓤 : URA M) (H : Heap 𝓤) (A : Atoms 𝓤) (W : Given
       -- once the piece is stored, or none
       let judged : Seq Go W (‵ (Z.the-row .own z (step ∷ [])) ∷ ‵ (fat fullShare T′.mir b o (mach (collected h w z))) ∷ ‵ (froom R′.mir l₀ zero) ∷ ‵ (fat fullShare node-ref l₁ zero (vptr b o)) ∷ ‵ (fat fullShare service-ref lₙ zero (vptr b p)) ∷ ‵ (fat fullShare Z′.mir lₛ zero step) ∷ ‵ (fat fullShare tyBool lₜ zero (vbool (z .piece))) ∷ ‵ (fat fullShare S′.mir lᵥ zero (svc s))
       ∷ ‵ (froom (tyInt w64) (cs .0) zero) ∷ ‵ (froom tyPtr (cs .1 .0) zero) ∷ ‵ (froom tyPtr (cs .1 .1 .0) zero) ∷ ‵ (fdies tyPtr (cs .1 .1 .0)) ∷ ‵ ftrue ∷ ‵ (fdies tyPtr (cs .1 .0)) ∷ ‵ (fdies (tyInt w64) (cs .0)) ∷ Γ) (runs C Λ E (judges judge n) q) =
-      assigns ! (of-opd ! (load ! (from-at ! (Z′.mir, lₛ) at-s (fld ! refl (stop !))) (look-in ! 5 (sub ! 3 refl (whole !))))) (from-at ! (node-ref, l₁) at-1 (hop ! (look ! 3 refl) (fld ! {τ = tyInt w32} {d = 2568} refl (stop !))))
-      (store-in ! 1 (sub ! 3 {τ = tyInt w32} {d = 2568} refl (whole !)) (tt, record { fits = parts .1 .1 .1 .0 .1 })) $
+      assigns ! (of-opd ! (load ! (from-at ! (Z′.mir, lₛ) at-s (fld ! refl (stop !))) (look-in ! 5 (sub ! 3 refl (whole !))))) (from-at ! (node-ref, l₁) at-1 (hop ! (look ! 3 refl) (fld ! {τ = tyInt w32} {d = 2440} refl (stop !))))
+      (store-in ! 1 (sub ! 3 {τ = tyInt w32} {d = 2440} refl (whole !)) (tt, record { fits = parts .1 .1 .1 .0 .1 })) $
       assigns ! (of-opd ! (load ! (from-at ! (service-ref, lₙ) at-n (hop ! (look ! 4 refl) (stop !))) (look-in ! 1 (N left-there .part)))) (from-at ! (S′.mir, lᵥ) at-v (stop !)) (store ! 7 refl (LL.lawful S.the-type S′.the-laws 𝓤 H A W .typed service _ (service-is left-there w fits) .0)) $
       owned ! S.the-row (Is S.the-row) (LL.makes S.the-type S′.the-plain 𝓤 H A) service (svc service ∷ []) (service-is left-there w fits) $ use2 W (raw (Judged .pre (to-judge service z step))) (asked service z step) $
       -- [what the second asks; the node's cell; room for _0; _1; the named; the step; the bool; the service; …]
@@ -159,7 +159,7 @@ module _ {M : Type 1} (𝓤 : URA M) (H : Heap 𝓤) (A : Atoms 𝓤) (W : Given
       forget ! 5 refl $ forget ! 6 refl $ forget ! 7 refl $
       -- [the result; the node's cell; _0; _1; the named; room for the step, the bool, the service, the number, the pointers; the end of one; nothing; the ends of the others; …]
       move ! (10 ∷ 11 ∷ []) $ fjoin ! $ move ! (0 ∷ 11 ∷ []) $ fjoin ! $ move ! (10 ∷ 11 ∷ []) $ fjoin ! $ move ! (0 ∷ 1 ∷ []) $ fjoin ! $ move ! (9 ∷ 10 ∷ []) $ fjoin ! $ move ! (0 ∷ 1 ∷ []) $ fjoin ! $
-      move ! (1 ∷ 2 ∷ 3 ∷ 4 ∷ 5 ∷ 6 ∷ 7 ∷ 8 ∷ 0 ∷ []) $ k r u told))) in
+      move ! (1 ∷ 2 ∷ 3 ∷ 4 ∷ 5 ∷ 6 ∷ 7 ∷ 8 ∷ 0 ∷ []) $ k r u told fits))) in
       -- [the step's; the node's cell; room for _0; _1; the named; the step; room for the bool; the service read; further room; …]
       rewrite ! 0 (λ (xs : List Val). ‵ (Z.the-row .own z xs)) (LL.tells Z.the-type Z′.the-laws z (v ∷ []) is) refl $
       rewrite ! 5 (λ (x : Val). ‵ (fat fullShare Z′.mir lₛ 0 x)) (ap only (LL.tells Z.the-type Z′.the-laws z (v ∷ []) is)) refl $

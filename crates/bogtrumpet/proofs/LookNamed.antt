@@ -218,7 +218,7 @@ module _ (m j : ℕ) (ok : AllWithin (suc m) (j ∷ [])) (ps : List (Param (suc 
                 let service : Service = serviceOf h w in
                 assigns ! (of-opd ! (load ! (from-at ! (named-type, l₅) (at 3) (stop !)) (look ! 13 refl))) (from-at ! (named-type, l₃) (at 1) (stop !)) (init ! 17 refl (tt, tt)) $
                 assigns ! (of-opd ! (load ! (from-at ! (named-type, l₃) (at 1) (hop ! (look ! 17 refl) (stop !))) (look-in ! 0 (N .part)))) (from-at ! (S′.mir, l₆) (at 4) (stop !)) (init ! 11 refl (LL.lawful S.the-type S′.the-laws 𝓤 H A W .typed service _ (service-is h w was) .0)) $
-                assigns ! (of-opd ! (load ! (from ! (hop ! (look ! 21 refl) (fld ! {τ = tyInt w8} {d = 2572} refl (stop !)))) (look-in ! 0 (sub ! 4 {τ = tyInt w8} {d = 2572} refl (whole !))))) (from-at ! (tyInt w8, l₇) (at 5) (stop !)) (init ! 9 refl (tt, record { fits = both-fits h was })) $
+                assigns ! (of-opd ! (load ! (from ! (hop ! (look ! 21 refl) (fld ! {τ = tyInt w8} {d = 2444} refl (stop !)))) (look-in ! 0 (sub ! 4 {τ = tyInt w8} {d = 2444} refl (whole !))))) (from-at ! (tyInt w8, l₇) (at 5) (stop !)) (init ! 9 refl (tt, record { fits = both-fits h was })) $
                 use1 W (‵ (cellAt q′ (T.the-row .mir) (mach h ∷ []) b o)) (W .laws .at-raw q′ T′.mir b o (mach h)) $ shuts ! tt T.the-row q′ h (mach h ∷ []) b o $
                 -- [the token; the fractured borrow; the parameters; room for the lent output; …; its pointer; …; the both; …; the service; …; the chosen; …; the bool; …; the named; …; the output; …; _1; …; _0; …; the other tokens; the rest's]
                 assigns ! (addr ! (from-at ! (passed-type j, l₂) (at 0) (fld ! refl (hop ! (look-in ! 17 (sub ! 0 refl (whole !))) (stop !))))) (from-at ! (pointer-type, l₈) (at 6) (stop !)) (init ! 5 refl (tt, tt)) $
@@ -260,8 +260,8 @@ module _ (m j : ℕ) (ok : AllWithin (suc m) (j ∷ [])) (ps : List (Param (suc 
                 within ! $ branches ! (load ! (from-at ! (tyBool, l₄) (at 2) (stop !)) (look ! 15 refl))
                 (λ it-is. assigns-last ! (addr ! (from ! (hop ! (look ! 21 refl) (fld ! {τ = S′.mir} {d = 0} refl (stop !))))) (from-at ! (named-type, l₅) (at 3) (stop !)) (init ! 13 refl (tt, tt)) $ exec ! C Λ E (hands callee s ρ) (atRet E Post) $
                 handing bs l₀ l₁ l₂ l₃ l₄ l₅ l₆ l₇ l₈ l₉ (o + 0) (eqb k 0) q′ First (subst Met-by (is-first k it-is) met-by) (first-within 𝓤 H A W q′ b o h) was)
-                (λ it-is-not. assigns-last ! (addr ! (from ! (hop ! (look ! 21 refl) (fld ! {τ = S′.mir} {d = 960} refl (stop !))))) (from-at ! (named-type, l₅) (at 3) (stop !)) (init ! 13 refl (tt, tt)) $ exec ! C Λ E (hands callee s ρ) (atRet E Post) $
-                handing bs l₀ l₁ l₂ l₃ l₄ l₅ l₆ l₇ l₈ l₉ (o + 960) (eqb k 0) q′ Second (subst Met-by (is-second k it-is-not) met-by) (second-within 𝓤 H A W q′ b o h) was))))))))))))))
+                (λ it-is-not. assigns-last ! (addr ! (from ! (hop ! (look ! 21 refl) (fld ! {τ = S′.mir} {d = 896} refl (stop !))))) (from-at ! (named-type, l₅) (at 3) (stop !)) (init ! 13 refl (tt, tt)) $ exec ! C Λ E (hands callee s ρ) (atRet E Post) $
+                handing bs l₀ l₁ l₂ l₃ l₄ l₅ l₆ l₇ l₈ l₉ (o + 896) (eqb k 0) q′ Second (subst Met-by (is-second k it-is-not) met-by) (second-within 𝓤 H A W q′ b o h) was))))))))))))))
 
 -- by the contract of the covered function, which says what it answers and writes
 module _ (m j : ℕ) (ok : AllWithin m (j ∷ [])) (ls : List (Link m)) (s : ℕ) (R : RattleType) (ρ : Ty) (def : (κs : Lfts m) → Service → ℕ → Taken m j ok ls κs → R .Denot) (written : (κs : Lfts m) → Service → ℕ → Taken m j ok ls κs → List ℕ) where

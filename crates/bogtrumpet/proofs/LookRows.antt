@@ -239,15 +239,15 @@ module _ (callee : Name) (ps : List (Param 1)) (s : ℕ) (R : RattleType) (ρ : 
               -- [a share of the node's cell; what it owns; what shuts it; the fractured borrow; the parameters; room for the time; …; the count; …; the rows, with their addresses; …; both; …; the link's size; …; the chosen; …; the bool; …; the named; …; _1; …; room for _0; …; no other tokens; the rest's]
               assigns ! (of-opd ! (load ! (from-at ! (named-type, l₄) (at 2) (stop !)) (look ! 25 refl))) (from-at ! (named-type, l₂) (at 0) (stop !)) (init ! 29 refl (tt, tt)) $
               assigns ! (of-opd ! (load ! (from-at ! (named-type, l₂) (at 0) (hop ! (look ! 29 refl) (fld ! {d = 0} refl (fld ! {d = 216} refl (stop !))))) (look-in ! 0 (sub ! 6 {d = 216} refl (sub ! 0 {d = 0} refl (N q′ .part)))))) (from-at ! (tyInt w16, l₅) (at 3) (stop !)) (init ! 23 refl (tt, record { fits = link-fits h is w })) $
-              assigns ! (of-opd ! (load ! (from ! (hop ! (look ! 31 refl) (fld ! {d = 2572} refl (stop !)))) (look-in ! 0 {τ = tyInt w8} (sub ! 4 {τ = tyInt w8} {d = 2572} refl (whole !))))) (from-at ! (tyInt w8, l₆) (at 4) (stop !)) (init ! 21 refl (tt, record { fits = both-fits h is })) $
-              assigns ! (addr ! (from ! (hop ! (look ! 31 refl) (fld ! {d = 1920} refl (fld ! {d = 0} refl (stop !)))))) (from-at ! (array-type w32, l₇) (at 5) (stop !)) (init ! 19 refl (tt, tt)) $
+              assigns ! (of-opd ! (load ! (from ! (hop ! (look ! 31 refl) (fld ! {d = 2444} refl (stop !)))) (look-in ! 0 {τ = tyInt w8} (sub ! 4 {τ = tyInt w8} {d = 2444} refl (whole !))))) (from-at ! (tyInt w8, l₆) (at 4) (stop !)) (init ! 21 refl (tt, record { fits = both-fits h is })) $
+              assigns ! (addr ! (from ! (hop ! (look ! 31 refl) (fld ! {d = 1792} refl (fld ! {d = 0} refl (stop !)))))) (from-at ! (array-type w32, l₇) (at 5) (stop !)) (init ! 19 refl (tt, tt)) $
               assigns ! (agg ! (and-then ! (load ! (from-at ! (array-type w32, l₇) (at 5) (stop !)) (look ! 19 refl)) (and-then ! (lit ! tt) (no-more !)))) (from-at ! (lent-type w32, l₈) (at 6) (stop !)) (init ! 17 refl (tt, (tt, (record { fits = neighbours-row .room .0 }, tt)))) $
-              assigns ! (addr ! (from ! (hop ! (look ! 31 refl) (fld ! {d = 1920} refl (fld ! {d = 256} refl (stop !)))))) (from-at ! (array-type w16, l₉) (at 7) (stop !)) (init ! 15 refl (tt, tt)) $
+              assigns ! (addr ! (from ! (hop ! (look ! 31 refl) (fld ! {d = 1792} refl (fld ! {d = 256} refl (stop !)))))) (from-at ! (array-type w16, l₉) (at 7) (stop !)) (init ! 15 refl (tt, tt)) $
               assigns ! (agg ! (and-then ! (load ! (from-at ! (array-type w16, l₉) (at 7) (stop !)) (look ! 15 refl)) (and-then ! (lit ! tt) (no-more !)))) (from-at ! (lent-type w16, l₁₀) (at 8) (stop !)) (init ! 13 refl (tt, (tt, (record { fits = sizes-row .room .0 }, tt)))) $
-              assigns ! (addr ! (from ! (hop ! (look ! 31 refl) (fld ! {d = 1920} refl (fld ! {d = 384} refl (stop !)))))) (from-at ! (array-type w32, l₁₁) (at 9) (stop !)) (init ! 11 refl (tt, tt)) $
+              assigns ! (addr ! (from ! (hop ! (look ! 31 refl) (fld ! {d = 1792} refl (fld ! {d = 384} refl (stop !)))))) (from-at ! (array-type w32, l₁₁) (at 9) (stop !)) (init ! 11 refl (tt, tt)) $
               assigns ! (agg ! (and-then ! (load ! (from-at ! (array-type w32, l₁₁) (at 9) (stop !)) (look ! 11 refl)) (and-then ! (lit ! tt) (no-more !)))) (from-at ! (lent-type w32, l₁₂) (at 10) (stop !)) (init ! 9 refl (tt, (tt, (record { fits = times-row .room .0 }, tt)))) $
-              assigns ! (of-opd ! (load ! (from ! (hop ! (look ! 31 refl) (fld ! {d = 1920} refl (fld ! {d = 640} refl (stop !))))) (look-in ! 0 (sub ! 3 {d = 640} refl (sub ! 2 {d = 1920} refl (whole !)))))) (from-at ! (tyInt w64, l₁₃) (at 11) (stop !)) (init ! 7 refl (tt, record { fits = count-fits h is })) $
-              assigns ! (of-opd ! (load ! (from ! (hop ! (look ! 31 refl) (fld ! {d = 2568} refl (stop !)))) (look-in ! 0 {τ = tyInt w32} (sub ! 3 {τ = tyInt w32} {d = 2568} refl (whole !))))) (from-at ! (tyInt w32, l₁₄) (at 12) (stop !)) (init ! 5 refl (tt, record { fits = latest-fits h is })) $
+              assigns ! (of-opd ! (load ! (from ! (hop ! (look ! 31 refl) (fld ! {d = 1792} refl (fld ! {d = 640} refl (stop !))))) (look-in ! 0 (sub ! 3 {d = 640} refl (sub ! 2 {d = 1792} refl (whole !)))))) (from-at ! (tyInt w64, l₁₃) (at 11) (stop !)) (init ! 7 refl (tt, record { fits = count-fits h is })) $
+              assigns ! (of-opd ! (load ! (from ! (hop ! (look ! 31 refl) (fld ! {d = 2440} refl (stop !)))) (look-in ! 0 {τ = tyInt w32} (sub ! 3 {τ = tyInt w32} {d = 2440} refl (whole !))))) (from-at ! (tyInt w32, l₁₄) (at 12) (stop !)) (init ! 5 refl (tt, record { fits = latest-fits h is })) $
               use1 W (‵ (cellAt q′ (T.the-row .mir) (mach h ∷ []) b o)) (W .laws .at-raw q′ T′.mir b o (mach h)) $ shuts ! tt T.the-row q′ h (mach h ∷ []) b o $
               -- the rows are lent on
               move ! (1 ∷ 0 ∷ []) $ lends-row ! tt neighbours-row h b o (λ γ₁. move ! (2 ∷ 1 ∷ []) $ lends-row ! tt sizes-row h b o (λ γ₂. move ! (2 ∷ 1 ∷ []) $ lends-row ! tt times-row h b o (λ γ₃.
@@ -286,8 +286,8 @@ module _ (callee : Name) (ps : List (Param 1)) (s : ℕ) (R : RattleType) (ρ : 
               within ! $ branches ! (load ! (from-at ! (tyBool, l₃) (at 1) (stop !)) (look ! 23 refl))
               (λ it-is. assigns-last ! (addr ! (from ! (hop ! (look ! 27 refl) (fld ! {τ = S′.mir} {d = 0} refl (stop !))))) (from-at ! (named-type, l₄) (at 2) (stop !)) (init ! 21 refl (tt, tt)) $ exec ! C Λ E looks (atRet E Post) $
               looking bs l₀ l₁ l₂ l₃ l₄ l₅ l₆ l₇ l₈ l₉ l₁₀ l₁₁ l₁₂ l₁₃ l₁₄ (o + 0) (eqb k 0) First (subst Sized (is-first k it-is) sized) (λ q′. first-within 𝓤 H A W q′ b o h))
-              (λ it-is-not. assigns-last ! (addr ! (from ! (hop ! (look ! 27 refl) (fld ! {τ = S′.mir} {d = 960} refl (stop !))))) (from-at ! (named-type, l₄) (at 2) (stop !)) (init ! 21 refl (tt, tt)) $ exec ! C Λ E looks (atRet E Post) $
-              looking bs l₀ l₁ l₂ l₃ l₄ l₅ l₆ l₇ l₈ l₉ l₁₀ l₁₁ l₁₂ l₁₃ l₁₄ (o + 960) (eqb k 0) Second (subst Sized (is-second k it-is-not) sized) (λ q′. second-within 𝓤 H A W q′ b o h)))))))))))))))))))
+              (λ it-is-not. assigns-last ! (addr ! (from ! (hop ! (look ! 27 refl) (fld ! {τ = S′.mir} {d = 896} refl (stop !))))) (from-at ! (named-type, l₄) (at 2) (stop !)) (init ! 21 refl (tt, tt)) $ exec ! C Λ E looks (atRet E Post) $
+              looking bs l₀ l₁ l₂ l₃ l₄ l₅ l₆ l₇ l₈ l₉ l₁₀ l₁₁ l₁₂ l₁₃ l₁₄ (o + 896) (eqb k 0) Second (subst Sized (is-second k it-is-not) sized) (λ q′. second-within 𝓤 H A W q′ b o h)))))))))))))))))))
 
       module _ {M : Type 1} (𝓤 : URA M) (H : Heap 𝓤) (𝓜 : Model 𝓤 H) (𝓖 : GhostRules 𝓤 H) (𝓡 : Running 𝓤 H 𝓜) (env : Env) (key : Name) where
         pub looked : Closed 𝓤 H (tables 𝓤 H 𝓜 𝓡 env .C) (tables 𝓤 H 𝓜 𝓡 env .Λ) key shape → Triple 𝓤 (tables 𝓤 H 𝓜 𝓡 env .C callee) (tripleOf 𝓤 H (𝓖 .A) (step-ended .signature) (closing 𝓤 H (𝓖 .A) step-ended (step-clauses 𝓤)))

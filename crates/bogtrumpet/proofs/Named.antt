@@ -56,8 +56,8 @@ module _ {M : Type 1} (𝓤 : URA M) (H : Heap 𝓤) (A : Atoms 𝓤) (W : Given
   pub first-within : (q : Share) (b o : ℕ) (h : Node) → Within q First b o (o + 0) h
   first-within q b o h = record { back = _; part = sub ! 0 {τ = S′.mir} {d = 0} refl (whole !); again = λ s. refl }
 
-  pub second-within : (q : Share) (b o : ℕ) (h : Node) → Within q Second b o (o + 960) h
-  second-within q b o h = record { back = _; part = sub ! 1 {τ = S′.mir} {d = 960} refl (whole !); again = λ s. refl }
+  pub second-within : (q : Share) (b o : ℕ) (h : Node) → Within q Second b o (o + 896) h
+  second-within q b o h = record { back = _; part = sub ! 1 {τ = S′.mir} {d = 896} refl (whole !); again = λ s. refl }
 
 -- of a service's number
 chosen-true : (c : Bool) → Holds c → cond c First Second ≡ First

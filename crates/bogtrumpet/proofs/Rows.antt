@@ -38,7 +38,7 @@ use Rattle.node.proofs.Node.Laws as T′
 
 -- where the path table lies in a node
 abbrev pub table-at : ℕ
-table-at = 1920
+table-at = 1792
 
 abbrev Numbers : Width → RattleType
 Numbers w = Array (UInt w) mostNeighbours

@@ -5,6 +5,7 @@
 --     sent-same        a sending over a path of the size toward the tunnel end is the node's
 --     reported-same    a size report changes the path table and the latest time alone
 --     asked-same, heard-same, replaced-same     these change the router list of their service and the latest time alone.        advertised-same     advertising
+--     plain-asked-list, plain-heard-list     what a step says of the router list is what the answer leaves
 use mathlib.Core.Path.{_≡_, refl, ap, _∙_}
 use Prim.Native.Nat.{ℕ, max, _<_, _≤_}
 use mathlib.Core.Bool.{Bool, true, false, cond}
@@ -15,12 +16,19 @@ use native.Mathlib.Omega.{arith}
 use borrow.Author.Tests.{eqb-true, eqb-false, lt-ltb, le-ltb, le-leb, lt-leb}
 use Rattle.address.specs.Address.{lastQuad}
 use Rattle.advertisements.specs.declared.Advertisement.{Advertisement}
+use Rattle.asking.specs.Ask.{answeredWith}
+use Rattle.asking.specs.declared.AskAnswer.{AskAnswer}
 use Rattle.asking.specs.declared.AskAnswer.the-variants as asked
+use Rattle.asking.specs.declared.Asked as asking
 use Rattle.header.specs.declared.wrap.Written.the-variants as written
+use Rattle.hearing.specs.Heard.{heardAs}
+use Rattle.hearing.specs.declared.Heard as hearing
+use Rattle.hearing.specs.declared.HeardAnswer.{HeardAnswer}
 use Rattle.hearing.specs.declared.HeardAnswer.the-variants as heard
 use Rattle.paths.specs.Kept.{inForce}
 use Rattle.paths.specs.Table.{keptAmong, keptIn}
 use Rattle.refusals.specs.declared.Refusal.the-variants.{NoLocator}
+use Rattle.refusals.proofs.Numbers.{never-zero}
 use Rattle.routers.specs.Routers.{live}
 use Rattle.routers.specs.declared.RouterList.{RouterList}
 use Rattle.sending.specs.declared.SendAnswer.the-variants as sent
@@ -50,7 +58,7 @@ use Rattle.node.specs.declared.ServiceName.the-variants.{First, Second}
 use Rattle.bogtrumpet.specs.Answers.{plainReceived, plainSized, plainSent, plainAsked, plainHeard, plainAdvertised}
 use Rattle.bogtrumpet.specs.Gathered.{judgedStep, gatheredAfter, GatheredAs}
 use Rattle.bogtrumpet.specs.Numbered.{byNumber, nameOf, isThere}
-use Rattle.bogtrumpet.specs.Steps.{sentStep, sentAfter, sizedStep, replacedStep, askedStep, heardStep}
+use Rattle.bogtrumpet.specs.Steps.{sentStep, sentAfter, sizedStep, replacedStep, listAfter, AskedAs, HeardAs}
 use Rattle.bogtrumpet.specs.declared.steps.AskedStep.{AskedStep}
 use Rattle.bogtrumpet.specs.declared.steps.GatheredStep.{GatheredStep}
 use Rattle.bogtrumpet.specs.declared.steps.HeardStep.{HeardStep}
@@ -185,29 +193,38 @@ reported-same h m t = refl
 abbrev pub routed : Node → ServiceName → RouterList → ℕ → Node
 routed h w routers t = at-time (with-service h w (withRouters (serviceOf h w) routers)) t
 
-pub asked-same : (h : Node) (k locator t : ℕ) (out : List ℕ)
-    → let step : AskedStep = askedStep (isThere (h .both) k) (serviceOf h (nameOf k)) (h .latest) locator t (length out) in
-    (step .answer ≡ byNumber k (λ w. plainAsked (askOf h w locator t (length out) .answer)) (plainAsked (asked.Refused NoLocator)))
-    × (routed h (nameOf k) (step .routers) (step .latest) ≡ byNumber k (λ w. askOf h w locator t (length out) .node) (raisedTo h t))
+pub asked-same : (h : Node) (k locator t : ℕ) (out : List ℕ) (z : AskedStep) → AskedAs (isThere (h .both) k) (serviceOf h (nameOf k)) (h .latest) locator t (length out) z
+    → (z .answer ≡ byNumber k (λ w. plainAsked (askOf h w locator t (length out) .answer)) (plainAsked (asked.Refused NoLocator)))
+    × (routed h (nameOf k) (listAfter (z .changed) (z .router) (z .due) (serviceOf h (nameOf k) .routers)) (z .latest) ≡ byNumber k (λ w. askOf h w locator t (length out) .node) (raisedTo h t))
     × (askedThrough (isThere (h .both) k) (serviceOf h (nameOf k)) (max (h .latest) t) locator out ≡ byNumber k (λ w. askOutput h w locator t out) out)
-unfolding askedStep askOf askOutput askedBy askedThrough raisedTo
-asked-same h k locator t out =
-    let step : Bool → ServiceName → AskedStep = λ there w. askedStep there (serviceOf h w) (h .latest) locator t (length out) in (
-      by-number (λ there w. step there w .answer) (λ w. plainAsked (askOf h w locator t (length out) .answer)) (plainAsked (asked.Refused NoLocator)) (h .both) k refl refl refl,
-      by-number (λ there w. routed h w (step there w .routers) (step there w .latest)) (λ w. askOf h w locator t (length out) .node) (raisedTo h t) (h .both) k refl refl refl,
+unfolding askOf askOutput askedBy askedThrough raisedTo
+asked-same h k locator t out z so =
+    let step : Bool → ServiceName → asking.Asked = λ there w. askedBy there (serviceOf h w) (max (h .latest) t) locator (length out) in (
+      so .answer ∙ by-number (λ there w. plainAsked (step there w .answer)) (λ w. plainAsked (askOf h w locator t (length out) .answer)) (plainAsked (asked.Refused NoLocator)) (h .both) k refl refl refl,
+      rw (so .list, so .at-time) (by-number (λ there w. routed h w (step there w .routers) (max (h .latest) t)) (λ w. askOf h w locator t (length out) .node) (raisedTo h t) (h .both) k refl refl refl),
       by-number (λ there w. askedThrough there (serviceOf h w) (max (h .latest) t) locator out) (λ w. askOutput h w locator t out) out (h .both) k refl refl refl,
     )
 
-pub heard-same : (h : Node) (k : ℕ) (p : List ℕ) (t : ℕ)
-    → let step : HeardStep = heardStep (isThere (h .both) k) (serviceOf h (nameOf k)) (h .latest) p t in
-    (step .answer ≡ byNumber k (λ w. plainHeard (hearOf h w p t .answer)) (plainHeard (heard.Refused NoLocator)))
-    × (routed h (nameOf k) (step .routers) (step .latest) ≡ byNumber k (λ w. hearOf h w p t .node) (raisedTo h t))
-unfolding heardStep hearOf heardBy raisedTo
-heard-same h k p t =
-    let step : Bool → ServiceName → HeardStep = λ there w. heardStep there (serviceOf h w) (h .latest) p t in (
-      by-number (λ there w. step there w .answer) (λ w. plainHeard (hearOf h w p t .answer)) (plainHeard (heard.Refused NoLocator)) (h .both) k refl refl refl,
-      by-number (λ there w. routed h w (step there w .routers) (step there w .latest)) (λ w. hearOf h w p t .node) (raisedTo h t) (h .both) k refl refl refl,
+pub heard-same : (h : Node) (k : ℕ) (p : List ℕ) (t : ℕ) (z : HeardStep) → HeardAs (isThere (h .both) k) (serviceOf h (nameOf k)) (h .latest) p t z
+    → (z .answer ≡ byNumber k (λ w. plainHeard (hearOf h w p t .answer)) (plainHeard (heard.Refused NoLocator)))
+    × (routed h (nameOf k) (listAfter (z .changed) (z .router) (z .due) (serviceOf h (nameOf k) .routers)) (z .latest) ≡ byNumber k (λ w. hearOf h w p t .node) (raisedTo h t))
+unfolding hearOf heardBy raisedTo
+heard-same h k p t z so =
+    let step : Bool → ServiceName → hearing.Heard = λ there w. heardBy there (serviceOf h w) (max (h .latest) t) p in (
+      so .answer ∙ by-number (λ there w. plainHeard (step there w .answer)) (λ w. plainHeard (hearOf h w p t .answer)) (plainHeard (heard.Refused NoLocator)) (h .both) k refl refl refl,
+      rw (so .list, so .at-time) (by-number (λ there w. routed h w (step there w .routers) (max (h .latest) t)) (λ w. hearOf h w p t .node) (raisedTo h t) (h .both) k refl refl refl),
     )
+
+-- what a service answers, and the router list that this leaves, in plain
+pub plain-asked-list : (given : AskAnswer) (due : ℕ) (l : RouterList) (asked : asking.Asked) → answeredWith given due l ≡ asked
+    → (plainAsked given ≡ plainAsked (asked .answer)) × (listAfter (eqb (plainAsked given .number) 0) (plainAsked given .router) due l ≡ asked .routers)
+plain-asked-list (asked.Router a) due l x e = (ap (λ (y : asking.Asked). plainAsked (y .answer)) e, ap (λ (y : asking.Asked). y .routers) e)
+plain-asked-list (asked.Refused r) due l x e = (ap (λ (y : asking.Asked). plainAsked (y .answer)) e, rw (never-zero r) (ap (λ (y : asking.Asked). y .routers) e))
+
+pub plain-heard-list : (given : HeardAnswer) (due : ℕ) (l : RouterList) (heard : hearing.Heard) → heardAs given due l ≡ heard
+    → (plainHeard given ≡ plainHeard (heard .answer)) × (listAfter (eqb (plainHeard given .number) 0) (plainHeard given .router) due l ≡ heard .routers)
+plain-heard-list (heard.Router a) due l x e = (ap (λ (y : hearing.Heard). plainHeard (y .answer)) e, ap (λ (y : hearing.Heard). y .routers) e)
+plain-heard-list (heard.Refused r) due l x e = (ap (λ (y : hearing.Heard). plainHeard (y .answer)) e, rw (never-zero r) (ap (λ (y : hearing.Heard). y .routers) e))
 
 pub replaced-same : (h : Node) (k : ℕ) (l : List ℕ) (n t : ℕ)
     → let step : ReplacedStep = replacedStep (isThere (h .both) k) (serviceOf h (nameOf k)) (h .latest) l n t in

@@ -30,9 +30,9 @@ use Rattle.node.specs.declared.Service.{Service}
 use Rattle.node.specs.declared.ServiceName.{ServiceName}
 use Rattle.node.proofs.Node.Laws as T′
 use Rattle.node.proofs.Service.Laws as S′
-use Rattle.bogtrumpet.proofs.CallNamedOut.{Finish, Finishing}
+use Rattle.bogtrumpet.proofs.CallNamedOut.{Finish, FinishingAt}
 use Rattle.bogtrumpet.proofs.Changed.{Fitting, at-time, at-time-fits, with-service, service-is, service-fits, routers-fit, identification-fits}
-use Rattle.bogtrumpet.proofs.Lent.{mach}
+use Rattle.bogtrumpet.proofs.Lent.{mach, Fits}
 use Rattle.bogtrumpet.proofs.Named.{service-ref, Within}
 use Rattle.bogtrumpet.proofs.Param.{Data}
 use Rattle.bogtrumpet.proofs.Params.{from-at}
@@ -103,21 +103,23 @@ module _ {M : Type 1} (𝓤 : URA M) (H : Heap 𝓤) (A : Atoms 𝓤) (W : Given
       good = λ z. Unit {0};
       next = λ h w z. at-time (with-service h w (after h w z)) (e .latest z);
       answer = λ h w z. e .answer z;
-      next-fits = λ h w was z vs is.
-          at-time-fits (with-service h w (after h w z)) (e .latest z) (e .parts z vs is .2 .1)
-          (service-fits h w (after h w z) (e .part .fits (serviceOf h w) (e .changed z) (e .parts z vs is .1) (service-is h w was)) was);
     }
+
+    next-fits : (h : Node) (w : ServiceName) → Fits h → (z : e .step .D) (vs : List Val) → Is (row (e .step)) z vs → Fits (at-time (with-service h w (after h w z)) (e .latest z))
+    next-fits h w was z vs is =
+        at-time-fits (with-service h w (after h w z)) (e .latest z) (e .parts z vs is .2 .1)
+        (service-fits h w (after h w z) (e .part .fits (serviceOf h w) (e .changed z) (e .parts z vs is .1) (service-is h w was)) was)
 
     abbrev step-type : Sym → Ty
     step-type ν = tyStruct ν (tcons (e .given .type) (tcons (e .part .of .type) (tcons (tyInt w32) tnil)))
 
-    pub stores-so : (ν : Sym) (C : Calls 𝓤 H) → Finishing 𝓤 H A W (step-type ν) (e .given .type) [] stored-finish C (stores (e .part .at))
-    stores-so ν C Λ E q Γ b o p l₀ l₁ lₙ lₛ lₜ lᵥ n cs w N h was z v is good at-0 at-1 at-n at-s at-t at-v at-es k =
+    pub stores-so : (ν : Sym) (C : Calls 𝓤 H) (far : ℕ → ℕ) → FinishingAt 𝓤 H A W (step-type ν) (e .given .type) [] far stored-finish C (stores (e .part .at))
+    stores-so ν C far Λ E q Γ b o p l₀ l₁ lₙ lₛ lₜ lᵥ n cs w N h was z v is good at-0 at-1 at-n at-s at-t at-v at-es k =
         let parts = e .parts z (v ∷ []) is in
         -- [the step's; the node's cell; room for _0; _1; the named; the step; room for the bool; the service read; further room; …]
         rewrite ! 5 (λ (x : Val). ‵ (fat fullShare (step-type ν) lₛ 0 x)) (ap only (e .tells z (v ∷ []) is)) refl $
         e .part .stores C Λ E q _ _ _ b o p lₙ n _ _ _ w N h (e .changed z) (parts .1) at-n (of-opd ! (load ! (from-at ! (step-type ν, lₛ) at-s (fld ! refl (stop !))) (look-in ! 5 (sub ! 1 refl (whole !))))) (
-        assigns ! (of-opd ! (load ! (from-at ! (step-type ν, lₛ) at-s (fld ! refl (stop !))) (look-in ! 5 (sub ! 2 refl (whole !))))) (from-at ! (node-ref, l₁) at-1 (hop ! (look ! 3 refl) (fld ! {τ = tyInt w32} {d = 2568} refl (stop !))))
-        (store-in ! 1 (sub ! 3 {τ = tyInt w32} {d = 2568} refl (whole !)) (tt, record { fits = parts .2 .1 })) $
+        assigns ! (of-opd ! (load ! (from-at ! (step-type ν, lₛ) at-s (fld ! refl (stop !))) (look-in ! 5 (sub ! 2 refl (whole !))))) (from-at ! (node-ref, l₁) at-1 (hop ! (look ! 3 refl) (fld ! {τ = tyInt w32} {d = 2440} refl (stop !))))
+        (store-in ! 1 (sub ! 3 {τ = tyInt w32} {d = 2440} refl (whole !)) (tt, record { fits = parts .2 .1 })) $
         assigns ! (of-opd ! (load ! (from-at ! (step-type ν, lₛ) at-s (fld ! refl (stop !))) (look-in ! 5 (sub ! 0 refl (whole !))))) (from-at ! (e .given .type, l₀) at-0 (stop !)) (init ! 2 refl (e .given .typed (e .answer z) (parts .0))) $
-        forget ! 5 refl $ forget ! 7 refl $ drop ! $ owned ! (e .given .kind) (Is (e .given .kind)) (e .makes) (e .answer z) (e .given .val (e .answer z) ∷ []) (parts .0) $ k (e .answer z) _ refl)
+        forget ! 5 refl $ forget ! 7 refl $ drop ! $ owned ! (e .given .kind) (Is (e .given .kind)) (e .makes) (e .answer z) (e .given .val (e .answer z) ∷ []) (parts .0) $ k (e .answer z) _ refl (next-fits h w was z (v ∷ []) is))

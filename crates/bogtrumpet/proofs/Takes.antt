@@ -73,8 +73,8 @@ module _ {M : Type 1} (𝓤 : URA M) (H : Heap 𝓤) (A : Atoms 𝓤) (W : Given
         let service : Service = serviceOf h (nameOf k) in
         assigns ! (of-opd ! (load ! (from-at ! (service-ref, l₅) (at 3) (stop !)) (look ! 5 refl))) (from-at ! (service-ref, l₂) (at 0) (stop !)) (init ! 3 refl (tt, tt)) $
         assigns ! (of-opd ! (load ! (from-at ! (service-ref, l₂) (at 0) (hop ! (look ! 3 refl) (stop !))) (look-in ! 0 (N h .part)))) (from-at ! (S′.mir, l₆) (at 4) (stop !)) (init ! 6 refl (LL.lawful S.the-type S′.the-laws 𝓤 H A W .typed service _ (service-is h (nameOf k) was) .0)) $
-        assigns ! (of-opd ! (load ! (from-at ! (node-ref, l₁) at-1 (hop ! (look ! 2 refl) (fld ! {τ = tyInt w8} {d = 2572} refl (stop !)))) (look-in ! 0 (sub ! 4 {τ = tyInt w8} {d = 2572} refl (whole !))))) (from-at ! (tyInt w8, l₇) (at 5) (stop !)) (init ! 7 refl (tt, record { fits = both-fits h was })) $
-        assigns ! (of-opd ! (load ! (from-at ! (node-ref, l₁) at-1 (hop ! (look ! 2 refl) (fld ! {τ = tyInt w32} {d = 2568} refl (stop !)))) (look-in ! 0 (sub ! 3 {τ = tyInt w32} {d = 2568} refl (whole !))))) (from-at ! (tyInt w32, l₈) (at 6) (stop !)) (init ! 8 refl (tt, record { fits = latest-fits h was })) $
+        assigns ! (of-opd ! (load ! (from-at ! (node-ref, l₁) at-1 (hop ! (look ! 2 refl) (fld ! {τ = tyInt w8} {d = 2444} refl (stop !)))) (look-in ! 0 (sub ! 4 {τ = tyInt w8} {d = 2444} refl (whole !))))) (from-at ! (tyInt w8, l₇) (at 5) (stop !)) (init ! 7 refl (tt, record { fits = both-fits h was })) $
+        assigns ! (of-opd ! (load ! (from-at ! (node-ref, l₁) at-1 (hop ! (look ! 2 refl) (fld ! {τ = tyInt w32} {d = 2440} refl (stop !)))) (look-in ! 0 (sub ! 3 {τ = tyInt w32} {d = 2440} refl (whole !))))) (from-at ! (tyInt w32, l₈) (at 6) (stop !)) (init ! 8 refl (tt, record { fits = latest-fits h was })) $
         owned ! u32 (Is u32) (uint-makes 𝓤 H A W w32) (h .latest) (vint w32 (h .latest) ∷ []) (refl, latest-fits h was) $ owned ! u8 (Is u8) (uint-makes 𝓤 H A W w8) (h .both) (vint w8 (h .both) ∷ []) (refl, both-fits h was) $
         owned ! S.the-row (Is S.the-row) (LL.makes S.the-type S′.the-plain 𝓤 H A) service (svc service ∷ []) (service-is h (nameOf k) was) $ then p N
 
@@ -85,5 +85,5 @@ module _ {M : Type 1} (𝓤 : URA M) (H : Heap 𝓤) (A : Atoms 𝓤) (W : Given
         within ! $ branches ! (load ! (from-at ! (tyBool, l₄) (at 2) (stop !)) (look ! 4 refl))
         (λ it-is. assigns-last ! (addr ! (from-at ! (node-ref, l₁) at-1 (hop ! (look ! 2 refl) (fld ! {τ = S′.mir} {d = 0} refl (stop !))))) (from-at ! (service-ref, l₅) (at 3) (stop !)) (init ! 5 refl (tt, tt)) $ exec ! C Λ E (reads n body) q $
         read-so (o + 0) (subst (λ (w : ServiceName). (g : Node) → Within 𝓤 H A W fullShare w b o (o + 0) g) (sym (is-first k it-is)) (first-within 𝓤 H A W fullShare b o)))
-        (λ it-is-not. assigns-last ! (addr ! (from-at ! (node-ref, l₁) at-1 (hop ! (look ! 2 refl) (fld ! {τ = S′.mir} {d = 960} refl (stop !))))) (from-at ! (service-ref, l₅) (at 3) (stop !)) (init ! 5 refl (tt, tt)) $ exec ! C Λ E (reads n body) q $
-        read-so (o + 960) (subst (λ (w : ServiceName). (g : Node) → Within 𝓤 H A W fullShare w b o (o + 960) g) (sym (is-second k it-is-not)) (second-within 𝓤 H A W fullShare b o)))
+        (λ it-is-not. assigns-last ! (addr ! (from-at ! (node-ref, l₁) at-1 (hop ! (look ! 2 refl) (fld ! {τ = S′.mir} {d = 896} refl (stop !))))) (from-at ! (service-ref, l₅) (at 3) (stop !)) (init ! 5 refl (tt, tt)) $ exec ! C Λ E (reads n body) q $
+        read-so (o + 896) (subst (λ (w : ServiceName). (g : Node) → Within 𝓤 H A W fullShare w b o (o + 896) g) (sym (is-second k it-is-not)) (second-within 𝓤 H A W fullShare b o)))

@@ -1,7 +1,10 @@
 -- What a function of `steps` answers: the plain answer, and what is changed of the node.
 use Prim.Native.Nat.{ℕ, max}
+use mathlib.Core.Path.{_≡_}
 use mathlib.Core.Bool.{Bool, cond}
 use mathlib.Core.List.{List}
+use Rattle.routers.specs.Routers.{rescheduledOf}
+use Rattle.routers.specs.declared.RouterList.{RouterList}
 use Rattle.node.specs.Ask.{askedBy}
 use Rattle.node.specs.Hear.{heardBy}
 use Rattle.node.specs.Node.{setupGiven, serviceOf, nodeWith}
@@ -54,14 +57,18 @@ replacedStep there service latest addresses count time =
     let done = replacedBy there service (max latest time) addresses count in
     record { answer = listGiven (done .answer) .number; routers = done .routers; latest = max latest time }
 
--- of asking: the plain answer, the router list afterwards, and the later time
-unfoldable pub askedStep : Bool → Service → ℕ → ℕ → ℕ → ℕ → AskedStep
-askedStep there service latest locator time room =
-    let asked = askedBy there service (max latest time) locator room in
-    record { answer = plainAsked (asked .answer); routers = asked .routers; latest = max latest time }
+-- the router list that a step leaves: where it changes it, the router of the address is due then
+abbrev pub listAfter : Bool → ℕ → ℕ → RouterList → RouterList
+listAfter changed router due l = cond changed (rescheduledOf router due l) l
 
--- of an advertisement: the plain answer, the router list afterwards, and the later time
-unfoldable pub heardStep : Bool → Service → ℕ → List ℕ → ℕ → HeardStep
-heardStep there service latest packet time =
-    let heard = heardBy there service (max latest time) packet in
-    record { answer = plainHeard (heard .answer); routers = heard .routers; latest = max latest time }
+-- of asking: the plain answer, what it leaves of the router list, and the later time
+pub record AskedAs (there : Bool) (service : Service) (latest locator time room : ℕ) (step : AskedStep) : Type 0 where
+  pub answer : step .answer ≡ plainAsked (askedBy there service (max latest time) locator room .answer)
+  pub list : listAfter (step .changed) (step .router) (step .due) (service .routers) ≡ askedBy there service (max latest time) locator room .routers
+  pub at-time : step .latest ≡ max latest time
+
+-- of an advertisement: the plain answer, what it leaves of the router list, and the later time
+pub record HeardAs (there : Bool) (service : Service) (latest : ℕ) (packet : List ℕ) (time : ℕ) (step : HeardStep) : Type 0 where
+  pub answer : step .answer ≡ plainHeard (heardBy there service (max latest time) packet .answer)
+  pub list : listAfter (step .changed) (step .router) (step .due) (service .routers) ≡ heardBy there service (max latest time) packet .routers
+  pub at-time : step .latest ≡ max latest time

@@ -273,7 +273,7 @@ pub extern "C" fn bogtrumpet_replace_routers(
     step.answer
 }
 
-// Asks the next router of a service: Node::ask.
+// Asks the next router of a service: Node::ask. Of the node the latest time is written, and where a router is asked the router list.
 #[no_mangle]
 pub extern "C" fn bogtrumpet_ask(
     node: &mut Node,
@@ -292,12 +292,14 @@ pub extern "C" fn bogtrumpet_ask(
         &mut node.second
     };
     let step = steps::asked(*named, node.both, node.latest, service, locator, time, out);
-    named.routers = step.routers;
+    if step.changed {
+        named.routers = steps::rescheduled(*named, step.router, step.due);
+    }
     node.latest = step.latest;
     step.answer
 }
 
-// Takes a router advertisement to a service: Node::hear.
+// Takes a router advertisement to a service: Node::hear. Of the node the latest time is written, and where it is accepted the router list.
 #[no_mangle]
 pub extern "C" fn bogtrumpet_hear(node: &mut Node, service: u8, packet: &[u8], time: u32) -> Heard
     ensures { λ r. ⌜ (r ≡ byNumber service (λ w. plainHeard (hearOf (now (node .entry)) w (now (packet .entry)) time .answer)) (plainHeard (heard.Refused NoLocator)))
@@ -309,7 +311,9 @@ pub extern "C" fn bogtrumpet_hear(node: &mut Node, service: u8, packet: &[u8], t
         &mut node.second
     };
     let step = steps::heard(*named, node.both, node.latest, service, packet, time);
-    named.routers = step.routers;
+    if step.changed {
+        named.routers = steps::rescheduled(*named, step.router, step.due);
+    }
     node.latest = step.latest;
     step.answer
 }

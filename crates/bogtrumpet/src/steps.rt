@@ -35,11 +35,12 @@ ghost use Rattle.node.specs.Node.{setupOf, setupPairOf};
 ghost use Rattle.node.specs.Receive.{collectedThrough};
 ghost use Rattle.node.specs.Report.{reportOf};
 ghost use Rattle.node.specs.Send.{sentThrough};
+ghost use Rattle.routers.specs.Routers.{rescheduledOf};
 ghost use Rattle.bogtrumpet.specs.Answers.{plainAdvertised};
 ghost use Rattle.bogtrumpet.specs.Gathered.{GatheredAs, judgedStep};
 ghost use Rattle.bogtrumpet.specs.Numbered.{isThere};
 ghost use Rattle.bogtrumpet.specs.Plain.{bytesOf, advertisementFrom};
-ghost use Rattle.bogtrumpet.specs.Steps.{madeStep, sentStep, reportedStep, replacedStep, askedStep, heardStep};
+ghost use Rattle.bogtrumpet.specs.Steps.{madeStep, sentStep, reportedStep, replacedStep, AskedAs, HeardAs};
 
 // A number, and the node that is made.
 pub struct MadeStep {
@@ -71,23 +72,28 @@ pub struct ReportedStep {
     pub latest: u32,
 }
 
-// Of the node a new router list, asking and an advertisement change the router list of their service and the latest time alone.
+// Of the node a new router list changes the router list of its service and the latest time alone.
 pub struct ReplacedStep {
     pub answer: u8,
     pub routers: RouterList,
     pub latest: u32,
 }
 
+// Of the node an asking and an advertisement change the latest time and, where `changed`, the due time of a router of their service.
 pub struct AskedStep {
     pub answer: Asked,
-    pub routers: RouterList,
     pub latest: u32,
+    pub router: u32,
+    pub due: u64,
+    pub changed: bool,
 }
 
 pub struct HeardStep {
     pub answer: Heard,
-    pub routers: RouterList,
     pub latest: u32,
+    pub router: u32,
+    pub due: u64,
+    pub changed: bool,
 }
 
 // What stood where the new node is to stand is not asked.
@@ -234,7 +240,7 @@ pub fn replaced(
     }
 }
 
-// Asking: node::ask::asked_by.
+// Asking: node::ask::answered_by.
 pub fn asked(
     named: Service,
     both: u8,
@@ -244,23 +250,24 @@ pub fn asked(
     time: u32,
     out: &mut [u8],
 ) -> AskedStep
-    ensures { λ r. ⌜ (r ≡ askedStep (isThere both service) named latest locator time (length (now (out .entry))))
+    ensures { λ r. ⌜ AskedAs (isThere both service) named latest locator time (length (now (out .entry))) r
         × (now (out .exit) ≡ askedThrough (isThere both service) named (max latest time) locator (now (out .entry))) ⌝ }
 {
     let latest = node::later(latest, time);
     let there = numbered::there(both, service);
-    let asked = ask::asked_by(there, named, latest, locator, out);
-    let given = asked.answer;
-    let routers = asked.routers;
+    let given = ask::answered_by(there, named, latest, locator, out);
     let answer = answers::plain_asked(given);
+    let asked = answer.number == 0;
     AskedStep {
         answer,
-        routers,
         latest,
+        router: answer.router,
+        due: latest as u64 + named.settings.interval as u64,
+        changed: asked,
     }
 }
 
-// An advertisement: node::hear::heard_by.
+// An advertisement: node::hear::judged_by.
 pub fn heard(
     named: Service,
     both: u8,
@@ -269,19 +276,29 @@ pub fn heard(
     packet: &[u8],
     time: u32,
 ) -> HeardStep
-    ensures { λ r. ⌜ r ≡ heardStep (isThere both service) named latest (now (packet .entry)) time ⌝ }
+    ensures { λ r. ⌜ HeardAs (isThere both service) named latest (now (packet .entry)) time r ⌝ }
 {
     let latest = node::later(latest, time);
     let there = numbered::there(both, service);
-    let heard = hear::heard_by(there, named, latest, packet);
-    let given = heard.answer;
-    let routers = heard.routers;
+    let judged = hear::judged_by(there, named, latest, packet);
+    let given = judged.answer;
     let answer = answers::plain_heard(given);
+    let accepted = answer.number == 0;
     HeardStep {
         answer,
-        routers,
         latest,
+        router: answer.router,
+        due: judged.due,
+        changed: accepted,
     }
+}
+
+// The router list of a service once the router of that address is due at `due`.
+pub fn rescheduled(named: Service, router: u32, due: u64) -> RouterList
+    ensures { λ r. ⌜ r ≡ rescheduledOf router due (named .routers) ⌝ }
+{
+    let routers = named.routers;
+    routers.rescheduled(router, due)
 }
 
 // An answer to a solicitation: node::advertise::advertised_by.

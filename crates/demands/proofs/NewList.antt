@@ -5,7 +5,8 @@ use mathlib.Core.List.{List, [], _∷_, _++_, map, List·Memᴰ, List·Memᴰ·h
 use native.Mathlib.Nat.{not-suc-le-zero, le-of-suc-le-suc}
 use lib.ListN.{length, getD, length-map}
 use borrow.Author.Tests.{eq-eqb, ne-eqb}
-use Rattle.routers.specs.Routers.{live, dueOr, kept, replacedOf, newOf}
+use Rattle.routers.specs.Routers.{live, pairs, dueOr, replacedOf, newOf}
+use Rattle.routers.proofs.Rows.{pairs-of}
 use Rattle.routers.specs.Facts.{Listed, noRouter}
 use Rattle.routers.specs.declared.Router.{Router}
 use Rattle.routers.specs.declared.RouterList.{RouterList}
@@ -30,22 +31,35 @@ module _ (other a : ℕ) where
   none-due (r ∷ rs) n =
       rw (ne-eqb _ _ (λ e. n (r, List·Memᴰ·head refl, e)), none-due rs (λ l. n (l .0, List·Memᴰ·tail (l .1), l .2)))
 
+-- the routers at the places of a list whose due times are made of its addresses
+module _ (f : ℕ → ℕ) (addresses : List ℕ) where
+  abbrev made : ℕ → Router
+  made a = record { address = a; due = f a }
+
+  made-length : length (pairs addresses (map f addresses)) ≡ length addresses
+  made-length = rw (pairs-of f addresses) (length-map addresses made)
+
+  made-at : (k : ℕ) → k < length addresses → getD (pairs addresses (map f addresses)) k noRouter ≡ record { address = getD addresses k 0; due = f (getD addresses k 0) }
+  made-at k h = rw (pairs-of f addresses) (mapped-at made addresses k h)
+
 pub replaced-list : (addresses : List ℕ) (count now : ℕ) (l : RouterList) → NewList now (live l) addresses count (replacedOf addresses count now l)
-replaced-list addresses count now l = record {
-  size = refl;
-  places = length-map addresses _;
-  address = λ k h. rw (mapped-at (kept now (live l)) addresses k h);
-  kept = λ k r h f. rw (mapped-at (kept now (live l)) addresses k h, f .stands, first-due now (getD addresses k 0) (f .front) r (f .back) (f .address) (f .before));
-  new = λ k h n. rw (mapped-at (kept now (live l)) addresses k h, none-due now (getD addresses k 0) (live l) n);
-}
+replaced-list addresses count now l =
+    let due : ℕ → ℕ = λ a. dueOr now a (live l) in
+    record {
+      size = refl;
+      places = made-length due addresses;
+      address = λ k h. rw (made-at due addresses k h);
+      kept = λ k r h f. rw (made-at due addresses k h, f .stands, first-due now (getD addresses k 0) (f .front) r (f .back) (f .address) (f .before));
+      new = λ k h n. rw (made-at due addresses k h, none-due now (getD addresses k 0) (live l) n);
+    }
 
 pub new-list : (addresses : List ℕ) (count : ℕ) → NewList 0 [] addresses count (newOf addresses count)
 new-list addresses count = record {
   size = refl;
-  places = length-map addresses _;
-  address = λ k h. rw (mapped-at (λ a. record { address = a; due = 0 }) addresses k h);
+  places = made-length (λ a. 0) addresses;
+  address = λ k h. rw (made-at (λ a. 0) addresses k h);
   kept = λ k r h f. absurd (List·Memᴰ·not-nil (in-nothing f));
-  new = λ k h n. rw (mapped-at (λ a. record { address = a; due = 0 }) addresses k h);
+  new = λ k h n. rw (made-at (λ a. 0) addresses k h);
 }
   where
     in-nothing : {a : ℕ} {r : Router} → FirstAt a [] r → List·Memᴰ r []

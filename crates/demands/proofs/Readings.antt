@@ -8,6 +8,7 @@ use Rattle.address.specs.Address.{lastQuad}
 use Rattle.address.specs.Prefixes.{rowAt, rowsOf}
 use Rattle.paths.specs.Kept.{inForce}
 use Rattle.header.specs.Fields.{wordAt, quadAt}
+use Rattle.routers.proofs.Rows.{pairs-length, pair-at}
 use Rattle.units.proofs.Facts.{marks-holds, with-holds}
 use Rattle.demands.specs.Readings.{Readings}
 
@@ -46,6 +47,8 @@ readings = record {
   prefixes = prefix-bytes;
   locators = λ s. refl;
   routers = λ l. refl;
+  places = λ l. pairs-length (l .addresses) (l .dues);
+  place = λ l k h j. pair-at k (l .addresses) (l .dues) h j;
   quote = λ m. refl;
   numbers = refl;
   unit = λ h u inside. (marks-holds h u inside .holds, marks-holds h u inside .passes);

@@ -14,7 +14,7 @@ use Rattle.pieces.specs.ByHistory.{HistoryExactly}
 use Rattle.pieces.specs.declared.Collection.{Collection}
 use Rattle.pieces.specs.declared.Key.{Key}
 use Rattle.paths.specs.Table.{held}
-use Rattle.routers.specs.Routers.{live, replacedOf}
+use Rattle.routers.specs.Routers.{live, placesOf, replacedOf}
 use Rattle.routers.specs.Facts.{Listed, noRouter}
 use Rattle.routers.specs.declared.Router.{Router}
 use Rattle.routers.specs.declared.RouterList.{RouterList}
@@ -84,10 +84,10 @@ pub record FirstAt (a : ℕ) (rs : List Router) (r : Router) : Type 0 where
 -- the list holds the first `count` of the addresses, place by place; a router of the old list keeps its due time, a new one is due now
 pub record NewList (now : ℕ) (old : List Router) (addresses : List ℕ) (count : ℕ) (after : RouterList) : Type 0 where
   pub size : after .count ≡ count
-  pub places : length (after .routers) ≡ length addresses
-  pub address : (k : ℕ) → k < length addresses → getD (after .routers) k noRouter .address ≡ getD addresses k 0
-  pub kept : (k : ℕ) (r : Router) → k < length addresses → FirstAt (getD addresses k 0) old r → getD (after .routers) k noRouter .due ≡ r .due
-  pub new : (k : ℕ) → k < length addresses → (Listed (getD addresses k 0) old → ⊥) → getD (after .routers) k noRouter .due ≡ now
+  pub places : length (placesOf after) ≡ length addresses
+  pub address : (k : ℕ) → k < length addresses → getD (placesOf after) k noRouter .address ≡ getD addresses k 0
+  pub kept : (k : ℕ) (r : Router) → k < length addresses → FirstAt (getD addresses k 0) old r → getD (placesOf after) k noRouter .due ≡ r .due
+  pub new : (k : ℕ) → k < length addresses → (Listed (getD addresses k 0) old → ⊥) → getD (placesOf after) k noRouter .due ≡ now
 
 -- no pair of address and interface stands twice
 abbrev pub DistinctPairs : List Locator → Type 0

@@ -24,6 +24,7 @@ use Rattle.settings.specs.declared.Settings.{Settings}
 use Rattle.hearing.specs.Message.{messageOf, isSumRight, hasFields, isValidMessage}
 use Rattle.hearing.specs.declared.HeardAnswer.{HeardAnswer}
 use Rattle.hearing.specs.declared.HeardAnswer.the-variants.{Router, Refused}
+use Rattle.hearing.specs.declared.Judged.{Judged}
 use Rattle.hearing.specs.declared.Heard.{Heard}
 
 -- ICMPv6 length at least 16: the options start there (RFC 4861, 4.2)
@@ -46,10 +47,23 @@ isValidAdvertisement i p = isLinkLocal (i .source) && isValidMessage advertiseme
 abbrev pub refusedBy : Refusal → RouterList → Heard
 refusedBy refusal routers = record { answer = Refused refusal; routers = routers }
 
+-- an answer, and the router list after it: the due time of the router whose advertisement is accepted becomes `due`
+abbrev pub heardAs : HeardAnswer → ℕ → RouterList → Heard
+heardAs (Router a) due routers = record { answer = Router a; routers = rescheduledOf a due routers }
+heardAs (Refused refusal) due routers = refusedBy refusal routers
+
+-- what was judged of a packet, and the router list after it
+abbrev pub heardWith : Judged → RouterList → Heard
+heardWith j routers = heardAs (j .answer) (j .due) routers
+
+-- what is judged of a packet that is refused
+abbrev pub judgedBy : Refusal → Judged
+judgedBy refusal = record { answer = Refused refusal; due = 0 }
+
 -- 21: the source embeds no listed router; else the answer is that router, and its due time is set
 abbrev pub heardOfRouter : Embedded → RouterList → ℕ → Heard
 heardOfRouter (Ipv4 a) routers due =
-    cond (listed a (live routers)) (record { answer = Router a; routers = rescheduledOf a due routers }) (refusedBy AdvertiserNotListed routers)
+    cond (listed a (live routers)) (heardAs (Router a) due routers) (refusedBy AdvertiserNotListed routers)
 heardOfRouter Nothing routers due = refusedBy AdvertiserNotListed routers
 
 -- what comes of a valid advertisement from a source, with its smallest lifetime: 21, or its router's due time

@@ -6,7 +6,9 @@ use super::later;
 use asking::AskAnswer;
 use refusals::Refusal;
 ghost use mathlib.Core.Path.{_≡_};
+ghost use Prim.Native.Nat.{_+_};
 ghost use lib.ListN.{length};
+ghost use Rattle.asking.specs.Ask.{answeredWith};
 ghost use Rattle.node.specs.Ask.{askedBy, askedThrough, askOf, askOutput};
 
 pub struct Asked {
@@ -34,6 +36,26 @@ pub fn asked_by(
             answer: AskAnswer::Refused(Refusal::NoLocator),
             routers,
         }
+    }
+}
+
+// Its answer alone, of which the router list afterwards follows.
+pub fn answered_by(
+    there: bool,
+    service: Service,
+    latest: u32,
+    locator: usize,
+    out: &mut [u8],
+) -> AskAnswer
+    ensures { λ r. ⌜ answeredWith r (latest + service .settings .interval) (service .routers) ≡ askedBy there service latest locator (length (now (out .entry))) ⌝ }
+    ensures { λ _. ⌜ now (out .exit) ≡ askedThrough there service latest locator (now (out .entry)) ⌝ }
+{
+    let routers = service.routers;
+    if there {
+        let settings = service.settings;
+        asking::answer(settings, routers, latest, locator, out)
+    } else {
+        AskAnswer::Refused(Refusal::NoLocator)
     }
 }
 

@@ -4,8 +4,10 @@ use super::Service;
 use super::ServiceName;
 use super::later;
 use hearing::HeardAnswer;
+use hearing::Judged;
 use refusals::Refusal;
 ghost use mathlib.Core.Path.{_≡_};
+ghost use Rattle.hearing.specs.Heard.{heardWith};
 ghost use Rattle.node.specs.Hear.{heardBy, hearOf};
 
 pub struct Heard {
@@ -25,6 +27,22 @@ pub fn heard_by(there: bool, service: Service, latest: u32, packet: &[u8]) -> he
         hearing::Heard {
             answer: HeardAnswer::Refused(Refusal::NoLocator),
             routers,
+        }
+    }
+}
+
+// What it judges of it alone, of which the router list afterwards follows.
+pub fn judged_by(there: bool, service: Service, latest: u32, packet: &[u8]) -> Judged
+    ensures { λ r. ⌜ heardWith r (service .routers) ≡ heardBy there service latest (now (packet .entry)) ⌝ }
+{
+    let routers = service.routers;
+    if there {
+        let settings = service.settings;
+        hearing::judge(settings, routers, latest, packet)
+    } else {
+        Judged {
+            answer: HeardAnswer::Refused(Refusal::NoLocator),
+            due: 0,
         }
     }
 }

@@ -12,8 +12,9 @@ use borrow.Author.Tests.{lt-ltb, le-ltb, le-leb, lt-leb, leb-true, leb-false, eq
 use Rattle.routers.specs.declared.Router.{Router}
 use Rattle.routers.specs.declared.RouterList.{RouterList}
 use Rattle.routers.specs.declared.Next.the-variants.{Due, NoneDue}
-use Rattle.routers.specs.Routers.{earlierOf, earliest, ifDue, nextOf, dueIf, rescheduled, rescheduledOf}
+use Rattle.routers.specs.Routers.{placesOf, earlierOf, earliest, ifDue, nextOf, dueIf, rescheduled, rescheduledOf}
 use Rattle.routers.specs.Facts.{EarliestDue, NoneIsDue, noRouter, OnlyDue}
+use Rattle.routers.proofs.Rows.{pairs-rescheduled}
 use Rattle.routers.proofs.Earliest.{Chosen, chosen}
 
 -- where a router stands that is due before those at lower places, and no later than those at higher ones
@@ -181,22 +182,25 @@ pub only-due : (l : RouterList) (a d : ℕ) → OnlyDue l a d (rescheduledOf a d
 unfolding dueIf
 only-due l a d = record {
   count = refl;
-  places = length-map (l .routers) (dueIf a d);
-  addresses = λ k. same-address k (entry-or-none a d k (l .routers));
-  due = λ k h e. ap (λ (r : Router). r .due) (entry a d k (l .routers) h) ∙ rw (eq-eqb _ a e);
-  others = λ k n. same-due k n (entry-or-none a d k (l .routers));
+  places = rw again (length-map (placesOf l) (dueIf a d));
+  addresses = λ k. rw again (same-address k (entry-or-none a d k (placesOf l)));
+  due = λ k h e. rw again (ap (λ (r : Router). r .due) (entry a d k (placesOf l) h) ∙ rw (eq-eqb _ a e));
+  others = λ k n. rw again (same-due k n (entry-or-none a d k (placesOf l)));
 }
   where
-    at : ℕ → Router
-    at k = getD (l .routers) k noRouter
+    again : placesOf (rescheduledOf a d l) ≡ rescheduled a d (placesOf l)
+    again = pairs-rescheduled a d (l .addresses) (l .dues)
 
-    same-address : (k : ℕ) → (getD (rescheduled a d (l .routers)) k noRouter ≡ dueIf a d (at k)) ⊎ (getD (rescheduled a d (l .routers)) k noRouter ≡ at k)
-        → getD (rescheduled a d (l .routers)) k noRouter .address ≡ at k .address
+    at : ℕ → Router
+    at k = getD (placesOf l) k noRouter
+
+    same-address : (k : ℕ) → (getD (rescheduled a d (placesOf l)) k noRouter ≡ dueIf a d (at k)) ⊎ (getD (rescheduled a d (placesOf l)) k noRouter ≡ at k)
+        → getD (rescheduled a d (placesOf l)) k noRouter .address ≡ at k .address
     same-address k (inl e) = ap (λ (r : Router). r .address) e
     same-address k (inr e) = ap (λ (r : Router). r .address) e
 
     same-due : (k : ℕ) → (at k .address ≡ a → ⊥)
-        → (getD (rescheduled a d (l .routers)) k noRouter ≡ dueIf a d (at k)) ⊎ (getD (rescheduled a d (l .routers)) k noRouter ≡ at k)
-        → getD (rescheduled a d (l .routers)) k noRouter .due ≡ at k .due
+        → (getD (rescheduled a d (placesOf l)) k noRouter ≡ dueIf a d (at k)) ⊎ (getD (rescheduled a d (placesOf l)) k noRouter ≡ at k)
+        → getD (rescheduled a d (placesOf l)) k noRouter .due ≡ at k .due
     same-due k n (inl e) = ap (λ (r : Router). r .due) e ∙ rw (ne-eqb (at k .address) a n)
     same-due k n (inr e) = ap (λ (r : Router). r .due) e

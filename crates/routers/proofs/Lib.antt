@@ -1,5 +1,6 @@
 -- What the proofs of several functions use, and the laws that callers cite.
 pub mod FairCalls
+pub mod Rows
 pub mod Laws
 pub mod Live
 pub mod Earliest

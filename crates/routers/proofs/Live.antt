@@ -8,7 +8,8 @@ use lib.ListN.{take}
 use lib.Dec.{eqb}
 use Rattle.routers.specs.declared.Router.{Router}
 use Rattle.routers.specs.declared.RouterList.{RouterList}
-use Rattle.routers.specs.Routers.{live, listed, dueIf, rescheduled, rescheduledOf}
+use Rattle.routers.specs.Routers.{placesOf, live, listed, dueIf, rescheduled, rescheduledOf}
+use Rattle.routers.proofs.Rows.{pairs-rescheduled}
 
 take-map : {A B : Type 0} (f : A → B) (n : ℕ) (xs : List A) → take n (map f xs) ≡ map f (take n xs)
 take-map f zero xs = refl
@@ -16,7 +17,7 @@ take-map f (suc n) [] = refl
 take-map {A} {B} f (suc n) (x ∷ xs) = ap (λ (q : List B). f x ∷ q) (take-map f n xs)
 
 pub live-rescheduled : (a d : ℕ) (l : RouterList) → live (rescheduledOf a d l) ≡ rescheduled a d (live l)
-live-rescheduled a d l = take-map (dueIf a d) (l .count) (l .routers)
+live-rescheduled a d l = rw (pairs-rescheduled a d (l .addresses) (l .dues)) (take-map (dueIf a d) (l .count) (placesOf l))
 
 -- a due time does not change who is listed
 pub listed-rescheduled : (b a d : ℕ) (rs : List Router) → listed b (rescheduled a d rs) ≡ listed b rs

@@ -5,6 +5,7 @@ use mathlib.Core.List.{List, _∷_, _++_, List·Memᴰ}
 use lib.ListN.{length, getD}
 use Rattle.lists.specs.Any.{Some}
 use Rattle.routers.specs.declared.Router.{Router}
+use Rattle.routers.specs.Routers.{placesOf}
 use Rattle.routers.specs.declared.RouterList.{RouterList}
 
 -- R5.12, R15.5: some router of the list has the address
@@ -34,8 +35,8 @@ noRouter = record { address = 0; due = 0 }
 -- the due time of the router of address a becomes d, and nothing else of the list changes
 pub record OnlyDue (before : RouterList) (a d : ℕ) (after : RouterList) : Type 0 where
   pub count : after .count ≡ before .count
-  pub places : length (after .routers) ≡ length (before .routers)
-  pub addresses : (k : ℕ) → getD (after .routers) k noRouter .address ≡ getD (before .routers) k noRouter .address
-  pub due : (k : ℕ) → k < length (before .routers) → getD (before .routers) k noRouter .address ≡ a → getD (after .routers) k noRouter .due ≡ d
-  pub others : (k : ℕ) → (getD (before .routers) k noRouter .address ≡ a → ⊥)
-      → getD (after .routers) k noRouter .due ≡ getD (before .routers) k noRouter .due
+  pub places : length (placesOf after) ≡ length (placesOf before)
+  pub addresses : (k : ℕ) → getD (placesOf after) k noRouter .address ≡ getD (placesOf before) k noRouter .address
+  pub due : (k : ℕ) → k < length (placesOf before) → getD (placesOf before) k noRouter .address ≡ a → getD (placesOf after) k noRouter .due ≡ d
+  pub others : (k : ℕ) → (getD (placesOf before) k noRouter .address ≡ a → ⊥)
+      → getD (placesOf after) k noRouter .due ≡ getD (placesOf before) k noRouter .due

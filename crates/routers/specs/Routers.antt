@@ -14,9 +14,23 @@ use Rattle.routers.specs.declared.Next.the-variants.{Due, NoneDue}
 abbrev pub places : ℕ
 places = 16
 
+-- the routers that a row of addresses and a row of due times hold, place by place
+abbrev pub pairs : List ℕ → List ℕ → List Router
+pairs [] dues = []
+pairs (a ∷ bs) [] = []
+pairs (a ∷ bs) (d ∷ ds) = record { address = a; due = d } ∷ pairs bs ds
+
+-- the routers of the first n places
+abbrev pub heldIn : List ℕ → List ℕ → ℕ → List Router
+heldIn addresses dues n = take n (pairs addresses dues)
+
+-- what stands at the places of a list, in force or behind the count
+abbrev pub placesOf : RouterList → List Router
+placesOf l = pairs (l .addresses) (l .dues)
+
 -- R2.4: the routers of a list are the first `count` of its places, all 16 if `count` is larger
 abbrev pub live : RouterList → List Router
-live l = take (l .count) (l .routers)
+live l = heldIn (l .addresses) (l .dues) (l .count)
 
 -- R5.12: a listed router is one whose address is in the list
 abbrev pub listed : ℕ → List Router → Bool
@@ -53,21 +67,25 @@ dueIf a d r = record { address = r .address; due = cond (eqb (r .address) a) d (
 abbrev pub rescheduled : ℕ → ℕ → List Router → List Router
 rescheduled a d rs = map (dueIf a d) rs
 
+-- R13.5: the row of due times once the due time of the router of address a is d
+abbrev pub duesAfter : ℕ → ℕ → List ℕ → List ℕ → List ℕ
+duesAfter a d addresses dues = map (λ r. r .due) (rescheduled a d (pairs addresses dues))
+
 -- R13.5: the due time becomes d at every place of a router list that has the address a, in force or behind the count
 abbrev pub rescheduledOf : ℕ → ℕ → RouterList → RouterList
-rescheduledOf a d l = record { routers = rescheduled a d (l .routers); count = l .count }
+rescheduledOf a d l = record { addresses = l .addresses; dues = duesAfter a d (l .addresses) (l .dues); count = l .count }
 
 -- R2.13: a router in both lists keeps its due time, a new one is due now
-abbrev pub kept : ℕ → List Router → ℕ → Router
-kept now old a = record { address = a; due = dueOr now a old }
+abbrev pub kept : ℕ → List Router → ℕ → ℕ
+kept now old a = dueOr now a old
 
 -- R2.13: the router list replaced, with a time; a count above 16 is read as 16, here as everywhere
 abbrev pub replacedOf : List ℕ → ℕ → ℕ → RouterList → RouterList
-replacedOf addresses n now l = record { routers = map (kept now (live l)) addresses; count = n }
+replacedOf addresses n now l = record { addresses = addresses; dues = map (kept now (live l)) addresses; count = n }
 
 -- R2.12: at setup all are due at time 0
 abbrev pub newOf : List ℕ → ℕ → RouterList
-newOf addresses n = record { routers = map (λ a. record { address = a; due = 0 }) addresses; count = n }
+newOf addresses n = record { addresses = addresses; dues = map (λ a. 0) addresses; count = n }
 
 -- the address is among the addresses
 abbrev pub among : ℕ → List ℕ → Bool

@@ -1,23 +1,26 @@
 // The router list: which addresses are listed, which router is asked next, and when each is due again.
-// Every list is taken: what counts are the first `count` of its 16 places.
+// Every list is taken: what counts are the first `count` of its 16 places. A search runs over lent rows; a list by value lends its own.
 ghost use mathlib.Core.Path.{_≡_};
-ghost use Prim.Native.Nat.{_≤_, min};
-ghost use lib.ListN.{length, take, drop};
-ghost use Rattle.routers.specs.Routers.{places, live, listed, earlierOf, ifDue, nextOf, dueOr, dueIf, rescheduledOf, replacedOf, newOf, among, areDistinct};
+ghost use Prim.Native.Nat.{min};
+ghost use mathlib.Core.Bool.{cond};
+ghost use lib.Dec.{eqb};
+ghost use lib.ListN.{take, drop};
+ghost use Rattle.routers.specs.Routers.{places, heldIn, live, listed, earlierOf, ifDue, nextOf, dueOr, duesAfter, rescheduledOf, replacedOf, newOf, among, areDistinct};
 
 // How many routers a list has room for.
 pub const PLACES: usize = 16;
 
 // A router and its due time: an exact second, which may lie past the last one of 32 bits.
-#[repr(C)]
 pub struct Router {
     pub address: u32,
     pub due: u64,
 }
 
+// Place by place the address of a router and its due time.
 #[repr(C)]
 pub struct RouterList {
-    pub routers: [Router; PLACES],
+    pub addresses: [u32; PLACES],
+    pub dues: [u64; PLACES],
     pub count: usize,
 }
 
@@ -38,20 +41,6 @@ impl Router {
             Next::NoneDue
         }
     }
-
-    // This router, due at `due` if it has that address, else as it is.
-    fn rescheduled(self, address: u32, due: u64) -> Self
-        ensures { λ r. ⌜ r ≡ dueIf address due self ⌝ }
-    {
-        if self.address == address {
-            Router {
-                address: self.address,
-                due,
-            }
-        } else {
-            self
-        }
-    }
 }
 
 // Of two routers the one that is due earlier, the first on a tie.
@@ -65,11 +54,89 @@ fn earlier_of_two(first: Router, second: Router) -> Router
     }
 }
 
-// How many of `count` have a place.
-fn in_places(count: usize) -> usize
-    ensures { λ r. ⌜ r ≡ min count places ⌝ }
+// Whether an address is among the first `count`.
+pub fn lists_among(addresses: &[u32], count: usize, address: u32) -> bool
+    ensures { λ r. ⌜ r ≡ among address (take count (now (addresses .entry))) ⌝ }
 {
-    if count < PLACES { count } else { PLACES }
+    let n = lists::least(count, addresses.len());
+    let mut i = 0;
+    while i < n {
+        if addresses[i] == address {
+            return true;
+        }
+        i += 1;
+    }
+    false
+}
+
+// Of the routers of the first `count` places the one with the earliest due time that is not in the future, lowest place on a tie.
+pub fn next_among<'a>(addresses: &'a [u32], dues: &'a [u64], count: usize, time: u32) -> Next
+    ensures { λ r. ⌜ r ≡ nextOf time (heldIn (now (addresses .entry)) (now (dues .entry)) count) ⌝ }
+{
+    let n = lists::least(count, lists::least(addresses.len(), dues.len()));
+    if n == 0 {
+        return Next::NoneDue;
+    }
+    let mut best = Router {
+        address: addresses[0],
+        due: dues[0],
+    };
+    let mut i = 1;
+    while i < n {
+        let router = Router {
+            address: addresses[i],
+            due: dues[i],
+        };
+        best = earlier_of_two(best, router);
+        i += 1;
+    }
+    best.if_due(time)
+}
+
+// Of the routers of the first `count` places the due time of the one of that address, and `other` if there is none.
+fn due_among<'a>(
+    addresses: &'a [u32],
+    dues: &'a [u64],
+    count: usize,
+    address: u32,
+    other: u64,
+) -> u64
+    ensures { λ r. ⌜ r ≡ dueOr other address (heldIn (now (addresses .entry)) (now (dues .entry)) count) ⌝ }
+{
+    let n = lists::least(count, lists::least(addresses.len(), dues.len()));
+    let mut i = 0;
+    while i < n {
+        if addresses[i] == address {
+            return dues[i];
+        }
+        i += 1;
+    }
+    other
+}
+
+// A due time where the addresses are the same, else another.
+fn due_if(same: bool, due: u64, other: u64) -> u64
+    ensures { λ r. ⌜ r ≡ cond same due other ⌝ }
+{
+    if same { due } else { other }
+}
+
+// The due times once the router of that address is due at `due`.
+fn dues_after(
+    addresses: [u32; PLACES],
+    mut dues: [u64; PLACES],
+    address: u32,
+    due: u64,
+) -> [u64; PLACES]
+    ensures { λ r. ⌜ r ≡ duesAfter address due addresses dues ⌝ }
+{
+    let old = dues;
+    let mut i = 0;
+    while i < PLACES {
+        dues[i] = due_if(addresses[i] == address, due, old[i]);
+        i += 1;
+    }
+    dues
 }
 
 impl RouterList {
@@ -77,76 +144,38 @@ impl RouterList {
     pub fn new(addresses: [u32; PLACES], count: usize) -> Self
         ensures { λ r. ⌜ r ≡ newOf addresses count ⌝ }
     {
-        let routers = [Router { address: 0, due: 0 }; PLACES];
-        let empty = RouterList { routers, count: 0 };
-        empty.replaced(addresses, count, 0)
-    }
-
-    // How many routers are in the list.
-    fn size(self) -> usize
-        ensures { λ r. ⌜ (r ≡ length (live self)) × (r ≤ places) ⌝ }
-    {
-        let count = self.count;
-        in_places(count)
+        RouterList {
+            addresses,
+            dues: [0; PLACES],
+            count,
+        }
     }
 
     // Whether a router of that address is in the list.
     pub fn lists(self, address: u32) -> bool
         ensures { λ r. ⌜ r ≡ listed address (live self) ⌝ }
     {
-        let n = self.size();
-        let mut i = 0;
-        while i < n {
-            if self.routers[i].address == address {
-                return true;
-            }
-            i += 1;
-        }
-        false
+        let addresses = self.addresses;
+        lists_among(&addresses, self.count, address)
     }
 
     // The router with the earliest due time that is not in the future, lowest place on a tie.
     pub fn next(self, now: u32) -> Next
         ensures { λ r. ⌜ r ≡ nextOf now (live self) ⌝ }
     {
-        let n = self.size();
-        if n == 0 {
-            return Next::NoneDue;
-        }
-        let mut best = self.routers[0];
-        let mut i = 1;
-        while i < n {
-            best = earlier_of_two(best, self.routers[i]);
-            i += 1;
-        }
-        best.if_due(now)
-    }
-
-    // The due time of the router of that address, and `other` if it is not listed.
-    fn due_or(self, address: u32, other: u64) -> u64
-        ensures { λ r. ⌜ r ≡ dueOr other address (live self) ⌝ }
-    {
-        let n = self.size();
-        let mut i = 0;
-        while i < n {
-            if self.routers[i].address == address {
-                return self.routers[i].due;
-            }
-            i += 1;
-        }
-        other
+        let addresses = self.addresses;
+        let dues = self.dues;
+        next_among(&addresses, &dues, self.count, now)
     }
 
     // The router of that address is due at `due`.
     pub fn rescheduled(mut self, address: u32, due: u64) -> Self
         ensures { λ r. ⌜ r ≡ rescheduledOf address due self ⌝ }
     {
-        let old = self;
-        let mut i = 0;
-        while i < PLACES {
-            self.routers[i] = old.routers[i].rescheduled(address, due);
-            i += 1;
-        }
+        let addresses = self.addresses;
+        let dues = self.dues;
+        let next = dues_after(addresses, dues, address, due);
+        self.dues = next;
         self
     }
 
@@ -154,14 +183,15 @@ impl RouterList {
     pub fn replaced(mut self, addresses: [u32; PLACES], count: usize, now: u32) -> Self
         ensures { λ r. ⌜ r ≡ replacedOf addresses count now self ⌝ }
     {
-        let old = self;
+        let old = self.addresses;
+        let dues = self.dues;
+        let old_count = self.count;
         let mut i = 0;
         while i < PLACES {
-            let address = addresses[i];
-            let due = old.due_or(address, now as u64);
-            self.routers[i] = Router { address, due };
+            self.dues[i] = due_among(&old, &dues, old_count, addresses[i], now as u64);
             i += 1;
         }
+        self.addresses = addresses;
         self.count = count;
         self
     }
@@ -171,7 +201,7 @@ impl RouterList {
 fn stands(addresses: [u32; PLACES], from: usize, count: usize, address: u32) -> bool
     ensures { λ r. ⌜ r ≡ among address (drop from (take count addresses)) ⌝ }
 {
-    let n = in_places(count);
+    let n = lists::least(count, PLACES);
     let mut found = false;
     let mut i = from;
     while i < n {
@@ -185,7 +215,7 @@ fn stands(addresses: [u32; PLACES], from: usize, count: usize, address: u32) -> 
 pub fn distinct(addresses: [u32; PLACES], count: usize) -> bool
     ensures { λ r. ⌜ r ≡ areDistinct (take count addresses) ⌝ }
 {
-    let n = in_places(count);
+    let n = lists::least(count, PLACES);
     let mut all = true;
     let mut i = 0;
     while i < n {

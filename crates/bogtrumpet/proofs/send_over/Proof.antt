@@ -24,7 +24,7 @@ use Rattle.bogtrumpet.proofs.answers.Sent as R
 use Rattle.bogtrumpet.proofs.answers.Sent.Laws as R′
 use Rattle.bogtrumpet.proofs.steps.SentStep as Z
 use Rattle.bogtrumpet.proofs.steps.SentStep.Laws as Z′
-use Rattle.bogtrumpet.proofs.CallNamedOut.{called-named}
+use Rattle.bogtrumpet.proofs.CallNamedOut.{beside-output, called-named}
 use Rattle.bogtrumpet.proofs.Passed.{a-struct, number, lent, struct}
 use Rattle.bogtrumpet.proofs.Stores.{identification, stores, Storing, stored-finish, stores-so}
 use Rattle.bogtrumpet.proofs.steps.sent as g
@@ -59,5 +59,5 @@ send-over-spec 𝓤 H 𝓜 𝓖 𝓡 =
     × (now (e .1 .1 .1 .1 .1 .1 .1 .0) ≡ sentThrough (isThere (now (a .0) .both) (a .1 .1 .0)) (serviceOf (now (a .0)) (nameOf (a .1 .1 .0))) (a .1 .0) (now (a .1 .1 .1 .0)) (bytesOf (a .1 .1 .1 .1 .0)) (a .1 .1 .1 .1 .1 .0) (now (a .1 .1 .1 .1 .1 .1 .1 .0))))
     (λ κs x. x .1 .0) tt (λ κs x. refl) (code.unfolded 𝓤 H 𝓜 𝓡) (λ z v is. LL.lawful Z.the-type Z′.the-laws 𝓤 H (𝓖 .A) (givenOf 𝓤 H 𝓜 𝓖) .typed z (v ∷ []) is .0)
     (cited 𝓤 H (tripleOf 𝓤 H (𝓖 .A) g.signature (g.spec 𝓤 H (𝓖 .A) (𝓜 .mem) (𝓡 .run))) 𝓜 𝓡 code.env #g g-def.routine code.calls-bogtrumpet·steps·sent (g-thm.met 𝓤 H 𝓜 𝓖 𝓡))
-    (λ κs n b t x z said. tt) (stores-so 𝓤 H (𝓖 .A) (givenOf 𝓤 H 𝓜 𝓖) (storing 𝓤 H (𝓖 .A) (givenOf 𝓤 H 𝓜 𝓖)) (Z.struct .name) (tables 𝓤 H 𝓜 𝓡 code.env .C))
+    (λ κs n b t x z said. tt) (stores-so 𝓤 H (𝓖 .A) (givenOf 𝓤 H 𝓜 𝓖) (storing 𝓤 H (𝓖 .A) (givenOf 𝓤 H 𝓜 𝓖)) (Z.struct .name) (tables 𝓤 H 𝓜 𝓡 code.env .C) beside-output)
     (λ κs a z r e said answered left-there written. (answered ∙ ap (λ (step : SentStep). step .answer) said, left-there ∙ ap (stored-finish 𝓤 H (𝓖 .A) (givenOf 𝓤 H 𝓜 𝓖) (storing 𝓤 H (𝓖 .A) (givenOf 𝓤 H 𝓜 𝓖)) .next (now (a .0)) (nameOf (a .1 .1 .0))) said, written))
