@@ -1,8 +1,9 @@
 -- A size report over a pointer is the node's: what it comes to over lent rows, and the path table that is left row by row. Assumes nothing.
+--     Full             all places of the table's rows are there.        tableLeft    the path table that is left
 --     look-same        the answer and the node of Node::report
 use mathlib.Core.Path.{_≡_, refl, ap, _∙_}
 use Prim.Native.Nat.{ℕ, max, _<_}
-use mathlib.Core.Bool.{Bool, true, false, cond, _&&_}
+use mathlib.Core.Bool.{Bool, true, false, cond}
 use mathlib.Core.List.{List}
 use lib.Dec.{ltb}
 use lib.ListN.{length}
@@ -10,7 +11,7 @@ use native.Mathlib.Omega.{arith}
 use Rattle.header.specs.Outer.{outerOf, quoteOf}
 use Rattle.paths.specs.Candidate.{isBelow}
 use Rattle.paths.specs.Kept.{mostNeighbours, inForce}
-use Rattle.paths.specs.Look.{lastRow, rowFor, lookAmong}
+use Rattle.paths.specs.Look.{rowFor, lookAmong, pushedIn}
 use Rattle.paths.specs.Table.{keptIn, tableAfter}
 use Rattle.paths.specs.declared.Look.{Look}
 use Rattle.paths.specs.declared.PathTable.{PathTable}
@@ -29,13 +30,22 @@ use Rattle.node.specs.Report.{quotesOther, reportedTo, pathsAfter, reportAnswer
 use Rattle.node.specs.declared.Node.{Node}
 use Rattle.node.specs.declared.ServiceName.the-variants.{First, Second}
 use Rattle.bogtrumpet.specs.Answers.{plainReported}
-use Rattle.bogtrumpet.specs.Reporting.{refusedLook, acceptedLook, lookedBelow, lookedOver, lookedAmong, lookedIn, tableLeft}
+use Rattle.bogtrumpet.specs.Reporting.{refusedLook, acceptedLook, lookedBelow, lookedOver, lookedAmong, lookedIn}
 use Rattle.bogtrumpet.specs.declared.reporting.ReportLook.{ReportLook}
 use Rattle.bogtrumpet.proofs.Changed.{at-time, with-paths}
 
 -- all of its rows have 64 places
 abbrev pub Full : PathTable → Type 0
 Full t = (length (t .neighbours) ≡ mostNeighbours) × (length (t .sizes) ≡ mostNeighbours) × (length (t .times) ≡ mostNeighbours)
+
+-- the path table that is left: of an accepted report, row by row
+abbrev pub tableLeft : PathTable → ReportLook → PathTable
+tableLeft t look = cond (look .accepted) (record {
+  neighbours = pushedIn (look .answer .neighbour) (look .row) (t .neighbours);
+  sizes = pushedIn (look .answer .size) (look .row) (t .sizes);
+  times = pushedIn (look .latest) (look .row) (t .times);
+  count = look .count;
+}) t
 
 -- a look is the step with that answer, at that time
 abbrev Same : PathTable → ReportLook → ReportAnswer → ℕ → Type 0

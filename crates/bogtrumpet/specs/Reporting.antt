@@ -1,10 +1,10 @@
--- What a size report that was read comes to over a pointer: the plain answer, and what is changed of the node.
+-- What a size report that was read comes to over a pointer: the plain answer, and what is changed of the node. Only functions of the crate's own cite this.
 use Prim.Native.Nat.{ℕ, max}
 use mathlib.Core.Bool.{true, false, cond}
 use mathlib.Core.List.{List}
 use lib.Dec.{ltb}
 use Rattle.paths.specs.Candidate.{isBelow}
-use Rattle.paths.specs.Look.{lookAmong, pushedIn}
+use Rattle.paths.specs.Look.{lookAmong}
 use Rattle.paths.specs.declared.Look.{Look}
 use Rattle.paths.specs.declared.PathTable.{PathTable}
 use Rattle.refusals.specs.declared.Refusal.{Refusal}
@@ -45,12 +45,3 @@ abbrev pub lookedIn : Node → Reading → ℕ → ReportLook
 lookedIn h reading time =
     let t : PathTable = h .paths in
     lookedAmong (h .first .settings) (h .second .settings) (h .both) (t .neighbours) (t .sizes) (t .times) (t .count) (h .latest) reading time
-
--- the path table that is left: of an accepted report, row by row
-abbrev pub tableLeft : PathTable → ReportLook → PathTable
-tableLeft t look = cond (look .accepted) (record {
-  neighbours = pushedIn (look .answer .neighbour) (look .row) (t .neighbours);
-  sizes = pushedIn (look .answer .size) (look .row) (t .sizes);
-  times = pushedIn (look .latest) (look .row) (t .times);
-  count = look .count;
-}) t

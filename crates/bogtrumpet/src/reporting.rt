@@ -14,7 +14,7 @@ ghost use Rattle.bogtrumpet.specs.Reporting.{refusedLook, acceptedLook, 
 
 // The answer. Of the node a report that is accepted changes the rows of the path table up to that one, how many are in use, and the latest time; any
 // other changes the latest time alone.
-pub struct ReportLook {
+pub(crate) struct ReportLook {
     pub answer: Reported,
     pub row: usize,
     pub count: usize,
@@ -60,7 +60,7 @@ fn below(neighbour: u32, size: u16, look: Look, latest: u32) -> ReportLook
 }
 
 // At the later of the latest time and this one.
-pub fn looked<'a>(
+pub(crate) fn looked<'a>(
     first: Settings,
     second: Settings,
     both: u8,

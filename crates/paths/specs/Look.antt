@@ -1,4 +1,4 @@
--- What lent rows say of a neighbour: the table after an accepted report of it, row by row. Only functions of the crate's own and the boundary cite this.
+-- What lent rows say of a neighbour, and a row with one more number in front. No contract of node, boundary or program rests on this.
 use Prim.Native.Nat.{ℕ, suc, _-_, min, max}
 use mathlib.Core.Bool.{cond}
 use mathlib.Core.List.{List}

@@ -1,4 +1,4 @@
--- A size report read before any settings are, and judged by the settings of two services. It is that of `Report`, which laws in `proofs/` show; only functions cite this.
+-- A size report read before any settings are, and judged by the settings of two services: it is judged as `Report` says, by laws in proofs/. No contract of node, boundary or program rests on this.
 use Prim.Native.Nat.{ℕ}
 use mathlib.Core.Bool.{Bool, true, false, cond, not, _||_, _&&_}
 use mathlib.Core.List.{List, [], _∷_}
