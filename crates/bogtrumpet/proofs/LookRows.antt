@@ -74,7 +74,7 @@ module _ (h : Node) (is : Fits h) where
       let service = LL.owed S.the-type S′.the-laws (serviceOf h w) (LL.vals S.the-type S′.the-laws (serviceOf h w)) (service-is h w is) in
       LL.owed C.the-type C′.the-laws (serviceOf h w .settings) (LL.vals C.the-type C′.the-laws (serviceOf h w .settings)) (service .0) .1 .1 .1 .1 .1 .1 .0 .1
 
-  count-fits : h .paths .count < 2 ^ 64
+  pub count-fits : h .paths .count < 2 ^ 64
   count-fits =
       let node = LL.owed T.the-type T′.the-laws h (mach h ∷ []) is in
       LL.owed P.the-type P′.the-laws (h .paths) (LL.vals P.the-type P′.the-laws (h .paths)) (node .1 .1 .0) .1 .1 .1 .0 .1

@@ -3,7 +3,6 @@
 --     size-is, size-now, size-toward     a size over the table's rows is the node's
 --     gathered-same, absent-same     what receiving gathers changes one place, or none.        received-same     with the latest time it is the node's
 --     sent-same        a sending over a path of the size toward the tunnel end is the node's
---     reported-same    a size report changes the path table and the latest time alone
 --     asked-same, heard-same, replaced-same     these change the router list of their service and the latest time alone.        advertised-same     advertising
 --     plain-asked-list, plain-heard-list     what a step says of the router list is what the answer leaves
 use mathlib.Core.Path.{_≡_, refl, ap, _∙_}
@@ -44,7 +43,6 @@ use Rattle.node.specs.Advertise.{advertisedBy, advertisedThrough, advertiseOf, 
 use Rattle.node.specs.Ask.{askedBy, askedThrough, askOf, askOutput}
 use Rattle.node.specs.Hear.{heardBy, hearOf}
 use Rattle.node.specs.Receive.{withPieces, collectedBy, collectedThrough, receiveOf, receiveMemory}
-use Rattle.node.specs.Report.{reportOf}
 use Rattle.node.specs.RouterList.{withRouters, listGiven, replaceOf}
 use Rattle.node.specs.declared.router_list.ListAnswer.the-variants as replaced
 use Rattle.node.specs.declared.size.SizeAnswer.the-variants as sized
@@ -64,7 +62,7 @@ use Rattle.bogtrumpet.specs.declared.steps.GatheredStep.{GatheredStep}
 use Rattle.bogtrumpet.specs.declared.steps.HeardStep.{HeardStep}
 use Rattle.bogtrumpet.specs.declared.steps.ReplacedStep.{ReplacedStep}
 use Rattle.bogtrumpet.specs.declared.steps.SentStep.{SentStep}
-use Rattle.bogtrumpet.proofs.Changed.{at-time, with-paths, with-service}
+use Rattle.bogtrumpet.proofs.Changed.{at-time, with-service}
 
 -- a call on the service of a number, as what it is for the first, for the second, and for no service
 by-number : {A : Type 0} (f : Bool → ServiceName → A) (call : ServiceName → A) (none : A) (both k : ℕ) → f true First ≡ call First → f (ltb 0 both) Second ≡ call Second → f false Second ≡ none
@@ -184,10 +182,6 @@ module _ (h : Node) (k : ℕ) (d : List ℕ) (i t : ℕ) (memory : List ℕ) whe
       × (nodeWith h (nameOf k) (gatheredAfter service z) t ≡ byNumber k (λ w. receiveOf h w d i t memory .node) (raisedTo h t))
       × (collectedThrough there service now d i memory ≡ byNumber k (λ w. receiveMemory h w d i t memory) memory)
   received-same z told = (told .answer ∙ as-numbered .0, ap (λ (s : Service). nodeWith h (nameOf k) s t) (told .next) ∙ as-numbered .1, as-numbered .2)
-
-pub reported-same : (h : Node) (m : List ℕ) (t : ℕ) → at-time (with-paths h (reportOf h m t .node .paths)) (reportOf h m t .node .latest) ≡ reportOf h m t .node
-unfolding reportOf
-reported-same h m t = refl
 
 -- the node whose service has that router list, at that time
 abbrev pub routed : Node → ServiceName → RouterList → ℕ → Node

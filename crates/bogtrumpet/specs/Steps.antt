@@ -13,15 +13,13 @@ use Rattle.node.specs.RouterList.{listGiven, replacedBy}
 use Rattle.node.specs.declared.Node.{Node}
 use Rattle.node.specs.declared.Service.{Service}
 use Rattle.node.specs.declared.Setup.{Setup}
-use Rattle.node.specs.declared.report.Reported.{Reported}
 use Rattle.node.specs.declared.size.SizeAnswer.the-variants.{Size, Refused}
 use Rattle.refusals.specs.declared.Refusal.the-variants.{NoLocator}
-use Rattle.bogtrumpet.specs.Answers.{plainSized, plainSent, plainReported, plainAsked, plainHeard}
+use Rattle.bogtrumpet.specs.Answers.{plainSized, plainSent, plainAsked, plainHeard}
 use Rattle.bogtrumpet.specs.Numbered.{isThere, nameOf}
 use Rattle.bogtrumpet.specs.declared.answers.Sized.{Sized}
 use Rattle.bogtrumpet.specs.declared.steps.MadeStep.{MadeStep}
 use Rattle.bogtrumpet.specs.declared.steps.SentStep.{SentStep}
-use Rattle.bogtrumpet.specs.declared.steps.ReportedStep.{ReportedStep}
 use Rattle.bogtrumpet.specs.declared.steps.ReplacedStep.{ReplacedStep}
 use Rattle.bogtrumpet.specs.declared.steps.AskedStep.{AskedStep}
 use Rattle.bogtrumpet.specs.declared.steps.HeardStep.{HeardStep}
@@ -46,10 +44,6 @@ sentAfter node s size packet hop k time room =
 -- of the question for a size, which is that one where the service is there
 unfoldable pub sizedStep : ℕ → ℕ → ℕ → Sized
 sizedStep both k size = plainSized (cond (isThere both k) (Size size) (Refused NoLocator))
-
--- of a size report: the plain answer, and the path table and the latest time of the next node
-unfoldable pub reportedStep : Reported → ReportedStep
-reportedStep s = record { answer = plainReported (s .answer); paths = s .node .paths; latest = s .node .latest }
 
 -- of a new router list: 11, 1 or 0, the router list in force afterwards, and the later time
 unfoldable pub replacedStep : Bool → Service → ℕ → List ℕ → ℕ → ℕ → ReplacedStep

@@ -1,10 +1,11 @@
 // The node for C and Rust: its calls under C names over a pointer to the node, which is changed in place. A `&[u8]` is a pointer and
 // a length in C, and so is a `&mut [u8]`. A service is named by its number, 0 or 1; any other number gives 11, as a service does that the
 // node has not. A call that names one takes it by reference, so that neither is copied to be chosen, and hands it by value to a function of
-// `steps`; the others hand over the node. What such a function answers of the node is stored.
+// `steps`; a setup hands over the node. What such a function answers of the node is stored. A size report is looked up over lent rows.
 pub mod answers;
 mod numbered;
 pub mod plain;
+mod reporting;
 mod sizes;
 pub mod steps;
 
@@ -16,7 +17,11 @@ use answers::Reported;
 use answers::Sent;
 use answers::Sized;
 use node::Node;
+use paths::rows;
 use plain::Advertisement;
+use reporting::ReportLook;
+use reports::reading;
+use reports::reading::Reading;
 use settings::Settings;
 ghost use mathlib.Core.Path.{_≡_};
 ghost use lib.ListN.{length};
@@ -40,6 +45,7 @@ ghost use Rattle.node.specs.declared.size.SizeAnswer.the-variants as sized;
 ghost use Rattle.bogtrumpet.specs.Answers.{defaultsOf, plainReceived, plainSized, plainSent, plainReported, plainAsked, plainHeard, plainAdvertised};
 ghost use Rattle.bogtrumpet.specs.Numbered.{byNumber, nameOf, isThere};
 ghost use Rattle.bogtrumpet.specs.Plain.{bytesOf, advertisementFrom};
+ghost use Rattle.bogtrumpet.specs.Reporting.{lookedIn};
 ghost use Rattle.bogtrumpet.specs.Steps.{sentStep, sentAfter};
 
 // An IPv6 address. It is handed over in memory; in fields of four bytes it is read by four bytes, and not by one.
@@ -239,16 +245,41 @@ pub extern "C" fn bogtrumpet_send(
     send_over(node, size, service, packet, next_hop, locator, time, out)
 }
 
-// Takes a size report: Node::report.
+// What a size report that was read comes to: its answer, and what an accepted one changes. The rows of the path table are lent to the search.
+fn report_look(node: &Node, reading: Reading, time: u32) -> ReportLook
+    ensures { λ r. ⌜ r ≡ lookedIn (now (node .entry)) reading time ⌝ }
+{
+    reporting::looked(
+        node.first.settings,
+        node.second.settings,
+        node.both,
+        &node.paths.neighbours,
+        &node.paths.sizes,
+        &node.paths.times,
+        node.paths.count,
+        node.latest,
+        reading,
+        time,
+    )
+}
+
+// Takes a size report: Node::report. It is read before the node is, and looked up over lent rows. Of the node the latest time is written, and
+// where the report is accepted the rows of the path table, each in place.
 #[no_mangle]
 pub extern "C" fn bogtrumpet_report(node: &mut Node, message: &[u8], time: u32) -> Reported
     ensures { λ r. ⌜ (r ≡ plainReported (reportOf (now (node .entry)) (now (message .entry)) time .answer))
         × (now (node .exit) ≡ reportOf (now (node .entry)) (now (message .entry)) time .node) ⌝ }
 {
-    let step = steps::reported(*node, message, time);
-    node.paths = step.paths;
-    node.latest = step.latest;
-    step.answer
+    let reading = reading::read(message);
+    let look = report_look(node, reading, time);
+    if look.accepted {
+        rows::push_number(&mut node.paths.neighbours, look.answer.neighbour, look.row);
+        rows::push_size(&mut node.paths.sizes, look.answer.size, look.row);
+        rows::push_number(&mut node.paths.times, look.latest, look.row);
+        node.paths.count = look.count;
+    }
+    node.latest = look.latest;
+    look.answer
 }
 
 // Takes a new router list of a service: Node::replace_routers. The answer is the number.

@@ -6,7 +6,6 @@ use super::answers::Advertised;
 use super::answers::Asked;
 use super::answers::Heard;
 use super::answers::Received;
-use super::answers::Reported;
 use super::answers::Sent;
 use super::numbered;
 use super::plain;
@@ -18,7 +17,6 @@ use node::ask;
 use node::hear;
 use node::router_list;
 use node::send;
-use paths::PathTable;
 use pieces::Place;
 use receiving::collect;
 use receiving::judging;
@@ -33,14 +31,13 @@ ghost use Rattle.node.specs.Advertise.{advertisedBy, advertisedThrough};
 ghost use Rattle.node.specs.Ask.{askedThrough};
 ghost use Rattle.node.specs.Node.{setupOf, setupPairOf};
 ghost use Rattle.node.specs.Receive.{collectedThrough};
-ghost use Rattle.node.specs.Report.{reportOf};
 ghost use Rattle.node.specs.Send.{sentThrough};
 ghost use Rattle.routers.specs.Routers.{rescheduledOf};
 ghost use Rattle.bogtrumpet.specs.Answers.{plainAdvertised};
 ghost use Rattle.bogtrumpet.specs.Gathered.{GatheredAs, judgedStep};
 ghost use Rattle.bogtrumpet.specs.Numbered.{isThere};
 ghost use Rattle.bogtrumpet.specs.Plain.{bytesOf, advertisementFrom};
-ghost use Rattle.bogtrumpet.specs.Steps.{madeStep, sentStep, reportedStep, replacedStep, AskedAs, HeardAs};
+ghost use Rattle.bogtrumpet.specs.Steps.{madeStep, sentStep, replacedStep, AskedAs, HeardAs};
 
 // A number, and the node that is made.
 pub struct MadeStep {
@@ -63,13 +60,6 @@ pub(crate) struct GatheredStep {
     pub at: usize,
     pub latest: u32,
     pub piece: bool,
-}
-
-// Of the node a size report changes the path table and the latest time alone.
-pub struct ReportedStep {
-    pub answer: Reported,
-    pub paths: PathTable,
-    pub latest: u32,
 }
 
 // Of the node a new router list changes the router list of its service and the latest time alone.
@@ -196,22 +186,6 @@ pub fn sent(
         answer,
         identification: sent.identification,
         latest: node::later(latest, time),
-    }
-}
-
-// A size report: node::Node::reported_by.
-pub fn reported(n: Node, message: &[u8], time: u32) -> ReportedStep
-    ensures { λ r. ⌜ r ≡ reportedStep (reportOf n (now (message .entry)) time) ⌝ }
-{
-    let latest = node::later(n.latest, time);
-    let reported = n.reported_by(message, latest);
-    let given = reported.answer;
-    let paths = reported.paths;
-    let answer = answers::plain_reported(given);
-    ReportedStep {
-        answer,
-        paths,
-        latest,
     }
 }
 

@@ -1,18 +1,21 @@
 -- The table's three arrays against its reports: what the code reads of the arrays is so of the reports.
 use mathlib.Core.Path.{_≡_, refl, sym, ap, _∙_}
 use mathlib.Core.Logic.{⊎-elim}
-use mathlib.Core.Bool.{cond}
+use mathlib.Core.Bool.{Bool, true, false, cond}
 use mathlib.Core.List.{List, [], _∷_}
 use mathlib.Core.Option.{Option, none, some}
-use Prim.Native.Nat.{ℕ, zero, suc, _-_, min, max}
+use Prim.Native.Nat.{ℕ, zero, suc, _-_, _<_, min, max}
 use native.Mathlib.Omega.{arith}
 use native.Mathlib.Nat.{zero-min}
 use borrow.Author.Tests.{lt-ltb}
 use lib.Dec.{ltb, eqb, leb·suc-suc}
 use lib.ListN.{length, take, getD, length-take}
-use Rattle.paths.specs.Kept.{Report, mostNeighbours, lastOf, keptFrom, whileYoung}
+use Rattle.paths.specs.Kept.{Report, mostNeighbours, lastOf, keptFrom, whileYoung, inForce}
+use Rattle.paths.specs.Look.{lastRow, rowFor, lookAmong, pushedIn}
 use Rattle.paths.specs.Table.{rows, heldIn, rowOf, rowIn, pushed, keptAmong, keptIn, tableAfter}
 use Rattle.paths.specs.declared.PathTable.{PathTable}
+use Rattle.paths.specs.declared.Look.{Look}
+use Rattle.paths.specs.declared.Kept.{Kept}
 use Rattle.paths.specs.declared.Kept.the-variants.{Nothing}
 use Rattle.paths.proofs.Reports.{tested, keptFrom-cond}
 
@@ -45,6 +48,16 @@ rows-length (v ∷ vs) [] ts = omega arith
 rows-length (v ∷ vs) (s ∷ ss) [] = omega arith
 rows-length (v ∷ vs) (s ∷ ss) (t ∷ ts) = omega (arith, rows-length vs ss ts)
 
+-- at a place that there is
+pub pushed-there : (x p : ℕ) (xs : List ℕ) → p < length xs → pushedIn x p xs ≡ pushed x p xs
+pushed-there x p xs inside = rw (lt-ltb _ _ inside)
+
+-- where no report is kept the size in force is the link's
+in-force-cond : (t : Bool) (link : ℕ) (k : Kept) → inForce link (cond t k Nothing) ≡ cond t (inForce link k) link
+unfolding inForce
+in-force-cond true link k = refl
+in-force-cond false link k = refl
+
 -- what the code knows of three arrays: n places are in use, and p is the place of v among them
 pub record Scanned (vs ss ts : List ℕ) (count v n p : ℕ) : Type 0 where
   pub used : n ≡ min count (min (min (length vs) (length ss)) (length ts))
@@ -59,6 +72,20 @@ module _ {vs ss ts : List ℕ} {count v n p : ℕ} (c : Scanned vs ss ts count v
 
   pub kept-at : keptAmong vs ss ts count v now ≡ cond (ltb p n) (whileYoung (getD ss p 0) (getD ts p 0) now) Nothing
   kept-at = ap (λ (o : Option Report). keptFrom o now) (reads .1) ∙ keptFrom-cond (ltb p n) (some (rowAt vs ss ts p)) now
+
+  -- the size in force by the row that was found
+  pub size-at : (link : ℕ) → cond (ltb p n) (inForce link (whileYoung (getD ss p 0) (getD ts p 0) now)) link ≡ inForce link (keptAmong vs ss ts count v now)
+  unfolding inForce
+  size-at link = sym (ap (inForce link) kept-at ∙ in-force-cond (ltb p n) link (whileYoung (getD ss p 0) (getD ts p 0) now))
+
+  pub looked-at : (link r m i : ℕ) → i ≡ cond (ltb p n) (inForce link (whileYoung (getD ss p 0) (getD ts p 0) now)) link → r ≡ min p lastRow → m ≡ max n (suc r)
+      → _≡_ {A = Look} (record { «in_force» = i; row = r; count = m }) (lookAmong link vs ss ts count v now)
+  unfolding lookAmong
+  looked-at link r m i hi hr hm =
+      let s : i ≡ inForce link (keptAmong vs ss ts count v now) = hi ∙ size-at link in
+      let e : r ≡ rowFor vs ss ts count v = omega (arith, reads .0) in
+      let f : m ≡ max (length (heldIn vs ss ts count)) (suc r) = omega (arith, number) in
+      cc
 
   pub made : (size q m : ℕ) (ns cs ks : List ℕ) → q ≡ min p (mostNeighbours - 1) → m ≡ max n (suc q) → ns ≡ pushed v q vs → cs ≡ pushed size q ss → ks ≡ pushed now q ts
       → _≡_ {A = PathTable} (record { neighbours = ns; sizes = cs; times = ks; count = m }) (tableAfter (record { neighbours = vs; sizes = ss; times = ts; count = count }) v size now)

@@ -2,17 +2,17 @@
 use mathlib.Core.Path.{_≡_, refl, sym, ap, _∙_}
 use mathlib.Core.Bool.{Bool, true, false, _||_, or-assoc, or-false}
 use mathlib.Core.List.{List, [], _∷_, _++_}
-use Prim.Native.Nat.{ℕ, suc, _+_, _≤_, _<_}
+use Prim.Native.Nat.{ℕ, zero, suc, _+_, _-_, _≤_, _<_}
 use native.Mathlib.Numerals.{add-one, add-two, add-three}
 use native.Mathlib.Nat.{zero-add}
 use native.Mathlib.Omega.{arith}
 use borrow.Author.Tests.{eq-eqb, ne-eqb, lt-ltb, le-ltb}
 use lib.Dec.{eqb}
-use lib.ListN.{length, take, drop, getD, set, length-drop, take-append-drop, drop-of-length-le}
-use lib.Seq.{drop-cons, drop-drop, take-add, take-suc, set-at, getD-at, append-snoc, length-take-le}
+use lib.ListN.{length, take, drop, getD, set, length-append, length-drop, take-append-drop, drop-of-length-le, List·getD-append}
+use lib.Seq.{drop-cons, drop-drop, take-add, take-suc, set-at, drop-at, getD-take, append-snoc, length-take-le}
 use Rattle.lists.proofs.Tests.{or-left, or-right}
 use Rattle.paths.specs.Search.{half, together, isAmong}
-use Rattle.paths.specs.Table.{rowOf, pushed}
+use Rattle.paths.specs.Table.{rowOf, cut, pushed}
 use Rattle.paths.specs.Candidate.{firstBelow}
 use Rattle.paths.specs.declared.Candidate.the-variants.{Size}
 
@@ -80,35 +80,41 @@ module _ (n : ℕ) (xs : List ℕ) (i : ℕ) (inside : i < length xs) where
   pub below-miss : n ≤ getD xs i 0 → firstBelow n (drop i xs) ≡ firstBelow n (drop (i + 1) xs)
   below-miss h = rw (add-one i, drop-cons xs i 0 inside) (rw (le-ltb _ _ h))
 
--- ---- the shift: a row with its first i elements taken from x ∷ row
+-- ---- the shift: the elements before p move by one, the last of them first. Before the turn at i those from i on have moved
 
-abbrev shifted : ℕ → List ℕ → ℕ → List ℕ
-shifted x xs i = take i (x ∷ xs) ++ drop i xs
+abbrev pub moved : List ℕ → ℕ → ℕ → List ℕ
+moved xs p i = take (suc i) xs ++ drop i (cut p xs)
 
-module _ (x : ℕ) (xs : List ℕ) (i : ℕ) (inside : i < length xs) where
-  -- the next of x ∷ xs is stored at i
-  shift-more : set (shifted x xs i) i (getD (x ∷ xs) i 0) ≡ shifted x xs (i + 1)
-  shift-more =
-      rw (add-one i, drop-cons xs i 0 inside)
-      (set-at (take i (x ∷ xs)) (getD xs i 0) (drop (suc i) xs) (getD (x ∷ xs) i 0) i (length-take-le i (x ∷ xs) (omega arith))
-      ∙ sym (append-snoc (take i (x ∷ xs)) (getD (x ∷ xs) i 0) (drop (suc i) xs))
-      ∙ ap (λ (l : List ℕ). l ++ drop (suc i) xs) (sym (take-suc (x ∷ xs) i 0 (omega arith))))
+module _ (xs : List ℕ) (p : ℕ) (inside : p < length xs) where
+  -- at first none has
+  pub move-none : xs ≡ moved xs p p
+  move-none = sym (ap (λ (l : List ℕ). take (suc p) xs ++ l) (drop-at (take p xs) (drop (suc p) xs) p (length-take-le p xs (omega arith))) ∙ take-append-drop (suc p) xs)
 
-  -- what stood at i is the next to store
-  shift-next : getD (shifted x xs i) i 0 ≡ getD (x ∷ xs) (i + 1) 0
-  shift-next =
-      rw (add-one i, drop-cons xs i 0 inside)
-      (getD-at (take i (x ∷ xs)) (getD xs i 0) (drop (suc i) xs) 0 i (length-take-le i (x ∷ xs) (omega arith)))
+  module _ (j : ℕ) (before : j < p) where
+    -- the element that moves
+    mover : getD (moved xs p (suc j)) j 0 ≡ getD (cut p xs) j 0
+    mover =
+        let l : length (take (suc (suc j)) xs) ≡ suc (suc j) = length-take-le (suc (suc j)) xs (omega arith) in
+        let m : length (take p xs) ≡ p = length-take-le p xs (omega arith) in
+        List·getD-append (take (suc (suc j)) xs) (drop (suc j) (cut p xs)) 0 j (omega arith) ∙ getD-take (suc (suc j)) xs j 0 (omega arith)
+        ∙ sym (List·getD-append (take p xs) (drop (suc p) xs) 0 j (omega arith) ∙ getD-take p xs j 0 before)
 
--- before turn i of last + 1: the row so far, and what is stored next
-abbrev pub Shifting : ℕ → ℕ → List ℕ → List ℕ → ℕ → ℕ → Type 0
-Shifting x last xs row carried i = (i ≤ suc last) × (row ≡ shifted x xs i) × (carried ≡ getD (x ∷ xs) i 0)
+    moved-more : set (moved xs p (suc j)) (suc j) (getD (moved xs p (suc j)) j 0) ≡ moved xs p j
+    moved-more =
+        let m : length (take p xs) ≡ p = length-take-le p xs (omega arith) in
+        let rest : List ℕ = drop (suc j) (cut p xs) in
+        rw mover
+        (ap (λ (l : List ℕ). set (l ++ rest) (suc j) (getD (cut p xs) j 0)) (take-suc xs (suc j) 0 (omega arith))
+        ∙ ap (λ (l : List ℕ). set l (suc j) (getD (cut p xs) j 0)) (append-snoc (take (suc j) xs) (getD xs (suc j) 0) rest)
+        ∙ set-at (take (suc j) xs) (getD xs (suc j) 0) rest (getD (cut p xs) j 0) (suc j) (length-take-le (suc j) xs (omega arith))
+        ∙ ap (λ (l : List ℕ). take (suc j) xs ++ l) (sym (drop-cons (cut p xs) j 0 (omega (arith, length-append (take p xs) (drop (suc p) xs))))))
 
-module _ (x last : ℕ) (xs row : List ℕ) (carried i : ℕ) (h : Shifting x last xs row carried i) where
-  pub shift-turn : i ≤ last → last < length xs → Shifting x last xs (set row i carried) (getD row i 0) (i + 1)
-  shift-turn l m =
-      let inside : i < length xs = omega arith in
-      (omega arith, rw (h .1, h .2) (shift-more x xs i inside), rw (h .1) (shift-next x xs i inside))
+  pub move-turn : (i : ℕ) → 0 < i → i ≤ p → set (moved xs p i) i (getD (moved xs p i) (i - 1) 0) ≡ moved xs p (i - 1)
+  move-turn zero some l = absurd (omega arith)
+  move-turn (suc j) some l = let e : suc j - 1 ≡ j = omega arith in rw e (moved-more j (omega arith))
 
-  pub shift-end : last < i → row ≡ pushed x last xs
-  shift-end l = let e : i ≡ suc last = omega arith in h .1 ∙ ap (shifted x xs) e
+  -- at last all have, and the first place is free
+  pub move-all : (x i : ℕ) → i ≤ 0 → set (moved xs p i) 0 x ≡ pushed x p xs
+  move-all x i l =
+      let e : i ≡ 0 = omega arith in
+      rw e (ap (λ (front : List ℕ). set (front ++ cut p xs) 0 x) (take-suc xs 0 0 (omega arith)))

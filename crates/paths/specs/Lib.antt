@@ -7,3 +7,4 @@ pub mod Record
 pub mod Sender
 pub mod Largest
 pub mod Search
+pub mod Look

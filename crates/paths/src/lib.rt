@@ -1,19 +1,26 @@
 // The path sizes that a tunnel end keeps: at most 64 neighbours, the newest accepted report first.
 pub mod packets;
 pub mod reported;
-mod rows;
+pub mod rows;
 
 use rows::push_number;
 use rows::push_size;
 use rows::row_in_lent;
 use rows::row_of;
 ghost use mathlib.Core.Path.{_≡_};
-ghost use Prim.Native.Nat.{min, max};
+ghost use Prim.Native.Nat.{_≤_, min, max};
+ghost use mathlib.Core.Bool.{cond};
+ghost use lib.Dec.{ltb};
+ghost use lib.ListN.{length, getD};
 ghost use Rattle.paths.specs.Kept.{whileYoung, inForce};
+ghost use Rattle.paths.specs.Look.{lookAmong};
 ghost use Rattle.paths.specs.Table.{noReports, keptAmong, keptIn, tableAfter};
 
 // How many neighbours are kept.
 const NEIGHBOURS: usize = 64;
+
+// The row that makes room where no other does.
+const LAST_ROW: usize = NEIGHBOURS - 1;
 
 // For how many seconds a report is in force.
 const LIFETIME: u64 = 600;
@@ -32,6 +39,14 @@ pub struct PathTable {
 pub enum Kept {
     Size(u16),
     Nothing,
+}
+
+// What the rows of a table say of a neighbour: the size in force toward it; the row that makes room for an accepted report of it, and how many
+// rows are in use then.
+pub struct Look {
+    pub in_force: u16,
+    pub row: usize,
+    pub count: usize,
 }
 
 // The size that a report asks for, if it can be used.
@@ -72,16 +87,23 @@ impl PathTable {
     }
 
     // The table after an accepted report: that stands in front; the neighbour's old one, else the last of 64, makes room.
-    pub fn accepted(mut self, neighbour: u32, size: u16, now: u32) -> Self
+    pub fn accepted(self, neighbour: u32, size: u16, now: u32) -> Self
         ensures { λ r. ⌜ r ≡ tableAfter self neighbour size now ⌝ }
     {
-        let count = lists::least(self.count, NEIGHBOURS);
-        let last = lists::least(row_of(&self.neighbours, count, neighbour), NEIGHBOURS - 1);
-        push_number(&mut self.neighbours, neighbour, last);
-        push_size(&mut self.sizes, size, last);
-        push_number(&mut self.times, now, last);
-        self.count = most(count, last + 1);
-        self
+        let mut neighbours = self.neighbours;
+        let mut sizes = self.sizes;
+        let mut times = self.times;
+        let used = lists::least(self.count, NEIGHBOURS);
+        let last = lists::least(row_of(&neighbours, used, neighbour), LAST_ROW);
+        push_number(&mut neighbours, neighbour, last);
+        push_size(&mut sizes, size, last);
+        push_number(&mut times, now, last);
+        PathTable {
+            neighbours,
+            sizes,
+            times,
+            count: most(used, last + 1),
+        }
     }
 }
 
@@ -120,8 +142,47 @@ pub fn size_among<'a>(
     let rows = lists::least(lists::least(neighbours.len(), sizes.len()), times.len());
     let used = lists::least(count, rows);
     let p = row_in_lent(neighbours, used, neighbour);
-    if p < used {
-        in_force(link, while_young(sizes[p], times[p], time))
+    size_at(link, sizes, times, used, p, time)
+}
+
+// What lent rows say of a neighbour at a time: one search is for the size in force and for the row that makes room.
+pub fn look_among<'a>(
+    link: u16,
+    neighbours: &'a [u32],
+    sizes: &'a [u16],
+    times: &'a [u32],
+    count: usize,
+    neighbour: u32,
+    time: u32,
+) -> Look
+    ensures { λ r. ⌜ r ≡ lookAmong link (now (neighbours .entry)) (now (sizes .entry)) (now (times .entry)) count neighbour time ⌝ }
+{
+    let rows = lists::least(lists::least(neighbours.len(), sizes.len()), times.len());
+    let used = lists::least(count, rows);
+    let p = row_in_lent(neighbours, used, neighbour);
+    let in_force = size_at(link, sizes, times, used, p, time);
+    let row = lists::least(p, LAST_ROW);
+    Look {
+        in_force,
+        row,
+        count: most(used, row + 1),
+    }
+}
+
+// The size in force over a link by the report of a row, where that is one of the `used` rows.
+fn size_at<'a>(
+    link: u16,
+    sizes: &'a [u16],
+    times: &'a [u32],
+    used: usize,
+    row: usize,
+    time: u32,
+) -> u16
+    requires { ⌜ (used ≤ length (now sizes)) × (used ≤ length (now times)) ⌝ }
+    ensures { λ r. ⌜ r ≡ cond (ltb row used) (inForce link (whileYoung (getD (now (sizes .entry)) row 0) (getD (now (times .entry)) row 0) time)) link ⌝ }
+{
+    if row < used {
+        in_force(link, while_young(sizes[row], times[row], time))
     } else {
         link
     }

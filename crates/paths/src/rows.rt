@@ -1,11 +1,10 @@
 // A row of the table: the search for a number, and the shift that makes room for one in front.
-use crate::NEIGHBOURS;
 ghost use mathlib.Core.Path.{_≡_};
-ghost use Prim.Native.Nat.{_<_, _≤_, _+_};
+ghost use Prim.Native.Nat.{_≤_, _+_};
 ghost use lib.ListN.{length, take, drop};
-ghost use Rattle.paths.specs.Kept.{mostNeighbours};
 ghost use Rattle.paths.specs.Search.{half, together, isAmong, Passed};
-ghost use Rattle.paths.specs.Table.{rowOf, pushed};
+ghost use Rattle.paths.specs.Look.{pushedIn};
+ghost use Rattle.paths.specs.Table.{rowOf};
 
 // How many numbers are compared at once.
 const TOGETHER: usize = 8;
@@ -75,32 +74,31 @@ pub(crate) fn row_in_lent(neighbours: &[u32], count: usize, neighbour: u32) -> u
     row_from(used, eights_before(used, neighbour), neighbour)
 }
 
-// A row of numbers with one more in front, and the one at `last` gone.
-pub(crate) fn push_number(row: &mut [u32; NEIGHBOURS], first: u32, last: usize)
-    requires { ⌜ (last < mostNeighbours) × (length (now row) ≡ mostNeighbours) ⌝ }
-    ensures { λ _. ⌜ now (row .exit) ≡ pushed first last (now (row .entry)) ⌝ }
+// A row of numbers with one more in front, and the one at `last` gone, where there is one. Those before it move by one, the last of them
+// first: the compiler makes one move of the loop.
+pub fn push_number(row: &mut [u32], first: u32, last: usize)
+    ensures { λ _. ⌜ now (row .exit) ≡ pushedIn first last (now (row .entry)) ⌝ }
 {
-    let mut carried = first;
-    let mut i: usize = 0;
-    while i <= last {
-        let next = row[i];
-        row[i] = carried;
-        carried = next;
-        i = i + 1;
+    if last < row.len() {
+        let mut i = last;
+        while 0 < i {
+            row[i] = row[i - 1];
+            i = i - 1;
+        }
+        row[0] = first;
     }
 }
 
-// A row of sizes with one more in front, and the one at `last` gone.
-pub(crate) fn push_size(row: &mut [u16; NEIGHBOURS], first: u16, last: usize)
-    requires { ⌜ (last < mostNeighbours) × (length (now row) ≡ mostNeighbours) ⌝ }
-    ensures { λ _. ⌜ now (row .exit) ≡ pushed first last (now (row .entry)) ⌝ }
+// A row of sizes likewise.
+pub fn push_size(row: &mut [u16], first: u16, last: usize)
+    ensures { λ _. ⌜ now (row .exit) ≡ pushedIn first last (now (row .entry)) ⌝ }
 {
-    let mut carried = first;
-    let mut i: usize = 0;
-    while i <= last {
-        let next = row[i];
-        row[i] = carried;
-        carried = next;
-        i = i + 1;
+    if last < row.len() {
+        let mut i = last;
+        while 0 < i {
+            row[i] = row[i - 1];
+            i = i - 1;
+        }
+        row[0] = first;
     }
 }

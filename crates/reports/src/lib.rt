@@ -1,4 +1,6 @@
 // Size reports: judged by the settings and their bytes alone, and then by the size in force.
+pub mod reading;
+
 use header::IPV6;
 use header::OUTER_HEADER;
 use header::fields;
@@ -10,6 +12,7 @@ use refusals::Check;
 use refusals::Refusal;
 use settings::Settings;
 ghost use mathlib.Core.Path.{_≡_};
+ghost use Rattle.reports.specs.Reading.{isOtherMessage, isQuoteWrong};
 ghost use Rattle.reports.specs.Report.{isReportMalformed, isQuoteForeign, reportCheck, judgedAs, candidateFor, judgedOf, acceptedBelow, answerAt, reportGiven};
 
 // What a report asks for by its bytes and the settings: a size toward a neighbour, if it is not refused.
@@ -31,18 +34,37 @@ const FRAGMENTATION_NEEDED: u8 = 4;
 // A message of 8 bytes and the least IPv4 header.
 const LEAST_MESSAGE: usize = 8 + OUTER_HEADER;
 
+// Of number 16 what costs least to see: too few bytes, or another message.
+fn other_message(message: &[u8]) -> bool
+    ensures { λ r. ⌜ r ≡ isOtherMessage (now (message .entry)) ⌝ }
+{
+    if message.len() < LEAST_MESSAGE {
+        return true;
+    }
+    let kind = fields::byte(message, 0);
+    let code = fields::byte(message, 1);
+    (kind != UNREACHABLE) | (code != FRAGMENTATION_NEEDED)
+}
+
+// The rest of number 16: the quoted header, and then the checksum, which is over the whole message.
+fn quote_wrong(message: &[u8], quoted: Outer) -> bool
+    ensures { λ r. ⌜ r ≡ isQuoteWrong (now (message .entry)) quoted ⌝ }
+{
+    let quote = outer::quote(message);
+    if outer::quote_malformed(quote.len(), quoted) {
+        return true;
+    }
+    !checksum::right(message)
+}
+
 // Number 16.
 fn report_malformed(message: &[u8], quoted: Outer) -> bool
     ensures { λ r. ⌜ r ≡ isReportMalformed (now (message .entry)) quoted ⌝ }
 {
-    let kind = fields::byte(message, 0);
-    let code = fields::byte(message, 1);
-    let quote = outer::quote(message);
-    (message.len() < LEAST_MESSAGE)
-        | !checksum::right(message)
-        | (kind != UNREACHABLE)
-        | (code != FRAGMENTATION_NEEDED)
-        | outer::quote_malformed(quote.len(), quoted)
+    if other_message(message) {
+        return true;
+    }
+    quote_wrong(message, quoted)
 }
 
 // Number 17.

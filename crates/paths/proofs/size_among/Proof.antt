@@ -1,7 +1,7 @@
+use mathlib.Core.Path.{_∙_}
 use native.Mathlib.Omega.{arith}
-use borrow.Author.Tests.{lt-ltb, le-ltb}
 use Rattle.paths.specs.Kept.{inForce}
-use Rattle.paths.proofs.Arrays.{Scanned, kept-at}
+use Rattle.paths.proofs.Arrays.{Scanned, size-at}
 use Rattle.paths.proofs.size_among.Statement.{statement}
 use Rattle.paths.proofs.size_among.Tie as tie
 
@@ -17,18 +17,10 @@ returns c = rw (c .if1 .taken)
 
 returns-2 : tie.Need-returns-2
 returns-2 c =
-    let p = c .before .before .before .before .before in
-    rw (kept-at (scanned p) (p .before .before .before .before .before .before .before .before .args .time), lt-ltb _ _ (c .before .before .before .before .if2 .taken), ← c .before .while-young .ensures)
-    (c .in-force .ensures)
-
-returns-3 : tie.Need-returns-3
-unfolding inForce
-returns-3 c =
-    let p = c .before in
-    rw (kept-at (scanned p) (p .before .before .before .before .before .before .before .before .args .time), le-ltb _ _ (c .if2 .left))
+    let a = c .before .before .before .before .before .before .before .before .before .args in
+    c .size-at .ensures ∙ size-at (scanned (c .before)) (a .time) (a .link)
 
 pub size-among-spec : {M : Type 1} → statement M
 size-among-spec =
     tie.close
-    (tie.spec returns (omega arith) (omega arith) (omega arith) (omega arith) (omega arith) (omega arith) (omega arith) (omega arith) (omega arith) (omega arith)
-    returns-2 returns-3)
+    (tie.spec returns (omega arith) (omega arith) (omega arith) (omega arith) (omega arith) returns-2)

@@ -1,13 +1,14 @@
--- `reports::report_malformed` meets its contract: each call gives its part of the test. Assumes nothing.
-use Rattle.reports.specs.Report.{isReportMalformed}
+-- `reports::report_malformed` meets its contract: its parts, in another order. Assumes nothing.
 use native.Mathlib.Omega.{arith}
+use Rattle.reports.proofs.ReadingLaws.{malformed-parts}
 use Rattle.reports.proofs.report_malformed.Statement.{statement}
 use Rattle.reports.proofs.report_malformed.Tie as tie
 
 returns : tie.Need-returns
-unfolding isReportMalformed
-returns c = let s = c .before .before in rw (c .quote-malformed .ensures, c .before .right .ensures, s .quote .ensures, s .before .byte2 .ensures, s .before .before .byte .ensures)
+returns c = rw (malformed-parts _ _) (simp (← c .before .other-message .ensures, c .if1 .taken))
+
+returns-2 : tie.Need-returns-2
+returns-2 c = rw (malformed-parts _ _) (simp (← c .before .before .other-message .ensures, c .before .if1 .left, c .quote-wrong .ensures))
 
 pub report-malformed-spec : {M : Type 1} → statement M
-report-malformed-spec =
-    tie.close (tie.spec (omega arith) (omega arith) (omega arith) (omega arith) (omega arith) returns)
+report-malformed-spec = tie.close (tie.spec (omega arith) returns (omega arith) returns-2)
