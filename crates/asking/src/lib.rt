@@ -6,9 +6,9 @@ use routers::RouterList;
 use settings::Settings;
 use settings::locators::Found;
 ghost use mathlib.Core.Path.{_≡_};
+ghost use Prim.Native.Nat.{_+_};
 ghost use lib.ListN.{length};
 ghost use Rattle.asking.specs.Ask.{planFor, askPlan, answeredWith, askedOf, askedOutput, askGiven};
-ghost use Prim.Native.Nat.{_+_};
 
 // The router that is asked, by its address, or the number.
 pub enum AskAnswer {

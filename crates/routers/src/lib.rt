@@ -1,11 +1,9 @@
 // The router list: which addresses are listed, which router is asked next, and when each is due again.
 // Every list is taken: what counts are the first `count` of its 16 places. A search runs over lent rows; a list by value lends its own.
 ghost use mathlib.Core.Path.{_≡_};
-ghost use Prim.Native.Nat.{min};
 ghost use mathlib.Core.Bool.{cond};
-ghost use lib.Dec.{eqb};
 ghost use lib.ListN.{take, drop};
-ghost use Rattle.routers.specs.Routers.{places, heldIn, live, listed, earlierOf, ifDue, nextOf, dueOr, duesAfter, rescheduledOf, replacedOf, newOf, among, areDistinct};
+ghost use Rattle.routers.specs.Routers.{heldIn, live, listed, earlierOf, ifDue, nextOf, dueOr, duesAfter, rescheduledOf, replacedOf, newOf, among, areDistinct};
 
 // How many routers a list has room for.
 pub const PLACES: usize = 16;
