@@ -46,7 +46,7 @@
 
 #define BOGTRUMPET_VERSION "0.7.0"
 #define BOGTRUMPET_VERSION_MAJOR 0
-#define BOGTRUMPET_VERSION_MINOR 6
+#define BOGTRUMPET_VERSION_MINOR 7
 #define BOGTRUMPET_VERSION_PATCH 0
 
 /* A compiler that can warns where an answer is not looked at. */
