@@ -87,7 +87,7 @@ impl PathTable {
     }
 
     // The table after an accepted report: that stands in front; the neighbour's old one, else the last of 64, makes room.
-    pub fn accepted(self, neighbour: u32, size: u16, now: u32) -> Self
+    pub fn accepted(mut self, neighbour: u32, size: u16, now: u32) -> Self
         ensures { λ r. ⌜ r ≡ tableAfter self neighbour size now ⌝ }
     {
         let mut neighbours = self.neighbours;
@@ -98,12 +98,11 @@ impl PathTable {
         push_number(&mut neighbours, neighbour, last);
         push_size(&mut sizes, size, last);
         push_number(&mut times, now, last);
-        PathTable {
-            neighbours,
-            sizes,
-            times,
-            count: most(used, last + 1),
-        }
+        self.neighbours = neighbours;
+        self.sizes = sizes;
+        self.times = times;
+        self.count = most(used, last + 1);
+        self
     }
 }
 

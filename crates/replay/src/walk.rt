@@ -150,8 +150,12 @@ impl Walk {
         }
     }
 
-    // Its line is ended.
+    // Its line is ended. Where a read failed there is none.
     fn ended(mut self, text: &mut Text) -> Walk {
+        let held = self.held;
+        if held.failed {
+            return self;
+        }
         self.end = line::end(self.end, text);
         self
     }
@@ -162,7 +166,7 @@ impl Walk {
         held.bytes(self.at, window)
     }
 
-    // The call changes nothing, and its line is written.
+    // The call changes nothing, and its line is written, if all of it could be read.
     fn told(
         self,
         node: Node,
@@ -180,6 +184,9 @@ impl Walk {
             let call = answering::read(start, self.at, spool, window);
             let held = call.held;
             walk.held = held;
+            if held.failed {
+                return walk;
+            }
             walk.end = calls::advertise(
                 node,
                 call,
