@@ -12,6 +12,10 @@ use Rattle.routers.specs.declared.Router.{Router}
 use Rattle.routers.specs.Routers.{pairs, heldIn, listed, dueIf, rescheduled, duesAfter, among}
 use Rattle.routers.specs.Facts.{noRouter}
 
+-- how many places each row has, `routers::PLACES`
+abbrev pub places : ℕ
+places = 16
+
 pub pairs-length : (bs ds : List ℕ) → length (pairs bs ds) ≡ min (length bs) (length ds)
 pairs-length [] ds = sym (zero-min (length ds))
 pairs-length (a ∷ bs) [] = omega arith

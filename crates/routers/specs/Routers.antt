@@ -10,10 +10,6 @@ use Rattle.routers.specs.declared.RouterList.{RouterList}
 use Rattle.routers.specs.declared.Next.{Next}
 use Rattle.routers.specs.declared.Next.the-variants.{Due, NoneDue}
 
--- R2.4: routers 0 to 16
-abbrev pub places : ℕ
-places = 16
-
 -- the routers that a row of addresses and a row of due times hold, place by place
 abbrev pub pairs : List ℕ → List ℕ → List Router
 pairs [] dues = []

@@ -6,7 +6,8 @@ use Prim.Native.Nat.{_-_}
 use mathlib.Core.Path.{_≡_, refl, sym, _∙_}
 use mathlib.Core.Bool.{_&&_, and-true}
 use lib.ListN.{length, take, drop, length-take}
-use Rattle.routers.specs.Routers.{places, areDistinct}
+use Rattle.routers.specs.Routers.{areDistinct}
+use Rattle.routers.proofs.Rows.{places}
 use Rattle.routers.proofs.Laws.{distinct-step, past}
 use Rattle.routers.proofs.distinct.Statement.{statement}
 use Rattle.routers.proofs.distinct.Tie as tie

@@ -7,10 +7,10 @@ use mathlib.Core.Path.{_≡_, refl, _∙_}
 use mathlib.Core.List.{map, _++_}
 use lib.ListN.{length, take, drop}
 use Rattle.routers.specs.declared.Router.{Router}
-use Rattle.routers.specs.Routers.{places, pairs, dueIf}
+use Rattle.routers.specs.Routers.{pairs, dueIf}
 use Rattle.routers.specs.Facts.{noRouter}
 use Rattle.routers.proofs.Laws.{fill, filled}
-use Rattle.routers.proofs.Rows.{pairs-length, stored-due, dues-made}
+use Rattle.routers.proofs.Rows.{places, pairs-length, stored-due, dues-made}
 use Rattle.routers.proofs.dues_after.Statement.{statement}
 use Rattle.routers.proofs.dues_after.Tie as tie
 

@@ -6,7 +6,8 @@ use Prim.Native.Nat.{_-_}
 use mathlib.Core.Path.{_≡_, refl, sym, _∙_}
 use mathlib.Core.Bool.{_||_, or-false}
 use lib.ListN.{length, take, drop, length-take}
-use Rattle.routers.specs.Routers.{places, among}
+use Rattle.routers.specs.Routers.{among}
+use Rattle.routers.proofs.Rows.{places}
 use Rattle.routers.proofs.Laws.{any-step, past}
 use Rattle.routers.proofs.stands.Statement.{statement}
 use Rattle.routers.proofs.stands.Tie as tie

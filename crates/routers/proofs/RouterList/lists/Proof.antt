@@ -4,8 +4,7 @@ use borrow.Author.Needs.{needs}
 use native.Mathlib.Omega.{arith}
 use mathlib.Core.Path.{_≡_, sym, _∙_}
 use lib.ListN.{length}
-use Rattle.routers.specs.Routers.{places}
-use Rattle.routers.proofs.Rows.{listed-held}
+use Rattle.routers.proofs.Rows.{places, listed-held}
 use Rattle.routers.proofs.RouterList.lists.Statement.{statement}
 use Rattle.routers.proofs.RouterList.lists.Tie as tie
 

@@ -5,8 +5,7 @@ use mathlib.Core.Path.{_≡_, ap, sym, _∙_}
 use mathlib.Core.List.{List}
 use Prim.Native.Nat.{ℕ}
 use lib.ListN.{length, replicate}
-use Rattle.routers.specs.Routers.{places}
-use Rattle.routers.proofs.Rows.{zeros}
+use Rattle.routers.proofs.Rows.{places, zeros}
 use Rattle.routers.proofs.RouterList.new.Statement.{statement}
 use Rattle.routers.proofs.RouterList.new.Tie as tie
 

@@ -6,7 +6,8 @@ use Prim.Native.Nat.{_-_, _≤_}
 use mathlib.Core.Path.{_≡_, refl}
 use mathlib.Core.List.{map, _++_}
 use lib.ListN.{length, take, drop}
-use Rattle.routers.specs.Routers.{places, heldIn, dueOr}
+use Rattle.routers.specs.Routers.{heldIn, dueOr}
+use Rattle.routers.proofs.Rows.{places}
 use Rattle.routers.proofs.Laws.{fill, filled}
 use Rattle.routers.proofs.RouterList.replaced.Statement.{statement}
 use Rattle.routers.proofs.RouterList.replaced.Tie as tie
