@@ -8,6 +8,12 @@ AR = ar
 LIBRARY = target/staticlib/libbogtrumpet.a
 OBJECTS = target/staticlib/objects
 HEADER = include/bogtrumpet.h
+
+# bogtrumpetd, the host, and once more under the sanitizers
+HOST = target/host/bogtrumpetd
+HOST_SOURCES = $(wildcard host/*.c)
+HOST_FLAGS = -std=c11 -D_GNU_SOURCE -Iinclude -O2 -g -fPIE -pie -fstack-protector-strong -Wl,-z,relro,-z,now \
+    -Wall -Wextra -Wshadow -Wconversion -Wsign-conversion -Wstrict-prototypes -Werror
 VERSION = $(shell sed -n 's/^.define BOGTRUMPET_VERSION "\(.*\)"$$/\1/p' $(HEADER))
 
 # the crates that the two are made of: what crates.txt names for them, and so on down
@@ -29,6 +35,18 @@ $(LIBRARY): $(SOURCES)
 	rm target/staticlib/libbogtrumpet_rules.a
 	$(AR) rcsD $@ $(OBJECTS)/node/*.o $(OBJECTS)/rules/*.o
 
+$(HOST): $(HOST_SOURCES) host/bogtrumpetd.h $(HEADER) $(LIBRARY)
+	mkdir -p target/host
+	$(CC) $(HOST_FLAGS) $(CFLAGS) $(HOST_SOURCES) $(LIBRARY) -o $@
+
+$(HOST)-checked: $(HOST_SOURCES) host/bogtrumpetd.h $(HEADER) $(LIBRARY)
+	mkdir -p target/host
+	$(CC) $(HOST_FLAGS) -fsanitize=address,undefined -fno-sanitize-recover=all $(HOST_SOURCES) $(LIBRARY) -o $@
+
+host: $(HOST)
+
+host-checked: $(HOST)-checked
+
 bogtrumpet.pc: Makefile $(HEADER)
 	mkdir -p target
 	printf '%s\n' 'prefix=$(PREFIX)' 'includedir=$${prefix}/include' 'libdir=$${prefix}/lib' '' 'Name: bogtrumpet' \
@@ -45,4 +63,4 @@ clean:
 	rm -rf target/staticlib target/bogtrumpet.pc
 
 .DELETE_ON_ERROR:
-.PHONY: all install clean bogtrumpet.pc
+.PHONY: all host host-checked install clean bogtrumpet.pc
