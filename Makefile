@@ -53,11 +53,18 @@ bogtrumpet.pc: Makefile $(HEADER)
 	    'Description: ISATAP tunnel ends (RFC 5214), one or two in a box, proved' 'Version: $(VERSION)' 'Cflags: -I$${includedir}' \
 	    'Libs: -L$${libdir} -lbogtrumpet' > target/$@
 
-install: $(LIBRARY) bogtrumpet.pc
-	install -d $(DESTDIR)$(PREFIX)/include $(DESTDIR)$(PREFIX)/lib/pkgconfig
+install: $(LIBRARY) $(HOST) bogtrumpet.pc
+	install -d $(DESTDIR)$(PREFIX)/include $(DESTDIR)$(PREFIX)/lib/pkgconfig $(DESTDIR)$(PREFIX)/sbin \
+	    $(DESTDIR)$(PREFIX)/share/man/man5 $(DESTDIR)$(PREFIX)/share/man/man8 $(DESTDIR)$(PREFIX)/share/doc/bogtrumpet \
+	    $(DESTDIR)$(PREFIX)/lib/systemd/system
 	install -m 644 $(HEADER) $(DESTDIR)$(PREFIX)/include/
 	install -m 644 $(LIBRARY) $(DESTDIR)$(PREFIX)/lib/
 	install -m 644 target/bogtrumpet.pc $(DESTDIR)$(PREFIX)/lib/pkgconfig/
+	install -m 755 $(HOST) $(DESTDIR)$(PREFIX)/sbin/
+	install -m 644 host/bogtrumpetd.conf.5 $(DESTDIR)$(PREFIX)/share/man/man5/
+	install -m 644 host/bogtrumpetd.8 $(DESTDIR)$(PREFIX)/share/man/man8/
+	install -m 644 host/bogtrumpetd.conf $(DESTDIR)$(PREFIX)/share/doc/bogtrumpet/
+	sed 's|/usr/sbin/|$(PREFIX)/sbin/|' host/bogtrumpetd.service > $(DESTDIR)$(PREFIX)/lib/systemd/system/bogtrumpetd.service
 
 clean:
 	rm -rf target/staticlib target/bogtrumpet.pc

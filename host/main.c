@@ -157,9 +157,12 @@ static void carry(int signals, char **options) {
         ask_routers(&host);
         if (poll(places, (nfds_t)(DEVICES + count), 1000) < 0 && errno != EINTR)
             end("poll");
-        read_tunnel();
-        read_pieces();
-        read_reports();
+        if (places[TUNNEL].revents != 0)
+            read_tunnel();
+        if (places[PIECES].revents != 0)
+            read_pieces();
+        if (places[REPORTS].revents != 0)
+            read_reports();
         for (size_t i = 0; i < count; i++)
             if (places[DEVICES + i].revents != 0)
                 read_device(&host.services[i]);
