@@ -43,6 +43,7 @@ struct config {
     char counters[PATH_MAX];
     char counters_json[PATH_MAX];
     bool check; /* only */
+    uint64_t rest; /* differs where more than the router lists differs */
 };
 
 /* Reads the options, and the files that they name. False where something is wrong, which is then said on standard error. */
@@ -110,8 +111,8 @@ struct host {
 /* Seconds since the machine started, those of sleep too. */
 uint32_t now(void);
 
-/* An IPv4 datagram that arrived on the interface of that index. */
-void take_datagram(struct host *host, const uint8_t *datagram, size_t length, unsigned index);
+/* An IPv4 datagram that arrived on the interface of that index. One that the kernel joined of pieces is left: the library gets these. */
+void take_datagram(struct host *host, const uint8_t *datagram, size_t length, unsigned index, bool kernel_joined);
 
 /* An IPv6 packet that the service's device has for the tunnel. */
 void take_packet(struct host *host, struct service *service, const uint8_t *packet, size_t length);
@@ -122,7 +123,7 @@ void take_report(struct host *host, const uint8_t *datagram, size_t length);
 /* Asks the routers that are due. */
 void ask_routers(struct host *host);
 
-/* Puts the router lists of another configuration in place. */
+/* Puts the router lists of another configuration in place, by the names of the services. */
 void replace_routers(struct host *host, const struct config *config);
 
 /* Writes the counters. */

@@ -229,9 +229,12 @@ static struct service *service_of(struct host *host, uint32_t address) {
     return &host->services[0];
 }
 
-void take_datagram(struct host *host, const uint8_t *datagram, size_t length, unsigned index) {
+void take_datagram(struct host *host, const uint8_t *datagram, size_t length, unsigned index, bool kernel_joined) {
     uint32_t destination = length >= BOGTRUMPET_OUTER_HEADER_LENGTH ? ipv4_at(datagram + DESTINATION_IPV4) : 0;
     struct service *service = service_of(host, destination);
+    service->counters.events[KERNEL_JOINED] += kernel_joined;
+    if (kernel_joined)
+        return;
     struct bogtrumpet_received received =
         bogtrumpet_receive(&host->node, service->number, datagram, length, interface_number(host, index), now(), service->memory,
                            sizeof service->memory);
@@ -247,19 +250,22 @@ void take_report(struct host *host, const uint8_t *datagram, size_t length) {
         report(host, datagram + header, length - header);
 }
 
+static void replace_list(struct host *host, struct service *service, const struct bogtrumpet_settings *settings) {
+    struct bogtrumpet_addresses list = {.count = settings->router_count};
+    memcpy(list.routers, settings->routers, sizeof list.routers);
+    uint8_t number = bogtrumpet_replace_routers(&host->node, service->number, list, now());
+    count(&service->counters, ROUTERS, number);
+    bool listed = false;
+    for (size_t i = 0; i < list.count; i++)
+        listed |= list.routers[i] == service->heard_router;
+    if (!listed)
+        service->heard_until = 0;
+    note("%s: a list of %zu routers: %s", service->config->tun, list.count, bogtrumpet_number_text(number));
+}
+
 void replace_routers(struct host *host, const struct config *config) {
-    for (size_t i = 0; i < host->config.service_count; i++) {
-        struct service *service = &host->services[i];
-        const struct bogtrumpet_settings *settings = &config->services[i].settings;
-        struct bogtrumpet_addresses list = {.count = settings->router_count};
-        memcpy(list.routers, settings->routers, sizeof list.routers);
-        uint8_t number = bogtrumpet_replace_routers(&host->node, service->number, list, now());
-        count(&service->counters, ROUTERS, number);
-        bool listed = false;
-        for (size_t j = 0; j < list.count; j++)
-            listed |= list.routers[j] == service->heard_router;
-        if (!listed)
-            service->heard_until = 0;
-        note("%s: %zu routers are listed", service->config->tun, list.count);
-    }
+    for (size_t i = 0; i < host->config.service_count; i++)
+        for (size_t j = 0; j < config->service_count; j++)
+            if (strcmp(host->config.services[i].tun, config->services[j].tun) == 0)
+                replace_list(host, &host->services[i], &config->services[j].settings);
 }

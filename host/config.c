@@ -269,8 +269,18 @@ static const char *take(struct reader *reader, const struct key *key, char *valu
     return wrong;
 }
 
+/* All but the router lists, which alone are loaded again, in one number (FNV-1a). */
+static void mix(struct reader *reader, const char *text) {
+    for (size_t i = 0; i <= strlen(text); i++)
+        reader->config->rest = (reader->config->rest ^ (uint8_t)text[i]) * 0x100000001B3;
+}
+
 static void read_key(struct reader *reader, const char *name, char *value) {
     reader->key = name;
+    if (strcmp(name, "router") != 0) {
+        mix(reader, name);
+        mix(reader, value);
+    }
     for (size_t i = 0; i < sizeof keys / sizeof *keys; i++)
         if (strcmp(keys[i].name, name) == 0) {
             const char *wrong = *value == 0 ? "has no value" : take(reader, &keys[i], value);

@@ -28,8 +28,10 @@ static const char help[] =
 static void read_device(struct service *service) {
     for (int turn = 0; turn < BURST; turn++) {
         ssize_t length = read(service->tun, bytes, sizeof bytes);
-        if (length < 0)
+        if (length < 0 && errno == EAGAIN)
             return;
+        if (length < 0) /* it was removed: who watches the program starts it again */
+            end("%s: the device", service->config->tun);
         take_packet(&host, service, bytes, (size_t)length);
     }
 }
@@ -62,10 +64,7 @@ static void read_tunnel(void) {
         if (length < 0)
             return;
         unsigned index = arrival(&message, &joined);
-        if (joined)
-            host.services[0].counters.events[KERNEL_JOINED]++;
-        else
-            take_datagram(&host, bytes, (size_t)length, index);
+        take_datagram(&host, bytes, (size_t)length, index, joined);
     }
 }
 
@@ -76,7 +75,7 @@ static void read_pieces(void) {
         ssize_t length = recvfrom(host.sockets.pieces, bytes, sizeof bytes, 0, (struct sockaddr *)&from, &room);
         if (length < 0)
             return;
-        take_datagram(&host, bytes, (size_t)length, (unsigned)from.sll_ifindex);
+        take_datagram(&host, bytes, (size_t)length, (unsigned)from.sll_ifindex, false);
     }
 }
 
@@ -89,28 +88,13 @@ static void read_reports(void) {
     }
 }
 
-/* Whether two configurations differ in nothing but their router lists. */
-static bool same_but_routers(const struct config *one, const struct config *other) {
-    static struct config copy;
-    copy = *other;
-    for (size_t i = 0; i < SERVICES; i++) {
-        struct bogtrumpet_settings *settings = &copy.services[i].settings;
-        const struct bogtrumpet_settings *mine = &one->services[i].settings;
-        memcpy(settings->routers, mine->routers, sizeof mine->routers);
-        settings->router_count = mine->router_count;
-        settings->identification = mine->identification;
-        copy.services[i].place = one->services[i].place;
-    }
-    return memcmp(one, &copy, sizeof copy) == 0;
-}
-
 static void load_routers(char **options) {
     static struct config again;
-    if (!config_read(&again, options) || again.service_count != host.config.service_count) {
+    if (!config_read(&again, options)) {
         note("the configuration is not loaded: all stays as it was");
         return;
     }
-    if (!same_but_routers(&host.config, &again))
+    if (again.rest != host.config.rest)
         note("more than the router lists changed: that takes a restart");
     replace_routers(&host, &again);
 }
