@@ -141,11 +141,6 @@ static const char *take_router(struct reader *reader, char *value) {
     return ipv4(value, &settings->routers[settings->router_count++]);
 }
 
-static const char *take_default_router(struct reader *reader, char *value) {
-    const char *wrong = ipv4(value, &reader->service->default_router);
-    return wrong == NULL && bogtrumpet_forbidden(reader->service->default_router) ? "forbidden (R3.1)" : wrong;
-}
-
 static const char *take_advertise_prefix(struct reader *reader, char *value) {
     struct bogtrumpet_advertisement *all = &reader->service->advertisement;
     struct bogtrumpet_advertised_prefix one = {.valid = 2592000, .preferred = 604800, .on_link = 1, .autonomous = 1};
@@ -192,7 +187,7 @@ static const char *take_advertise_route(struct reader *reader, char *value) {
 
 /* ---- The keys ------------------------------------------------------------------------------------------------------- */
 
-enum kind { WORD, NUMBER, FLAG, IPV6, TAKEN };
+enum kind { WORD, NUMBER, FLAG, IPV4, IPV6, TAKEN };
 
 /* A key whose kind is not TAKEN stands once, and its value goes to a place in the node's configuration or in the service's. */
 static const struct key {
@@ -211,7 +206,7 @@ static const struct key {
     {"locator", "forbidden, given twice, a router, or the other service's (R2.1, R2.2, R2.4, R26.2)", take_locator, TAKEN, false, 0, 0},
     {"prefix", "refused (R2.3)", take_prefix, TAKEN, false, 0, 0},
     {"router", "forbidden, given twice, or a locator's address (R2.4)", take_router, TAKEN, false, 0, 0},
-    {"default-router", NULL, take_default_router, TAKEN, false, 0, 0},
+    {"default-router", NULL, NULL, IPV4, OF_SERVICE(default_router)},
     {"link-size", "not from 576 to 9216 (R2.5)", NULL, NUMBER, OF_SERVICE(settings.link_size)},
     {"ttl", "not from 1 to 255 (R2.6)", NULL, NUMBER, OF_SERVICE(settings.ttl)},
     {"interval", "not from 1 to 3600 (R2.7)", NULL, NUMBER, OF_SERVICE(settings.interval)},
@@ -225,11 +220,13 @@ static const struct key {
 };
 
 static const char *take_value(struct reader *reader, const struct key *key, char *value) {
-    char *place = (key->of_node ? (char *)reader->config : (char *)reader->service) + key->place;
+    void *place = (key->of_node ? (char *)reader->config : (char *)reader->service) + key->place;
+    const char *wrong;
     switch (key->kind) {
     case WORD: return word(value, place, key->room);
     case NUMBER: return number(value, place, key->room);
-    case FLAG: return yes_or_no(value, (uint8_t *)place);
+    case FLAG: return yes_or_no(value, place);
+    case IPV4: wrong = ipv4(value, place); return wrong == NULL && bogtrumpet_forbidden(*(uint32_t *)place) ? "forbidden (R3.1)" : wrong;
     case IPV6: return inet_pton(AF_INET6, value, place) == 1 ? NULL : "no IPv6 address";
     default: return key->take(reader, value);
     }
