@@ -14,6 +14,7 @@
 #define SERVICES 2
 #define INTERFACES (SERVICES * BOGTRUMPET_MAX_LOCATORS)
 #define NO_INTERFACE 255 /* the library's number for an interface that no locator names: none of theirs is above INTERFACES */
+#define NEIGHBOURS 4096  /* places for neighbours that spoke to us */
 #define LONGEST 65536    /* bytes of the longest IPv4 datagram, and one more */
 
 /* ---- config.c: what the operator says ----------------------------------------------------------------------------- */
@@ -84,6 +85,10 @@ struct service {
     uint8_t number; /* the library's */
     int tun;
     struct bogtrumpet_prefixes prefixes;
+    struct {
+        uint32_t neighbour;
+        uint8_t locator;
+    } spoken[NEIGHBOURS]; /* by which locator a neighbour last spoke to us, at a place that its address gives */
     uint32_t heard_router; /* that advertised last, 0 where there is none */
     uint32_t heard_until;
     struct counters counters;
@@ -142,8 +147,8 @@ void drop_privileges(const char *user);
 bool put_datagram(const struct sockets *sockets, const uint8_t *datagram, size_t length);
 bool put_cut(const struct sockets *sockets, const uint8_t *datagram, size_t length);
 
-/* The size that the link takes over which the address is reached, 0 where that is not known. */
-uint16_t near_link_size(uint32_t address);
+/* The size that the link takes over which the datagram goes, 0 where that is not known. */
+uint16_t near_link_size(const uint8_t *datagram);
 
 /* Warns where the interface joins segments before they arrive. */
 void warn_of_joining_interface(const char *name);

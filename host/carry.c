@@ -9,7 +9,7 @@
 #include <time.h>
 #include <unistd.h>
 
-enum { DESTINATION_IPV4 = 16, SOURCE_IPV6 = 8, DESTINATION_IPV6 = 24, NEXT_HEADER = 6, DONT_FRAGMENT = 0x40 };
+enum { SOURCE_IPV4 = 12, DESTINATION_IPV4 = 16, SOURCE_IPV6 = 8, DESTINATION_IPV6 = 24, NEXT_HEADER = 6, DONT_FRAGMENT = 0x40 };
 
 uint32_t now(void) {
     struct timespec time;
@@ -59,7 +59,7 @@ static void report(struct host *host, const uint8_t *message, size_t length) {
 /* The near link takes no such datagram: its size, as the next router would have reported it. */
 static void report_near_link(struct host *host, struct service *service, const uint8_t *datagram) {
     enum { QUOTED = BOGTRUMPET_OUTER_HEADER_LENGTH + 8 };
-    uint16_t size = near_link_size(ipv4_at(datagram + DESTINATION_IPV4));
+    uint16_t size = near_link_size(datagram);
     uint8_t message[8 + QUOTED] = {3, 4, [6] = (uint8_t)(size >> 8), (uint8_t)size};
     memcpy(message + 8, datagram, QUOTED);
     uint16_t sum = (uint16_t)~bogtrumpet_checksum(0, message, sizeof message);
@@ -110,19 +110,30 @@ static struct bogtrumpet_address next_hop_of(const struct service *service, stru
     return direct || router == 0 ? destination : bogtrumpet_link_local(router);
 }
 
+/* The first locator of the address; their number where there is none. */
 static size_t locator_of(const struct service *service, uint32_t address) {
     const struct bogtrumpet_settings *settings = &service->config->settings;
     size_t i = 0;
     while (i < settings->locator_count && settings->locators[i].address != address)
         i++;
-    return i < settings->locator_count ? i : 0;
+    return i;
 }
 
-/* The locator that the source embeds under whatever prefix, so that the two fit at the other end; else the first. */
-static size_t locator_of_source(const struct service *service, struct bogtrumpet_address source) {
+/* The place of a neighbour among those that spoke. Two of one place take it from each other; so one of them is answered from the first locator. */
+static size_t place_of(uint32_t neighbour) {
+    return (neighbour ^ neighbour >> 12 ^ neighbour >> 24) % NEIGHBOURS;
+}
+
+/* The locator that the source embeds under whatever prefix, so that the two fit at the other end. A source that embeds none comes from behind us: then
+   the one that the tunnel end speaks to, which it lists for a router; else the first. */
+static size_t locator_toward(const struct service *service, struct bogtrumpet_address source, struct bogtrumpet_address next_hop) {
     struct bogtrumpet_prefixes own = {.count = 1};
     memcpy(own.bytes, source.bytes, BOGTRUMPET_PREFIX_LENGTH);
-    return locator_of(service, bogtrumpet_isatap(own, source).address);
+    size_t locator = locator_of(service, bogtrumpet_isatap(own, source).address);
+    if (locator < service->config->settings.locator_count)
+        return locator;
+    uint32_t end = bogtrumpet_isatap(service->prefixes, next_hop).address;
+    return service->spoken[place_of(end)].neighbour == end ? service->spoken[place_of(end)].locator : 0;
 }
 
 void take_packet(struct host *host, struct service *service, const uint8_t *packet, size_t length) {
@@ -131,7 +142,8 @@ void take_packet(struct host *host, struct service *service, const uint8_t *pack
         source = ipv6_at(packet + SOURCE_IPV6);
         destination = ipv6_at(packet + DESTINATION_IPV6);
     }
-    send_packet(host, service, packet, length, next_hop_of(service, destination), locator_of_source(service, source));
+    struct bogtrumpet_address next_hop = next_hop_of(service, destination);
+    send_packet(host, service, packet, length, next_hop, locator_toward(service, source, next_hop));
 }
 
 static bool router_due(const struct host *host, const struct service *service) {
@@ -239,9 +251,13 @@ void take_datagram(struct host *host, const uint8_t *datagram, size_t length, un
         bogtrumpet_receive(&host->node, service->number, datagram, length, interface_number(host, index), now(), service->memory,
                            sizeof service->memory);
     count(&service->counters, RECEIVE, received.number);
-    if (received.number == BOGTRUMPET_OK)
-        take_inner(host, service, (received.joined ? service->memory : datagram) + received.offset, received.length, received.joined,
-                   locator_of(service, destination));
+    if (received.number != BOGTRUMPET_OK)
+        return;
+    uint32_t neighbour = ipv4_at(datagram + SOURCE_IPV4);
+    size_t locator = locator_of(service, destination);
+    service->spoken[place_of(neighbour)].neighbour = neighbour;
+    service->spoken[place_of(neighbour)].locator = (uint8_t)locator;
+    take_inner(host, service, (received.joined ? service->memory : datagram) + received.offset, received.length, received.joined, locator);
 }
 
 void take_report(struct host *host, const uint8_t *datagram, size_t length) {

@@ -194,42 +194,48 @@ void open_sockets(struct sockets *sockets) {
     set_room(sockets->pieces);
 }
 
-static struct sockaddr_in to_address(const uint8_t *bytes) {
-    struct sockaddr_in to = {.sin_family = AF_INET};
-    memcpy(&to.sin_addr, bytes, sizeof to.sin_addr);
-    return to;
+/* An address of a header as the kernel takes it. */
+static struct sockaddr_in address_at(const uint8_t *bytes) {
+    struct sockaddr_in address = {.sin_family = AF_INET};
+    memcpy(&address.sin_addr, bytes, sizeof address.sin_addr);
+    return address;
 }
 
-bool put_datagram(const struct sockets *sockets, const uint8_t *datagram, size_t length) {
-    struct sockaddr_in to = to_address(datagram + 16);
-    return sendto(sockets->out, datagram, length, 0, (struct sockaddr *)&to, sizeof to) >= 0;
-}
-
-bool put_cut(const struct sockets *sockets, const uint8_t *datagram, size_t length) {
-    struct sockaddr_in to = to_address(datagram + 16);
-    struct iovec payload = {(void *)(uintptr_t)(datagram + BOGTRUMPET_OUTER_HEADER_LENGTH), length - BOGTRUMPET_OUTER_HEADER_LENGTH};
+/* Hands the bytes over for the tunnel end of the datagram, from its source, by which the kernel may choose the way, and with its TTL. */
+static bool put(int socket, const uint8_t *datagram, const uint8_t *bytes, size_t length) {
+    struct sockaddr_in to = address_at(datagram + 16);
+    struct iovec place = {(void *)(uintptr_t)bytes, length};
+    struct in_pktinfo from = {.ipi_spec_dst = address_at(datagram + 12).sin_addr};
+    int ttl = datagram[8];
     union {
         struct cmsghdr aligned;
-        uint8_t bytes[CMSG_SPACE(sizeof(struct in_pktinfo)) + CMSG_SPACE(sizeof(int))];
+        uint8_t bytes[CMSG_SPACE(sizeof from) + CMSG_SPACE(sizeof ttl)];
     } control = {.bytes = {0}};
-    struct msghdr message = {&to, sizeof to, &payload, 1, &control, sizeof control, 0};
-    struct in_pktinfo from = {0};
-    int ttl = datagram[8];
-    memcpy(&from.ipi_spec_dst, datagram + 12, sizeof from.ipi_spec_dst);
+    struct msghdr message = {&to, sizeof to, &place, 1, &control, sizeof control, 0};
     struct cmsghdr *part = CMSG_FIRSTHDR(&message);
     *part = (struct cmsghdr){.cmsg_len = CMSG_LEN(sizeof from), .cmsg_level = IPPROTO_IP, .cmsg_type = IP_PKTINFO};
     memcpy(CMSG_DATA(part), &from, sizeof from);
     part = CMSG_NXTHDR(&message, part);
     *part = (struct cmsghdr){.cmsg_len = CMSG_LEN(sizeof ttl), .cmsg_level = IPPROTO_IP, .cmsg_type = IP_TTL};
     memcpy(CMSG_DATA(part), &ttl, sizeof ttl);
-    return sendmsg(sockets->tunnel, &message, 0) >= 0;
+    return sendmsg(socket, &message, 0) >= 0;
 }
 
-uint16_t near_link_size(uint32_t address) {
-    struct sockaddr_in to = {.sin_family = AF_INET, .sin_addr = {htonl(address)}, .sin_port = htons(9)};
+bool put_datagram(const struct sockets *sockets, const uint8_t *datagram, size_t length) {
+    return put(sockets->out, datagram, datagram, length);
+}
+
+bool put_cut(const struct sockets *sockets, const uint8_t *datagram, size_t length) {
+    return put(sockets->tunnel, datagram, datagram + BOGTRUMPET_OUTER_HEADER_LENGTH, length - BOGTRUMPET_OUTER_HEADER_LENGTH);
+}
+
+uint16_t near_link_size(const uint8_t *datagram) {
+    struct sockaddr_in from = address_at(datagram + 12), to = address_at(datagram + 16);
     int probe = socket(AF_INET, SOCK_DGRAM | SOCK_CLOEXEC, 0), size = 0;
     socklen_t room = sizeof size;
-    if (connect(probe, (struct sockaddr *)&to, sizeof to) < 0 || getsockopt(probe, IPPROTO_IP, IP_MTU, &size, &room) < 0)
+    to.sin_port = htons(9); /* discard: nothing is sent */
+    if (bind(probe, (struct sockaddr *)&from, sizeof from) < 0 || connect(probe, (struct sockaddr *)&to, sizeof to) < 0 ||
+        getsockopt(probe, IPPROTO_IP, IP_MTU, &size, &room) < 0)
         size = 0;
     close(probe);
     return (uint16_t)(size > UINT16_MAX ? UINT16_MAX : size);
