@@ -14,7 +14,7 @@
 #define SERVICES 2
 #define INTERFACES (SERVICES * BOGTRUMPET_MAX_LOCATORS)
 #define NO_INTERFACE 255 /* the library's number for an interface that no locator names: none of theirs is above INTERFACES */
-#define NEIGHBOURS 4096  /* places for neighbours that spoke to us */
+#define NEIGHBOURS 4096  /* places for neighbours that use us as a router */
 #define LONGEST 65536    /* bytes of the longest IPv4 datagram, and one more */
 
 /* ---- config.c: what the operator says ----------------------------------------------------------------------------- */
@@ -88,7 +88,7 @@ struct service {
     struct {
         uint32_t neighbour;
         uint8_t locator;
-    } spoken[NEIGHBOURS]; /* by which locator a neighbour last spoke to us, at a place that its address gives */
+    } users[NEIGHBOURS]; /* which locator a neighbour last used as its router, at a place that its address gives */
     uint32_t heard_router; /* that advertised last, 0 where there is none */
     uint32_t heard_until;
     struct counters counters;
@@ -150,8 +150,8 @@ bool put_cut(const struct sockets *sockets, const uint8_t *datagram, size_t leng
 /* The size that the link takes over which the datagram goes, 0 where that is not known. */
 uint16_t near_link_size(const uint8_t *datagram);
 
-/* Warns where the interface joins segments before they arrive. */
-void warn_of_joining_interface(const char *name);
+/* Has the kernel no longer join TCP segments that come in a tunnel: what a raw socket then gets has checksums that are not finished. */
+void stop_joining_of_segments(const char *name);
 
 /* A line of the log. A note is left out where one of the same text was written in the same second. */
 void note(const char *text, ...) __attribute__((format(printf, 1, 2)));

@@ -119,13 +119,13 @@ static size_t locator_of(const struct service *service, uint32_t address) {
     return i;
 }
 
-/* The place of a neighbour among those that spoke. Two of one place take it from each other; so one of them is answered from the first locator. */
+/* The place of a neighbour among those that use us as a router. Two of one place take it from each other: one then gets the first locator. */
 static size_t place_of(uint32_t neighbour) {
     return (neighbour ^ neighbour >> 12 ^ neighbour >> 24) % NEIGHBOURS;
 }
 
 /* The locator that the source embeds under whatever prefix, so that the two fit at the other end. A source that embeds none comes from behind us: then
-   the one that the tunnel end speaks to, which it lists for a router; else the first. */
+   the one that the tunnel end uses as its router, which it lists; else the first. */
 static size_t locator_toward(const struct service *service, struct bogtrumpet_address source, struct bogtrumpet_address next_hop) {
     struct bogtrumpet_prefixes own = {.count = 1};
     memcpy(own.bytes, source.bytes, BOGTRUMPET_PREFIX_LENGTH);
@@ -133,7 +133,7 @@ static size_t locator_toward(const struct service *service, struct bogtrumpet_ad
     if (locator < service->config->settings.locator_count)
         return locator;
     uint32_t end = bogtrumpet_isatap(service->prefixes, next_hop).address;
-    return service->spoken[place_of(end)].neighbour == end ? service->spoken[place_of(end)].locator : 0;
+    return service->users[place_of(end)].neighbour == end ? service->users[place_of(end)].locator : 0;
 }
 
 void take_packet(struct host *host, struct service *service, const uint8_t *packet, size_t length) {
@@ -208,6 +208,15 @@ static bool hear_advertisement(struct host *host, struct service *service, const
     return true;
 }
 
+/* A neighbour that solicits, or sends what goes further, uses the locator as its router. What is for one of our ISATAP addresses says nothing. */
+static void remember_user(struct service *service, uint32_t neighbour, size_t locator, const uint8_t *packet, size_t length) {
+    bool further = !bogtrumpet_isatap(service->prefixes, ipv6_at(packet + DESTINATION_IPV6)).found;
+    if (!further && message_type(packet, length) != ND_ROUTER_SOLICIT)
+        return;
+    service->users[place_of(neighbour)].neighbour = neighbour;
+    service->users[place_of(neighbour)].locator = (uint8_t)locator;
+}
+
 /* The kernel gets all but solicitations that are answered here, and advertisements that the library refuses. */
 static void take_inner(struct host *host, struct service *service, const uint8_t *packet, size_t length, bool joined, size_t locator) {
     uint8_t type = message_type(packet, length);
@@ -253,11 +262,10 @@ void take_datagram(struct host *host, const uint8_t *datagram, size_t length, un
     count(&service->counters, RECEIVE, received.number);
     if (received.number != BOGTRUMPET_OK)
         return;
-    uint32_t neighbour = ipv4_at(datagram + SOURCE_IPV4);
+    const uint8_t *inner = (received.joined ? service->memory : datagram) + received.offset;
     size_t locator = locator_of(service, destination);
-    service->spoken[place_of(neighbour)].neighbour = neighbour;
-    service->spoken[place_of(neighbour)].locator = (uint8_t)locator;
-    take_inner(host, service, (received.joined ? service->memory : datagram) + received.offset, received.length, received.joined, locator);
+    remember_user(service, ipv4_at(datagram + SOURCE_IPV4), locator, inner, received.length);
+    take_inner(host, service, inner, received.length, received.joined, locator);
 }
 
 void take_report(struct host *host, const uint8_t *datagram, size_t length) {

@@ -196,7 +196,7 @@ int main(int count, char **words) {
     open_sockets(&host.sockets);
     set_up();
     for (size_t i = 0; i < host.config.interface_count; i++)
-        warn_of_joining_interface(host.config.interfaces[i]);
+        stop_joining_of_segments(host.config.interfaces[i]);
     drop_privileges(host.config.user);
     note("version " BOGTRUMPET_VERSION ", %zu services", host.config.service_count);
     carry(signals, options);

@@ -241,15 +241,18 @@ uint16_t near_link_size(const uint8_t *datagram) {
     return (uint16_t)(size > UINT16_MAX ? UINT16_MAX : size);
 }
 
-void warn_of_joining_interface(const char *name) {
+void stop_joining_of_segments(const char *name) {
     struct ethtool_value value = {.cmd = ETHTOOL_GGRO};
     struct ifreq request = {.ifr_data = (void *)&value};
     int any = socket(AF_INET, SOCK_DGRAM | SOCK_CLOEXEC, 0);
     strcpy(request.ifr_name, name);
     if (if_nametoindex(name) == 0)
         note("%s: there is no such interface now", name);
-    else if (ioctl(any, SIOCETHTOOL, &request) == 0 && value.data != 0)
-        note("%s: may join TCP segments before they arrive, which breaks their checksums in a tunnel: ethtool -K %s gro off", name, name);
+    else if (ioctl(any, SIOCETHTOOL, &request) == 0 && value.data != 0) {
+        value = (struct ethtool_value){.cmd = ETHTOOL_SGRO};
+        bool off = ioctl(any, SIOCETHTOOL, &request) == 0;
+        note("%s: receive offload (gro) is %s", name, off ? "switched off" : "on, and TCP through the tunnel may break");
+    }
     close(any);
 }
 

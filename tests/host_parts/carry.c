@@ -1,7 +1,7 @@
 /*
  * What host/carry.c does with packets, without devices and sockets: the kernel is played here. Random ones, and near links of any size.
  *  - A packet that the device hands over is sent once and unchanged, whole or cut, from the locator that its source embeds or that the
- *    tunnel end spoke to, to the end that its destination embeds or to the default router; or its sender gets a Packet Too Big: none is lost.
+ *    tunnel end uses as its router, to the end that its destination embeds or to the default router; or its sender gets a Packet Too Big: none is lost.
  *  - A datagram is delivered exactly if a second node, handed the same calls, delivers it, and the same bytes; but a solicitation where we
  *    advertise, and an advertisement that the second node refuses, are not.
  *  - Whatever the bytes, nothing is read or written that is not ours: run under the sanitizers.
@@ -24,7 +24,7 @@
 static struct host host;
 static int device; /* the other end of the service's */
 static uint16_t near_sizes[PEERS];
-static uint32_t spoken_to[256]; /* the locator that a neighbour last spoke to, by the last byte of its address */
+static uint32_t used[256]; /* the locator that a neighbour last used as its router, by the last byte of its address */
 static unsigned sent, cut, delivered, runs[8];
 static uint8_t last_sent[LONGEST], last_delivered[LONGEST];
 static size_t sent_length, delivered_length;
@@ -160,7 +160,7 @@ static void hand_over(void) {
     }
     if (below(4) == 0) { /* from behind us */
         packet[16] = 1;
-        locator = spoken_to[end & 255] != 0 ? spoken_to[end & 255] : CENTRE;
+        locator = used[end & 255] != 0 ? used[end & 255] : CENTRE;
     }
     sent = cut = delivered = 0;
     take_packet(&host, &host.services[0], packet, length);
@@ -190,6 +190,8 @@ static size_t make_datagram(uint8_t *datagram, size_t room) {
         length = below(2) ? make_message(packet, from, CENTRE) : make_message(packet, CENTRE, from);
     else
         make_packet(packet, length, from, CENTRE);
+    if (below(4) == 0)
+        packet[24] = 0x20; /* goes further */
     struct bogtrumpet_outer outer = {(uint16_t)below(4), 0, 64, 41, below(9) ? from : from ^ 1, below(2) ? CENTRE : OTHER};
     size_t total = bogtrumpet_wrap(outer, packet, length, datagram, room).length;
     if (below(3) == 0)
@@ -227,8 +229,10 @@ static void arrive(void) {
     must(delivered + sent + cut == 0, "what the kernel joined is taken");
     take_datagram(&host, datagram, total, 7, false);
     drain();
-    if (received.number == 0)
-        spoken_to[datagram[15]] = ipv4(datagram + 16);
+    struct bogtrumpet_address destination;
+    memcpy(destination.bytes, inner + 24, 16);
+    if (received.number == 0 && (type == 133 || !bogtrumpet_isatap((struct bogtrumpet_prefixes){.count = 0}, destination).found))
+        used[datagram[15]] = ipv4(datagram + 16);
     must(delivered == expected, "delivered where the second node does not, or the other way round");
     must(!expected || (delivered_length == received.length && memcmp(last_delivered, inner, delivered_length) == 0), "other bytes are delivered");
     runs[expected && received.joined ? 3 : heard ? 4 : type == 133 && sent ? 5 : expected ? 6 : 7]++;
