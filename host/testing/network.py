@@ -8,7 +8,8 @@ from .packets import datagram, isatap
 from .waiting import wait
 
 LOCATORS = {"one": "10.1.0.2", "two": "10.2.0.2", "centre": "10.9.0.2", "spare": "10.8.0.2"}
-PREFIX, SECOND_PREFIX, OFFICE = "2001:db8:1::", "2001:db8:2::", "2001:db8:c::2"
+PREFIX, SECOND_PREFIX = "2001:db8:1::", "2001:db8:2::"
+OFFICE, OFFICE_NETWORK = "2001:db8:c::2", "2001:db8:c::/64"
 DEVICE, SECOND_DEVICE = "isatap0", "isatap1"
 # the two ends of each link, by the hop's name for it
 LINKS = {"to-one": ("one", "wan0", "one"), "to-two": ("two", "wan0", "two"),
