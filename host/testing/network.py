@@ -39,7 +39,7 @@ def centre(name="centre", interface="wan0", prefix=PREFIX, device=DEVICE, more=(
 
 class Network:
     def __init__(self, run, folder, command, number):
-        self._command, self._folder, self.daemons = command, folder, {}
+        self.command, self.folder, self.daemons = command, folder, {}
         self._names = ("one", "two", "hop", "centre", "office")
         for name in self._names:
             setattr(self, name, Namespace(f"{run}-{number}", name))
@@ -75,7 +75,7 @@ class Network:
         getattr(self, name).batch(f"link set {device} mtu {size}")
 
     def daemon(self, name, lines, **how):
-        made = Daemon(self._command, self._folder, getattr(self, name), lines, **how)
+        made = Daemon(self.command, self.folder, getattr(self, name), lines, **how)
         self.daemons[name] = made
         return made
 
