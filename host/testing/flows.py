@@ -75,12 +75,13 @@ class Flow:
 
 
 class Observer:
-    """Sees the UDP packets to TO, the Too Big messages and the advertisements that come in by a device of a namespace."""
+    """Sees the UDP packets to TO, and by their types the Too Big messages, solicitations and advertisements, that come in by a device of a
+    namespace."""
 
     def __init__(self, namespace, device, hardware):
         self.device, self.name = device, f"{namespace.name} {device}"
         self._hardware = hardware
-        self.too_big, self.advertisements = [], []
+        self.messages = {packets.TOO_BIG: [], packets.SOLICITATION: [], packets.ADVERTISEMENT: []}
         with namespace:
             self.socket = socket.socket(socket.AF_PACKET, socket.SOCK_DGRAM, socket.htons(ETH_P_IPV6))
             self._sink = socket.socket(socket.AF_INET6, socket.SOCK_DGRAM)  # never read: it keeps the kernel from answering "no such port"
@@ -91,9 +92,8 @@ class Observer:
         self.socket.setblocking(False)
 
     def _filter(self):
-        """UDP, and ICMPv6 of types 2 and 134, alone: a bulk transfer does not pass through here."""
-        code = [(0x30, 0, 0, 6), (0x15, 4, 0, 17), (0x15, 0, 4, 58), (0x30, 0, 0, 40), (0x15, 1, 0, 2), (0x15, 0, 1, 134),
-                (0x06, 0, 0, 0xFFFF), (0x06, 0, 0, 0)]
+        """UDP and ICMPv6 alone: a bulk transfer does not pass through here."""
+        code = [(0x30, 0, 0, 6), (0x15, 1, 0, packets.UDP), (0x15, 0, 1, packets.ICMPV6), (0x06, 0, 0, 0xFFFF), (0x06, 0, 0, 0)]
         lines = b"".join(struct.pack("HBBI", *line) for line in code)
         self._lines = ctypes.create_string_buffer(lines)
         program = struct.pack("HL", len(code), ctypes.addressof(self._lines))
@@ -167,10 +167,8 @@ class Ledger:
     def take(self, observer, data):
         """One packet that came in by the observer's device."""
         upper, kind, to = struct.unpack_from("!6xB33xBxH", data)
-        if upper == packets.ICMPV6 and kind == packets.TOO_BIG:
-            observer.too_big.append(data)
-        elif upper == packets.ICMPV6 and kind == packets.ADVERTISEMENT:
-            observer.advertisements.append(data)
+        if upper == packets.ICMPV6 and kind in observer.messages:
+            observer.messages[kind].append(data)
         elif upper == packets.UDP and to == TO:
             why = self._judge(observer, data)
             if why:

@@ -1,7 +1,8 @@
 """Waiting for a condition, never for a time: limits are generous, and a slow machine only waits longer."""
+import os
 import time
 
-LIMIT = 60
+LIMIT = int(os.environ.get("HOST_TEST_LIMIT", 60))  # seconds
 
 
 class Failure(Exception):
