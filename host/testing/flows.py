@@ -88,6 +88,7 @@ class Observer:
         self._sink.setsockopt(socket.SOL_SOCKET, socket.SO_REUSEADDR, 1)
         self._sink.bind(("::", TO))
         self.socket.setsockopt(socket.SOL_SOCKET, SO_RCVBUFFORCE, ROOM)
+        self._lost = 0
         self._filter()
         self.socket.setblocking(False)
 
@@ -117,7 +118,9 @@ class Observer:
         self._sink.close()
 
     def lost(self):
-        return struct.unpack("II", self.socket.getsockopt(SOL_PACKET, PACKET_STATISTICS, 8))[1]
+        """How many packets found no room here; the kernel counts from the last question on."""
+        self._lost += struct.unpack("II", self.socket.getsockopt(SOL_PACKET, PACKET_STATISTICS, 8))[1]
+        return self._lost
 
 
 class Ledger:
@@ -198,9 +201,12 @@ class Ledger:
         """Each flow, of those that go, delivers a packet of each of its sizes that is sent from now on."""
         for flow in flows or self.flows:
             start = flow.sent
-            wait(lambda: {number % len(flow.sizes) for number in list(flow.arrived) if number >= start} == set(range(len(flow.sizes))),
-                 f"flow {flow.name} goes on, a packet of each size {flow.sizes}",
+            wait(lambda: self._goes_on(flow, start), f"flow {flow.name} goes on, a packet of each size {flow.sizes}",
                  seen=lambda: f"sent {start} to {flow.sent - 1}, arrived {sorted(n for n in flow.arrived if n >= start)[:20]}")
+
+    def _goes_on(self, flow, start):
+        self.judge()
+        return {number % len(flow.sizes) for number in list(flow.arrived) if number >= start} == set(range(len(flow.sizes)))
 
     def judge(self):
         """Fails where something went against, or where an observer could not see all."""
