@@ -3,9 +3,9 @@ import json
 import os
 import pwd
 import re
-import signal
 import subprocess
 from pathlib import Path
+from signal import SIGTERM, SIGUSR1
 
 from .waiting import Failure, wait
 
@@ -77,10 +77,10 @@ class Daemon:
         self.process.kill()
         self.process.wait()
 
-    def end(self):
-        """Its exit status after SIGTERM."""
-        self.signal(signal.SIGTERM)
-        wait(lambda: self.process.poll() is not None, "an end after SIGTERM")
+    def end(self, number=SIGTERM):
+        """Its exit status after the signal."""
+        self.signal(number)
+        wait(lambda: self.process.poll() is not None, f"an end after {number.name}")
         return self.process.returncode
 
     def running(self):
@@ -96,7 +96,7 @@ class Daemon:
     def counters(self):
         """Those of a file that was written since the call."""
         before = self._stamp()
-        self.signal(signal.SIGUSR1)
+        self.signal(SIGUSR1)
         wait(lambda: self._stamp() not in (None, before), "counters after SIGUSR1")
         return json.loads(self.json.read_text())
 

@@ -23,7 +23,7 @@ SIZES = (100, 1280, 700, 1480)
 SMALLEST = 1280  # passes on every IPv6 link
 PACE = 0.02  # seconds between two rounds of all flows
 
-ETH_P_IPV6, NO_ADDRESS, OUTGOING = 0x86DD, 0xFFFE, 4
+ETH_P_IP, ETH_P_IPV6, NO_ADDRESS, OUTGOING = 0x0800, 0x86DD, 0xFFFE, 4
 SO_ATTACH_FILTER, SO_RCVBUFFORCE, SOL_PACKET, PACKET_STATISTICS = 26, 33, 263, 6
 IPV6_DONTFRAG, IPV6_AUTOFLOWLABEL, IPV6_FREEBIND = 62, 70, 78
 ROOM = 32 << 20
@@ -121,6 +121,28 @@ class Observer:
         """How many packets found no room here; the kernel counts from the last question on."""
         self._lost += struct.unpack("II", self.socket.getsockopt(SOL_PACKET, PACKET_STATISTICS, 8))[1]
         return self._lost
+
+
+class Wire:
+    """Sees the datagrams of protocol 41 that come in by a device."""
+
+    def __init__(self, namespace, device):
+        self._device = device
+        with namespace:
+            self._socket = socket.socket(socket.AF_PACKET, socket.SOCK_DGRAM, socket.htons(ETH_P_IP))
+        self._socket.setsockopt(socket.SOL_SOCKET, SO_RCVBUFFORCE, ROOM)
+        self._socket.setblocking(False)
+
+    def datagrams(self):
+        """Those since the last call."""
+        found = []
+        while True:
+            try:
+                data, (device, _, direction, *_) = self._socket.recvfrom(65536)
+            except BlockingIOError:
+                return found
+            if direction != OUTGOING and device == self._device and data[9] == packets.TUNNELLED:
+                found.append(data)
 
 
 class Ledger:
