@@ -60,11 +60,14 @@ class Daemon:
         with open(self.log, "ab") as log:
             self.process = self.namespace.start([*self._command, *options], stdout=log, stderr=subprocess.STDOUT, cwd="/")
         for device in self.devices():
-            wait(lambda: self._carries(device), f"device {device} up", seen=lambda: f"status {self.process.poll()}")
+            wait(lambda: self._carries(device), f"device {device} up")
+
+    def _alive(self):
+        if not self.running():
+            raise Failure(f"expected: a daemon that runs on {self.namespace.name}\nseen: status {self.process.returncode}")
 
     def _carries(self, device):
-        if self.process.poll() is not None:
-            raise Failure(f"expected: a daemon that runs\nseen: status {self.process.returncode}")
+        self._alive()
         try:
             return "LOWER_UP" in self.namespace.ip("link", "show", device)
         except OSError:
@@ -97,10 +100,12 @@ class Daemon:
         """Those of a file that was written since the call."""
         before = self._stamp()
         self.signal(SIGUSR1)
-        wait(lambda: self._stamp() not in (None, before), "counters after SIGUSR1")
+        wait(lambda: self._stamp() != before, "counters after SIGUSR1")
         return json.loads(self.json.read_text())
 
     def _stamp(self):
+        """Of the file of counters; None where there is none yet."""
+        self._alive()
         try:
             found = os.stat(self.json)
             return found.st_ino, found.st_mtime_ns

@@ -175,8 +175,8 @@ class Ledger:
         """These flows send from now on, at an even pace."""
         self._going.update(flows or self.flows)
 
-    def rest(self):
-        self._going.clear()
+    def rest(self, *flows):
+        self._going.difference_update(flows or self.flows)
 
     def _send(self):
         while not self._ending.wait(PACE):
