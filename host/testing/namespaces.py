@@ -1,12 +1,17 @@
 """Network namespaces of one run, named bogtrumpet-PID-..., and the guard that removes them whichever way the run ends."""
 import ctypes
+import fcntl
 import os
 import shutil
 import signal
+import socket
+import struct
 import subprocess
 from pathlib import Path
 
 CLONE_NEWNET = 0x40000000
+SIOCETHTOOL = 0x8946
+SET_SEGMENTING, JOINING, SET_JOINING = 0x1F, 0x2B, 0x2C  # ETHTOOL_STSO, ETHTOOL_GGRO, ETHTOOL_SGRO
 NAMES = Path("/run/netns")
 HOME = os.open("/proc/self/ns/net", os.O_RDONLY)
 _libc = ctypes.CDLL(None, use_errno=True)
@@ -51,6 +56,13 @@ class Namespace:
         """A kernel setting, by its path below /proc/sys/net."""
         with self:
             Path("/proc/sys/net", key).write_text(str(value))
+
+    def ethtool(self, device, command, value=0):
+        """One of the old commands of ethtool with one value, and the value that the kernel leaves there."""
+        both = ctypes.create_string_buffer(struct.pack("II", command, value), 8)
+        with self, socket.socket(socket.AF_INET, socket.SOCK_DGRAM) as any:
+            fcntl.ioctl(any, SIOCETHTOOL, struct.pack("16sP", device.encode(), ctypes.addressof(both)))
+        return struct.unpack("II", both.raw)[1]
 
     def start(self, command, **how):
         with self:

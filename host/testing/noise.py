@@ -1,6 +1,6 @@
 """noise.py SEED CENTRE SPARE ONE: floods the centre with datagrams that are to be refused, by every rule that can be broken from outside,
-until it is ended by SIGTERM; then it says how many there were. Run in the hop's namespace. CENTRE is the centre's locator, SPARE an address of its
-that is none, ONE a station's locator."""
+until it is ended by SIGTERM; then it says how many there were. Run in the hop's namespace. CENTRE is the centre's locator, SPARE an
+address of its that is none, ONE a station's locator."""
 import os
 import random
 import signal
