@@ -57,7 +57,7 @@ def options(command, no_file):
     for given, begin in (([*good, "--ttl", "0"], "--ttl: "), ([*good, "--ttle", "1"], "--ttle: "), ([*good, "--ttl"], "--ttl: "),
                          (["--config", str(no_file)], f"{no_file}: "), ([], "")):
         status, _, said = answer(command, "--check", *given)
-        expect(status == 2 and said.startswith("bogtrumpetd: " + begin), f"{given}: status 2, a line 'bogtrumpetd: {begin}'", (status, said))
+        expect(status == 2 and said.startswith("bogtrumpetd: " + begin), f"{given}: status 2, 'bogtrumpetd: {begin}'", (status, said))
     for given in ("--help", "--version"):
         status, said, _ = answer(command, given)
         expect(status == 0 and said, f"{given} answered", (status, said))

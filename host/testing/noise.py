@@ -93,7 +93,8 @@ def main():
     noise, sent, ended = Noise(*sys.argv[1:]), 0, []
     signal.signal(signal.SIGTERM, lambda *_: ended.append(True))
     raw = socket.socket(socket.AF_INET, socket.SOCK_RAW, socket.IPPROTO_RAW)
-    while not ended and os.getppid() != 1:
+    parent = os.getppid()
+    while not ended and os.getppid() == parent:
         for _ in range(BURST):
             for data in noise.chance.choice(noise.kinds)():
                 try:
