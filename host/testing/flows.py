@@ -144,6 +144,9 @@ class Wire:
             if direction != OUTGOING and device == self._device and data[9] == packets.TUNNELLED:
                 found.append(data)
 
+    def close(self):
+        self._socket.close()
+
 
 class Ledger:
     """All flows and observers of one network, and what went against: a packet that came twice, was changed, had another source, came to
@@ -151,7 +154,7 @@ class Ledger:
 
     def __init__(self):
         self.flows, self.wrong = [], []
-        self._observers, self._ending = [], threading.Event()
+        self._observers, self._wires, self._ending = [], [], threading.Event()
         self._selector = selectors.DefaultSelector()
         self._going = set()
         self._threads = [threading.Thread(target=work, daemon=True) for work in (self._observe, self._send)]
@@ -161,6 +164,10 @@ class Ledger:
         self._observers.append(made)
         self._selector.register(made.socket, selectors.EVENT_READ, made)
         return made
+
+    def wire(self, namespace, device):
+        self._wires.append(Wire(namespace, device))
+        return self._wires[-1]
 
     def flow(self, name, sender, source, path, destination, sizes=SIZES):
         made = Flow(len(self.flows), name, sender, source, path, destination, sizes)
@@ -243,5 +250,5 @@ class Ledger:
         for thread in self._threads:
             if thread.is_alive():
                 thread.join()
-        for one in (*self.flows, *self._observers):
+        for one in (*self.flows, *self._observers, *self._wires):
             one.close()
