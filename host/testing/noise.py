@@ -12,7 +12,7 @@ from pathlib import Path
 sys.path[0] = str(Path(__file__).resolve().parent.parent)
 sys.dont_write_bytecode = True
 
-from testing.packets import UDP, datagram, isatap, packet, size_report, v6  # noqa: E402
+from testing.packets import ADVERTISEMENT, SOLICITATION, UDP, datagram, icmpv6, isatap, packet, size_report, v6  # noqa: E402
 
 BURST, PAUSE = 100, 0.005
 ICMP = 1
@@ -24,7 +24,8 @@ class Noise:
         self.station, self.own = v6(isatap("fe80::", one)), v6(isatap("fe80::", centre))
         self.kinds = [self.bytes, self.stranger, self.other_station, self.bad_source, self.cut_off, self.options, self.wrong_address,
                       self.piece, self.crossing_pieces, self.long_piece, self.no_report, self.foreign_report, self.small_report,
-                      self.large_report]
+                      self.large_report, self.no_solicitation, self.global_solicitation, self.chain, self.no_advertisement,
+                      self.unlisted_advertisement]
 
     def outer(self):
         return f"10.77.{self.chance.randrange(256)}.{self.chance.randrange(1, 255)}"
@@ -69,6 +70,32 @@ class Noise:
 
     def long_piece(self):
         return self.to_centre(self.some(80) + b"x", flags=0x2000 | self.chance.randrange(250, 8000))
+
+    def neighbour(self, kind, body, prefix="fe80::", hops=255, ahead=b""):
+        """A message of neighbour discovery from one whose inner and outer source fit, behind extension headers where there are some."""
+        outer = self.outer()
+        message = icmpv6(v6(isatap(prefix, outer)), self.own, kind, body, hops)
+        if ahead:
+            message = packet(message[8:24], message[24:40], 60, ahead + message[40:], hops)
+        return [datagram(outer, self.centre, message)]
+
+    def no_solicitation(self):
+        return self.neighbour(SOLICITATION, bytes(4) + self.chance.choice((bytes([1, 0]), b"x", bytes([1, 2, 3]))))
+
+    def global_solicitation(self):
+        return self.neighbour(SOLICITATION, bytes(4), prefix="2001:db8:1::")
+
+    def chain(self):
+        """Extension headers whose lengths run past the packet or not, in front of a solicitation."""
+        lengths = [self.chance.choice((0, 0, 1, 255)) for _ in range(self.chance.randrange(1, 6))]
+        nexts = [60] * (len(lengths) - 1) + [58]
+        return self.neighbour(SOLICITATION, bytes(4), ahead=b"".join(bytes([n, length]) + bytes(6) for n, length in zip(nexts, lengths)))
+
+    def no_advertisement(self):
+        return self.neighbour(ADVERTISEMENT, bytes(12) + bytes([3, 0]) + self.some(40))
+
+    def unlisted_advertisement(self):
+        return self.neighbour(ADVERTISEMENT, bytes(12))
 
     def report(self, size, source, destination):
         quoted = datagram(source, destination, self.inner(self.own))
