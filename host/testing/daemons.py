@@ -7,7 +7,7 @@ import subprocess
 from pathlib import Path
 from signal import SIGTERM, SIGUSR1
 
-from .waiting import Failure, wait
+from .waiting import LIMIT, Failure, wait
 
 ROOT = Path(__file__).resolve().parent.parent.parent
 USER = pwd.getpwnam("nobody")
@@ -64,7 +64,8 @@ class Daemon:
 
     def _alive(self):
         if not self.running():
-            raise Failure(f"expected: a daemon that runs on {self.namespace.name}\nseen: status {self.process.returncode}")
+            status = self.process.returncode if self.process else "not started"
+            raise Failure(f"expected: a daemon that runs on {self.namespace.name}\nseen: {status}")
 
     def _carries(self, device):
         self._alive()
@@ -96,11 +97,11 @@ class Daemon:
     def reports(self, number):
         return self.counters()["node"].get("report", {}).get(str(number), 0)
 
-    def counters(self):
+    def counters(self, limit=LIMIT):
         """Those of a file that was written since the call."""
         before = self._stamp()
         self.signal(SIGUSR1)
-        wait(lambda: self._stamp() != before, "counters after SIGUSR1")
+        wait(lambda: self._stamp() != before, "counters after SIGUSR1", limit)
         return json.loads(self.json.read_text())
 
     def _stamp(self):
@@ -121,7 +122,11 @@ class Daemon:
         return {key: value.split() for key, _, value in (line.partition(":") for line in lines)}
 
     def remains(self):
-        """What is there to be read about it after a failure."""
+        """What is there to be read about it after a failure, with the last counters that can be had."""
+        try:
+            self.counters(limit=5)
+        except Failure:
+            pass
         log = "".join(line for line in self.words().splitlines(keepends=True) if not COUNTER.match(line))
         parts = {"configuration": self.config.read_text(), "log, without counters": log,
                  "counters": self.text.read_text() if self.text.exists() else "none\n"}

@@ -77,6 +77,34 @@ class Namespace:
         ip("netns", "del", self.name)
 
 
+def missing(run):
+    """Why no network can be made here, or None."""
+    if os.geteuid() != 0:
+        return "not root"
+    for name in ("ip", "ping"):
+        if not shutil.which(name):
+            return f"no {name}"
+    if not Path("/proc/sys/net/ipv6").is_dir():
+        return "no IPv6"
+    try:
+        os.close(os.open("/dev/net/tun", os.O_RDWR))
+    except OSError as error:
+        return f"/dev/net/tun: {error.strerror}"
+    return _no_namespace(run)
+
+
+def _no_namespace(run):
+    try:
+        probe = Namespace(run, "probe")
+        try:
+            probe.batch("tuntap add dev probe mode tun", "link add wan0 type veth peer name wan1")
+        finally:
+            probe.remove()
+    except OSError as error:
+        return "no namespace with a TUN and a veth device: " + " ".join(str(error).split())
+    return None
+
+
 class Guard:
     """A process that waits for the run's end, also by a signal that cannot be caught, and then ends what is left in the run's namespaces
     and removes them and its folder."""
