@@ -55,14 +55,24 @@ class Network:
             space.set("ipv4/conf/all/rp_filter", 0)
         self.centre.set("ipv6/conf/all/forwarding", 1)
         self.hop.set("ipv4/ip_forward", 1)
-        for link, (name, device, locator) in LINKS.items():
-            space = getattr(self, name)
-            space.batch(f"link add {device} type veth peer name {link} netns {self.hop.name}", f"link set {device} up",
-                        f"addr add {LOCATORS[locator]}/24 dev {device}")
-            self.hop.batch(f"link set {link} up", f"addr add {gateway(locator)}/24 dev {link}")
+        for link in LINKS:
+            self._link(link)
         self.centre.batch(f"link add lan type veth peer name lan0 netns {self.office.name}", "link set lan up",
                           "addr add 2001:db8:c::1/64 dev lan nodad")
         self.office.batch("link set lan0 up", f"addr add {OFFICE}/64 dev lan0 nodad", "route add default via 2001:db8:c::1")
+
+    def _link(self, link):
+        name, device, locator = LINKS[link]
+        getattr(self, name).batch(f"link add {device} type veth peer name {link} netns {self.hop.name}", f"link set {device} up",
+                                  f"addr add {LOCATORS[locator]}/24 dev {device}")
+        self.hop.batch(f"link set {link} up", f"addr add {gateway(locator)}/24 dev {link}")
+
+    def remake(self, link):
+        """A link goes, and comes back under the same names; the kernel has other numbers for them then."""
+        name, device, locator = LINKS[link]
+        getattr(self, name).batch(f"link del {device}")
+        self._link(link)
+        getattr(self, name).batch(f"route add default via {gateway(locator)}")
 
     def _routes(self):
         for name in ("one", "two", "centre"):
