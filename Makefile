@@ -4,8 +4,10 @@
 PREFIX = /usr/local
 DESTDIR =
 AR = ar
+CC = cc
 
 LIBRARY = target/staticlib/libbogtrumpet.a
+SHARED = target/staticlib/libbogtrumpet.so
 OBJECTS = target/staticlib/objects
 HEADER = include/bogtrumpet.h
 VERSION = $(shell sed -n 's/^.define BOGTRUMPET_VERSION "\(.*\)"$$/\1/p' $(HEADER))
@@ -28,6 +30,10 @@ $(LIBRARY): $(SOURCES)
 	cd $(OBJECTS)/rules && $(AR) x ../../libbogtrumpet_rules.a
 	rm target/staticlib/libbogtrumpet_rules.a
 	$(AR) rcsD $@ $(OBJECTS)/node/*.o $(OBJECTS)/rules/*.o
+
+# the archive as one shared object, for bogtrumpet-tool
+$(SHARED): $(LIBRARY)
+	$(CC) -shared -nostartfiles -Wl,--whole-archive $(LIBRARY) -Wl,--no-whole-archive -o $@
 
 bogtrumpet.pc: Makefile $(HEADER)
 	mkdir -p target

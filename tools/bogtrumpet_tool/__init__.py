@@ -1,0 +1,5 @@
+"""bogtrumpet-tool: what an operator needs around the proved programs and the proved library.
+
+Nothing here is proved. The tool judges no datagram and writes no packet: the programs `tunnel` and `replay` and the library do. It turns texts
+and captures into their inputs, and what the library wrote into a capture; tests/tool holds it against an independent model and tshark.
+"""

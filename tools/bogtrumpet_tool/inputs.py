@@ -1,0 +1,181 @@
+"""The inputs of the programs, byte for byte: `tunnel`'s (docs/RULES.md, R17) and `replay`'s (docs/REPLAY.md)."""
+from dataclasses import dataclass, field
+
+from .forms import Choice, Entry, Flags, Ipv4, Ipv6, Many, Number, Packet, Prefix, Reporting
+from .wrong import Wrong, counted
+
+LIMITS = {"program": 1 << 16, "replay": 1 << 20}
+READERS = {"program": "`tunnel`", "replay": "`replay`"}
+
+
+@dataclass(frozen=True)
+class Field:
+    """A value of a line. Without a default it must be given; one without a name is known by its place, in a text."""
+    name: str
+    form: object
+    default: object = None
+    placed: bool = False
+
+    @property
+    def many(self):
+        return isinstance(self.form, Many)
+
+
+BYTE, SHORT, LONG = Number(1), Number(2), Number(4)
+SERVICE, TIME = Field("service", Number(1, 1), 0), Field("time", LONG)
+INTERFACE, LOCATOR = Field("interface", BYTE, 0), Field("locator", BYTE, 0)
+
+
+def only(name, form):
+    return (Field(name, form, placed=True),)
+
+
+# The lists of a service's settings, and the settings with one value, which the program has not: in the order of the bytes
+LISTS = {"locator": (Field("address", Ipv4(), placed=True), INTERFACE), "prefix": only("prefix", Prefix()), "router": only("router", Ipv4())}
+SINGLE = {"link-size": (SHORT, 1500), "ttl": (BYTE, 64), "interval": (SHORT, 120), "identification": (SHORT, 1), "reporting": (Reporting(), None)}
+
+DATAGRAM = (INTERFACE, Field("bytes", Packet()))
+PREFIX, ROUTE = Entry(Flags("LA"), LONG, LONG), Entry(Choice("medium", "high", "low"), LONG)
+# The calls by kind; rooms default to what any call on accepted settings needs
+CALLS = {
+    1: ("receive", (SERVICE, INTERFACE, TIME, Field("memory", SHORT, 16384), Field("datagram", Packet()))),
+    2: ("send", (SERVICE, LOCATOR, TIME, Field("next-hop", Ipv6()), Field("room", SHORT, 9216), Field("packet", Packet()))),
+    3: ("report", (TIME, Field("message", Packet()))),
+    4: ("routers", (SERVICE, TIME, Field("router", Many(Ipv4())))),
+    5: ("ask", (SERVICE, LOCATOR, TIME, Field("room", SHORT, 48))),
+    6: ("advertisement", (SERVICE, TIME, Field("packet", Packet()))),
+    7: ("size", (SERVICE, Field("neighbour", Ipv4()))),
+    8: ("advertise", (SERVICE, LOCATOR, Field("room", SHORT, 504), Field("flags", Flags("MO"), 0), Field("lifetime", SHORT),
+                      Field("prefix", Many(PREFIX)), Field("route", Many(ROUTE)), Field("packet", Packet()))),
+    9: ("memory", (SERVICE,)),
+    10: ("part", (SERVICE, INTERFACE, Field("datagram", Packet()))),
+}
+KINDS = {name: kind for kind, (name, _) in CALLS.items()}
+
+
+@dataclass
+class Service:
+    """The settings of one service."""
+    lists: dict = field(default_factory=lambda: {name: [] for name in LISTS})
+    single: dict = field(default_factory=lambda: {name: default for name, (_, default) in SINGLE.items()})
+
+
+@dataclass
+class Input:
+    """An input of either program. Calls are (name, values by field); those of the program are datagrams."""
+    format: str
+    services: list
+    calls: list
+
+
+# ---- Writing
+
+def write_values(fields, values):
+    return b"".join(one.form.write(values[one.name]) for one in fields)
+
+
+def write_lists(service):
+    data = b""
+    for name, fields in LISTS.items():
+        rows = service.lists[name]
+        if len(rows) > 65535:
+            raise Wrong(f"{len(rows):,} lines of `{name}` where the format counts to 65,535")
+        data += len(rows).to_bytes(2, "big") + b"".join(write_values(fields, row) for row in rows)
+    return data
+
+
+def write_call(name, values):
+    if name == "datagram":
+        return write_values(DATAGRAM, values)
+    return bytes([KINDS[name]]) + write_values(CALLS[KINDS[name]][1], values)
+
+
+def write_start(given):
+    """What stands before the calls."""
+    if given.format == "program":
+        return write_lists(given.services[0]) + min(len(given.calls), 65535).to_bytes(2, "big")
+    data = bytes([len(given.services)])
+    for service in given.services:
+        data += write_lists(service) + b"".join(form.write(service.single[name]) for name, (form, _) in SINGLE.items())
+    return data
+
+
+def write(given):
+    """The bytes; at most what the program reads."""
+    parts = [write_start(given)] + [write_call(*call) for call in given.calls]
+    length = sum(map(len, parts))
+    if length > LIMITS[given.format]:
+        raise Wrong(f"the input would have {length:,} bytes; {READERS[given.format]} reads at most {LIMITS[given.format]:,}")
+    return b"".join(parts)
+
+
+# ---- Reading
+
+class Reader:
+    """The bytes of an input, from the front on. What is no input of the format ends it, with the place."""
+
+    def __init__(self, data, format):
+        self.data, self.format, self.place = data, format, 0
+
+    def bad(self, what, back=0):
+        raise Wrong(f"byte {self.place - back}: {what}: {READERS[self.format]} answers this input by `bad input`")
+
+    def take(self, count):
+        left = len(self.data) - self.place
+        if left < count:
+            self.bad(f"cut off, {counted(count, 'byte')} should stand here and {counted(left, 'does', 'do')}")
+        self.place += count
+        return self.data[self.place - count:self.place]
+
+    def number(self, width):
+        return int.from_bytes(self.take(width), "big")
+
+    def ended(self):
+        return self.place == len(self.data)
+
+    def values(self, fields):
+        return {one.name: one.form.read(self) for one in fields}
+
+    def lists(self):
+        return {name: [self.values(fields) for _ in range(self.number(2))] for name, fields in LISTS.items()}
+
+    def service(self):
+        return Service(self.lists(), {name: form.read(self) for name, (form, _) in SINGLE.items()})
+
+    def services(self):
+        count = self.number(1)
+        if count not in (1, 2):
+            self.bad(f"a number of services of {count}, neither 1 nor 2", 1)
+        return [self.service() for _ in range(count)]
+
+    def call(self):
+        kind = self.number(1)
+        if kind not in CALLS:
+            self.bad(f"a call of kind {kind}; there are 1 to {max(CALLS)}", 1)
+        name, fields = CALLS[kind]
+        return name, self.values(fields)
+
+
+def read(data, format):
+    if len(data) > LIMITS[format]:
+        raise Wrong(f"more than the {LIMITS[format]:,} bytes that {READERS[format]} reads, which answers this input by `bad input`")
+    reader = Reader(data, format)
+    if format == "replay":
+        services, calls = reader.services(), []
+        while not reader.ended():
+            calls.append(reader.call())
+        return Input(format, services, calls)
+    services = [Service(reader.lists())]
+    calls = [("datagram", reader.values(DATAGRAM)) for _ in range(reader.number(2))]
+    if not reader.ended():
+        reader.bad(f"{counted(len(data) - reader.place, 'byte')} behind the last datagram")
+    return Input(format, services, calls)
+
+
+def guessed(data):
+    """The format of bytes by the first one: the high half of the number of locators, or the number of services."""
+    if data[:1] == b"\0":
+        return "program"
+    if data[:1] in (b"\1", b"\2"):
+        return "replay"
+    raise Wrong("neither format starts so: say --program or --replay")
