@@ -41,11 +41,17 @@ bogtrumpet.pc: Makefile $(HEADER)
 	    'Description: ISATAP tunnel ends (RFC 5214), one or two in a box, proved' 'Version: $(VERSION)' 'Cflags: -I$${includedir}' \
 	    'Libs: -L$${libdir} -lbogtrumpet' > target/$@
 
-install: $(LIBRARY) bogtrumpet.pc
-	install -d $(DESTDIR)$(PREFIX)/include $(DESTDIR)$(PREFIX)/lib/pkgconfig
+# The shared object goes beside the tool's modules and not to lib/, where the linker would take it in the archive's place.
+install: $(LIBRARY) $(SHARED) bogtrumpet.pc
+	install -d $(DESTDIR)$(PREFIX)/include $(DESTDIR)$(PREFIX)/lib/pkgconfig $(DESTDIR)$(PREFIX)/lib/bogtrumpet/bogtrumpet_tool
+	install -d $(DESTDIR)$(PREFIX)/bin $(DESTDIR)$(PREFIX)/share/man/man1
 	install -m 644 $(HEADER) $(DESTDIR)$(PREFIX)/include/
 	install -m 644 $(LIBRARY) $(DESTDIR)$(PREFIX)/lib/
 	install -m 644 target/bogtrumpet.pc $(DESTDIR)$(PREFIX)/lib/pkgconfig/
+	install -m 755 tools/bogtrumpet-tool $(DESTDIR)$(PREFIX)/bin/
+	install -m 644 tools/bogtrumpet_tool/*.py $(DESTDIR)$(PREFIX)/lib/bogtrumpet/bogtrumpet_tool/
+	install -m 755 $(SHARED) $(DESTDIR)$(PREFIX)/lib/bogtrumpet/
+	install -m 644 tools/bogtrumpet-tool.1 $(DESTDIR)$(PREFIX)/share/man/man1/
 
 clean:
 	rm -rf target/staticlib target/bogtrumpet.pc

@@ -28,12 +28,9 @@ def shown_ipv6(address):
     """After RFC 5952; an ISATAP address, one with 00 00 5E FE or 02 00 5E FE in its middle, ends with the IPv4 address that it embeds."""
     isatap = address[8] in (0, 2) and address[9:12] == b"\x00\x5e\xfe"
     groups = [f"{address[place] << 8 | address[place + 1]:x}" for place in range(0, 12 if isatap else 16, 2)]
-    groups += [shown_ipv4(address[12:])] if isatap else []
-    runs = [(end - start, -start) for start in range(len(groups)) for end in range(start + 2, len(groups) + 1) if set(groups[start:end]) == {"0"}]
-    if not runs:
-        return ":".join(groups)
-    length, start = max(runs)
-    return ":".join(groups[:-start]) + "::" + ":".join(groups[-start + length:])
+    text = ":" + ":".join(groups) + (":" + shown_ipv4(address[12:]) if isatap else "") + ":"
+    zeros = max(re.findall(r"(?::0){2,}(?=:)", text), key=len, default=None)
+    return text.strip(":") if zeros is None else "::".join(part.strip(":") for part in text.split(zeros, 1))
 
 
 class Number:

@@ -1,0 +1,194 @@
+"""What is wrong is told with its place, in one line, with status 2 and no output; whatever comes, there is no traceback."""
+import os
+import random
+import subprocess
+
+from model import generator
+
+from . import captures, texts
+from .harness import ROOT, TOOL, check, given, refused, run, same, started
+
+P, R = "program\nlocator 10.0.0.1\n", "replay\nlocator 10.0.0.1\n"
+HOP = "next-hop=fe80::5efe:10.0.0.2"
+# Text, the line that is wrong, a part of what is said
+WRONG_TEXTS = [
+    ("locator 10.0.0.1\n", 1, "say --program or --replay"), ("program x\n", 1, "stands alone"), ("program\nprogram\n", 2, "first line"),
+    ("replay\nprogram\n", 2, "first line"), (P + "frob 1\n", 3, "`frob` is neither a setting (locator prefix router) nor a call (datagram)"),
+    (R + "datagram bytes=\n", 3, "`datagram` is neither"), (P + "send time=1\n", 3, "`send` is neither"), (P + "ttl 9\n", 3, "default for `ttl`"),
+    (P + "service 0\n", 3, "no line `service`"), (R + "service 2\n", 3, "no number from 0 to 1"), (R + "service 0\n", 3, "stands once"),
+    ("replay\nservice 1\nservice 1\n", 3, "stands once"), ("replay\nservice 0\nservice 0\n", 3, "stands once"), ("replay\nservice\n", 2, "needs NUMBER"),
+    (R + "memory\nrouter 10.0.0.2\n", 4, "before the first call"), (R + "memory\nservice 1\n", 4, "before the first call"), (R + "ttl 9\nttl 9\n", 4, "twice"),
+    (P + "locator\n", 3, "needs ADDRESS"), (P + "locator 10.0.0.256\n", 3, "no IPv4 address"), (P + "locator 10.0.1\n", 3, "no IPv4 address"),
+    (P + "locator ::1\n", 3, "no IPv4 address"), (P + "locator 10.0.0.2 interface=256\n", 3, "0 to 255"), (P + "locator 10.0.0.2 interface=-1\n", 3, "0 to 255"),
+    (P + "locator 10.0.0.2 interface=\n", 3, "0 to 255"), (P + "locator 10.0.0.2 10.0.0.3\n", 3, "`locator` has no `10.0.0.3`; it has ADDRESS interface=.."),
+    (P + "locator 10.0.0.2 interface=1 interface=1\n", 3, "twice"), (P + "locator address=10.0.0.2\n", 3, "has no `address=10.0.0.2`"),
+    (P + "prefix 2001:db8::\n", 3, "64 bits"), (P + "prefix 2001:db8::/63\n", 3, "64 bits"), (P + "prefix 2001:db8::1/64\n", 3, "64 bits"), (P + "prefix x/64\n", 3, "no IPv6 address"),
+    (R + "reporting fe80::1%1\n", 3, "no IPv6 address"), (R + "link-size 65536\n", 3, "65,535"), (R + "ttl 256\n", 3, "255"), (R + "interval 1e3\n", 3, "65,535"), (R + "identification ٣\n", 3, "65,535"),
+    (P + "datagram\n", 3, "needs bytes="), (P + "datagram bytes=4\n", 3, "`4` is no packet"), (P + "datagram bytes=4x\n", 3, "no packet"), (P + "datagram bytes=00+\n", 3, "no packet"),
+    (P + "datagram bytes=00*\n", 3, "no number"), (P + "datagram bytes=00*65536\n", 3, "no number from 0 to 65,535"), (P + "datagram bytes=00*65535+00\n", 3, "more than 65,535"),
+    (P + "datagram bytes=0000*65535\n", 3, "more than 65,535"), (P + "datagram bytes=@none\n", 3, "No such file"), (P + "datagram bytes=@.\n", 3, "directory"), (P + "datagram bytes=@/dev/zero\n", 3, "more than 65,535"),
+    (P + "datagram bytes=@a\0b\n", 3, "null"), (P + "datagram bytes=00 bytes=00\n", 3, "twice"), (P + "datagram 00\n", 3, "has no `00`"),
+    (R + "ask\n", 3, "needs time="), (R + "ask time=4294967296\n", 3, "4,294,967,295"), (R + "ask time=1 service=2\n", 3, "0 to 1"), (R + "ask time=1 locator=256\n", 3, "255"), (R + "ask time=1 room=65536\n", 3, "65,535"),
+    (R + f"send time=1 {HOP}\n", 3, "needs packet="), (R + "send time=1 packet=\n", 3, "needs next-hop="), (R + f"send time=1 {HOP} packet= hop=1\n", 3, "has no `hop=1`"),
+    (R + "send time=1 next-hop=10.0.0.2 packet=\n", 3, "no IPv6 address"), (R + "size\n", 3, "needs neighbour="), (R + "routers time=1 router=x\n", 3, "no IPv4 address"), (R + "report service=0 time=1 message=\n", 3, "has no `service=0`"),
+    (R + "advertise packet=\n", 3, "needs lifetime="), (R + "advertise lifetime=1 packet= flags=L\n", 3, "letters of MO"), (R + "advertise lifetime=1 packet= flags=MM\n", 3, "letters of MO"), (R + "advertise lifetime=1 packet= flags=0x100\n", 3, "255"),
+    (R + "advertise lifetime=1 packet= flags=\n", 3, "letters of MO"), (R + "advertise lifetime=1 packet= prefix=::/0\n", 3, "3 values"), (R + "advertise lifetime=1 packet= prefix=::,L,1,1\n", 3, "ADDRESS/LENGTH"), (R + "advertise lifetime=1 packet= prefix=::/256,L,1,1\n", 3, "255"),
+    (R + "advertise lifetime=1 packet= route=::/0,best,1\n", 3, "medium, high, low"), (R + "advertise lifetime=1 packet= route=::/0,low,4294967296\n", 3, "4,294,967,295"),
+]
+
+
+def wrong_texts(folder):
+    file = folder / "text"
+    for text, line, part in WRONG_TEXTS:
+        file.write_text(text)
+        refused(f"text {text!r}", run("encode", file), f"{file}:{line}: ", part)
+    file.write_bytes(b"program\nlocator 10.0.0.1 # \xff\n")
+    refused("not UTF-8", run("encode", file), f"{file}:2: not UTF-8")
+    file.write_text("")
+    refused("an empty text", run("encode", file), f"{file}: nothing stands here")
+    file.write_text(P)
+    refused("a text for the other program", run("encode", "--replay", file), f"{file}:1:", "for `program`, not for `replay`")
+    file.write_text(P + "datagram bytes=00*65520\n")
+    same("a text of 65,536 bytes", len(given("the longest text", run("encode", file))), 65536)
+    file.write_text(P + "datagram bytes=00*65521\n")
+    refused("a text of more", run("encode", file), f"{file}: the input would have 65,537 bytes", "65,536")
+    file.write_text(R + "part datagram=00*65535\n" * 16)
+    refused("a text of more for replay", run("encode", file), str(file), "1,048,576")
+    file.write_text("program\n" + "router 10.0.0.2\n" * 65536)
+    refused("more routers than can be counted", run("encode", file), str(file), "65,536 lines of `router`")
+    file.write_text(R + "routers time=1" + " router=10.0.0.2" * 65536)
+    refused("a longer list than can be counted", run("encode", file), str(file), "65,536 values")
+
+
+def wrong_words(folder):
+    text, none = folder / "text", folder / "none"
+    text.write_text(P)
+    capture = ROOT / "tools/examples/capture.pcap"
+    for words, part in (((), "COMMAND"), (("frob",), "invalid choice"), (("encode",), "TEXT"), (("encode", "--program", "--replay", text), "not allowed"), (("decode", "a", "b"), "unrecognized"),
+                        (("from-pcap", "--interface", "256", "--settings", text, capture), "0 to 255"), (("from-pcap", "--interface", "x", capture), "no number"), (("from-pcap", "--skip", "-1", capture), "no number"),
+                        (("from-pcap", "--count", "1_0", capture), "no number"), (("to-pcap", text), "OUT.pcap")):
+        status, out, err = run(*words)
+        check(f"words {words}", status == 2 and out == b"" and "usage:" in err and part in err and "Traceback" not in err, (status, out, err))
+    for words in (("encode", none), ("decode", none), ("from-pcap", "--settings", none, capture), ("from-pcap", "--settings", text, none), ("to-pcap", none, folder / "out")):
+        refused(f"no such file: {words[0]}", run(*words), str(none), "No such file")
+    for words in (("encode", folder), ("decode", folder), ("from-pcap", "--settings", text, folder), ("to-pcap", text, folder)):
+        refused(f"a folder: {words[0]}", run(*words), "directory" if words[0] != "to-pcap" else "for `program`")
+    refused("a name that no file has", run("encode", "a\0b"), "null")
+    refused("more than anything needs", run("encode", "/dev/zero"), "/dev/zero: more than")
+    refused("an input that starts as neither", run("decode", "-", stdin=b"\3"), "-: ", "say --program or --replay")
+    refused("an empty input", run("decode", "-"), "say --program or --replay")
+    refused("an empty input of the program", run("decode", "--program", "-"), "byte 0: cut off, 2 bytes should stand here and 0 do")
+    refused("no settings", run("from-pcap", capture), "--settings")
+    text.write_text(P + "datagram bytes=00\n")
+    refused("settings with a call", run("from-pcap", "--settings", text, capture), str(text), "settings alone")
+    text.write_text(R)
+    refused("settings for replay", run("from-pcap", "--settings", text, capture), f"{text}:1:")
+    text.write_text("program\n" + "router 10.0.0.2\n" * 20000)
+    refused("more settings than fit", run("from-pcap", "--settings", text, capture), str(text), "65,536")
+    for words in (("explain", "31"), ("explain", "-0"), ("explain", "1", "x"), ("explain", "٣"), ("explain", "0" * 5000)):
+        status, out, err = run(*words)
+        check(f"words {words[0]} {words[-1][:9]}", status == 2 and out == b"" and ("0 to 30" in err or "usage:" in err), (status, err))
+
+
+def streams(folder):
+    """The command itself, on streams that fail."""
+    stdin = ROOT / "crates/tunnel/stdin"
+    text = ROOT / "crates/tunnel/stdout"
+    with open("/dev/full", "wb") as full:
+        done = subprocess.run([TOOL, "decode", stdin], stdout=full, stderr=subprocess.PIPE)
+    check("a full disk", done.returncode == 2 and done.stderr == b"standard output: No space left on device\n", done)
+    reading, writing = os.pipe()
+    os.close(reading)
+    done = subprocess.run([TOOL, "decode", stdin], stdout=writing, stderr=subprocess.PIPE)
+    os.close(writing)
+    check("a reader that has gone", done.returncode == 2 and done.stderr == b"standard output: Broken pipe\n", done)
+    done = subprocess.run(["sh", "-c", f'"{TOOL}" decode "{stdin}" >&-'], stderr=subprocess.PIPE)
+    check("standard output closed", done.returncode == 2 and b"Traceback" not in done.stderr and b"standard output" in done.stderr, done)
+    done = subprocess.run(["sh", "-c", f'"{TOOL}" encode - <&-'], stdout=subprocess.PIPE, stderr=subprocess.PIPE)
+    check("standard input closed", done.returncode == 2 and b"Traceback" not in done.stderr and b"standard input" in done.stderr, done)
+    refused("the command's own refusal", started("encode", text), f"{text}:1:")
+    out = given("the command itself", started("decode", stdin))
+    same("the command itself, back", given("from standard input", started("encode", "-", stdin=out)), stdin.read_bytes())
+    for words in ((), ("encode",), ("decode",), ("from-pcap",), ("to-pcap",), ("explain",)):
+        status, out, err = run(*words, "--help")
+        check(f"help of {words}", status == 0 and err == "" and b"not proved" in out and b"usage: bogtrumpet-tool" in out, out)
+
+
+# ---- Whatever comes
+
+def bent(chooser, data, tokens):
+    """The bytes with a few changes."""
+    data = bytearray(data)
+    for _ in range(chooser.randint(1, 4)):
+        start = chooser.randrange(len(data) + 1)
+        end = min(len(data), start + chooser.choice((0, 1, 1, 2, 4, 20)))
+        data[start:end] = chooser.choice((b"", bytes(chooser.randrange(256) for _ in range(end - start)), chooser.choice(tokens), data[:chooser.randrange(9)]))
+    return bytes(data[:chooser.randrange(len(data) + 1)] if chooser.random() < 0.1 else data)
+
+
+def judged(what, result, data):
+    """Status 0, or 2 and then one line and no output."""
+    status, out, err = result
+    right = status == 0 or status == 2 and out == b"" and err.count("\n") == 1
+    check(what, right, (status, err, data[:300]))
+    return status == 0
+
+
+def any_text(chooser, rounds):
+    sources = [text.encode() for _, text, _ in texts.NORMAL] + [(ROOT / "tools/examples" / name).read_bytes() for name in ("worked.txt", "capture.txt")]
+    tokens = (b" ", b"\n", b"=", b"#", b"\xff", b"\0", b"*", b"+", b"@", b"@.", b"@/dev/null", b",", b"/", b":", b"service 1\n", b"packet=", b"99999", b"0x", b"-1", b"replay\n", "é".encode())
+    taken = 0
+    for _ in range(rounds):
+        data = bent(chooser, chooser.choice(sources), tokens)
+        result = run("encode", "-", stdin=data)
+        if judged("any text", result, data):
+            taken += 1
+            normal = given("any text, decoded", run("decode", "--replay" if b"replay" in data.split(b"program")[0] else "--program", "-", stdin=result[1]))
+            same("any text, its normal form says the same", run("encode", "-", stdin=normal)[1], result[1])
+    check("texts of both kinds came", 0.02 * rounds < taken < 0.9 * rounds, f"{taken} of {rounds} taken")
+
+
+def any_input(chooser, rounds):
+    taken = 0
+    for turn in range(rounds):
+        kind = chooser.choice(("program", "replay"))
+        source = generator.program_input(turn % 5) if kind == "program" else generator.generate(turn % 5, 8)
+        data = bent(chooser, source[:chooser.choice((60, 400, 3000))] if chooser.random() < 0.3 else source, (b"\0", b"\1", b"\xff\xff", b"\0\0"))
+        result = run("decode", texts.FLAG[kind], "-", stdin=data)
+        good = judged("any input", result, data)
+        check("any input, as the model judges it", good == (texts.modelled(kind, data) is not None), data[:300])
+        if good:
+            taken += 1
+            same("any input, back", run("encode", "-", stdin=result[1])[1], data)
+        if kind == "replay":
+            judged("any input, answered by the library", run("to-pcap", "-", "-", stdin=data), data)
+    check("inputs of both kinds came", 0.02 * rounds < taken < 0.95 * rounds, f"{taken} of {rounds} taken")
+
+
+def any_capture(chooser, rounds, folder):
+    frames = [(7, framed(captures.ONE), len(framed(captures.ONE))) for _, link, framed, _ in captures.LINKS if link == 1]
+    order = "<"
+    blocks = captures.section(order) + captures.interface(order, 1, options=((9, b"\6"), (14, bytes(8)))) + b"".join(
+        captures.enhanced(order, 5, one) + captures.simple(order, one) + captures.old(order, 5, one) for _, one, _ in frames)
+    sources = [captures.pcap(frames, 1), captures.pcap(frames, 1, ">", 0xA1B23C4D), blocks]
+    (folder / "settings").write_text(captures.SETTINGS)
+    taken = 0
+    for _ in range(rounds):
+        data = bent(chooser, chooser.choice(sources), (b"\0\0\0\0", b"\xff\xff\xff\xff", b"\x10\0\0\0", b"\x0a\x0d\x0d\x0a", b"\x81\0"))
+        words = chooser.choice(((), ("--all",), ("--partial",), ("--replay",), ("--text",)))
+        status, out, err = run("from-pcap", "--settings", folder / "settings" if "--replay" not in words else folder / "replay_settings", *words, "-", stdin=data)
+        right = status == 0 or status == 2 and out == b"" and err.count("\n") == 1
+        check("any capture", right and "Traceback" not in err, (status, err, data[:300]))
+        taken += status == 0
+    check("captures of both kinds came", 0.02 * rounds < taken < 0.95 * rounds, f"{taken} of {rounds} taken")
+
+
+def tests(folder):
+    wrong_texts(folder)
+    wrong_words(folder)
+    streams(folder)
+    (folder / "replay_settings").write_text(R)
+    chooser = random.Random(19)
+    any_text(chooser, 800)
+    any_input(chooser, 300)
+    any_capture(chooser, 800, folder)
