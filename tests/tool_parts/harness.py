@@ -1,4 +1,5 @@
 """Running the tool, in this process where many runs are needed, and counting what is checked."""
+import functools
 import io
 import subprocess
 import sys
@@ -12,6 +13,7 @@ sys.path.insert(1, str(ROOT / "tools"))
 
 from bogtrumpet_tool import main  # noqa: E402
 
+main.arguments = functools.lru_cache(None)(main.arguments)  # made once for all runs of this process
 checked, failures = 0, []
 
 
