@@ -12,9 +12,16 @@ BUILT = ROOT / "target" / "bin"
 sys.path.insert(1, str(ROOT / "tools"))
 
 from bogtrumpet_tool import main  # noqa: E402
+from model import named  # noqa: E402
 
 main.arguments = functools.lru_cache(None)(main.arguments)  # made once for all runs of this process
 checked, failures = 0, []
+
+
+@functools.lru_cache(None)
+def gate_inputs():
+    """Name, program and bytes of all that tests/compare runs."""
+    return list(named.gate_inputs())
 
 
 def check(what, right, detail=""):
@@ -27,7 +34,8 @@ def check(what, right, detail=""):
 
 
 def same(what, given, expected):
-    check(what, given == expected, f"expected {str(expected)[:250]!r}, given {str(given)[:250]!r}")
+    right = given == expected
+    check(what, right, "" if right else f"expected {str(expected)[:250]!r}, given {str(given)[:250]!r}")
 
 
 def run(*words, stdin=b""):

@@ -4,11 +4,11 @@ import shutil
 import struct
 import subprocess
 
-from model import formats, named
+from model import formats
 from model.node import Node
 from model.rules import Refused
 
-from .harness import ROOT, check, given, refused, run, same
+from .harness import ROOT, check, gate_inputs, given, refused, run, same
 
 from bogtrumpet_tool import library  # noqa: E402
 
@@ -113,7 +113,7 @@ def packets_of(data):
 def against_model(folder):
     """The packets of the library, by the tool, and those of the model."""
     compared = 0
-    for name, kind, data in named.gate_inputs():
+    for name, kind, data in gate_inputs():
         if kind != "replay" or name.startswith("bad") or len(data) > 100000:
             continue
         expected = modelled(data)

@@ -1,9 +1,10 @@
 """encode and decode: every input of the formats to a text and back, byte for byte, and what the text says against the independent model."""
+import functools
 import ipaddress
 
-from model import formats, named
+from model import formats
 
-from .harness import ROOT, check, given, refused, run, same
+from .harness import ROOT, check, gate_inputs, given, refused, run, same
 
 FLAG = {"program": "--program", "replay": "--replay"}
 
@@ -15,6 +16,7 @@ def octets(word):
     return b"".join(bytes.fromhex(digits) * int(times or 1) for digits, _, times in parts)
 
 
+@functools.lru_cache(None)
 def address(word):
     return ipaddress.ip_address(word).packed
 
@@ -195,6 +197,6 @@ def normal_forms(folder):
 def tests(folder):
     for one in stored():
         round_trip(*one, folder, without_flag=True)
-    for one in named.gate_inputs():
+    for one in gate_inputs():
         round_trip(*one, folder)
     normal_forms(folder)

@@ -8,9 +8,12 @@ LONGEST = 65535  # bytes of a packet, and entries of a list: lengths and counts 
 
 
 def parsed_number(word, most):
-    if not re.fullmatch(r"[0-9]{1,10}|0x[0-9a-fA-F]{1,8}", word) or int(word, 0 if word.startswith("0x") else 10) > most:
+    """Decimal, or hexadecimal behind 0x."""
+    shape = re.fullmatch(r"0x([0-9a-fA-F]{1,8})|([0-9]{1,10})", word)
+    value = shape and (int(shape[1], 16) if shape[1] else int(shape[2]))
+    if shape is None or value > most:
         raise Wrong(f"{named(word)} is no number from 0 to {most:,}")
-    return int(word, 0 if word.startswith("0x") else 10)
+    return value
 
 
 def parsed_address(word, family, kind):
@@ -139,7 +142,7 @@ class Flags:
             return sum(self.letters[letter] for letter in word)
         if word.startswith("0x"):
             return parsed_number(word, 255)
-        raise Wrong(f"{named(word)} is neither {'none'!r}, letters of {''.join(self.letters)} nor a number as 0xc0".replace("'", "`"))
+        raise Wrong(f"{named(word)} is neither `none`, letters of {''.join(self.letters)} nor a number as 0xc0")
 
     def show(self, value):
         if value & 0x3F:

@@ -10,7 +10,7 @@ READERS = {"program": "`tunnel`", "replay": "`replay`"}
 
 @dataclass(frozen=True)
 class Field:
-    """A value of a line. Without a default it must be given; one without a name is known by its place, in a text."""
+    """A value of a line. Without a default it must be given. In a text NAME=VALUE; one that is placed is the bare value."""
     name: str
     form: object
     default: object = None

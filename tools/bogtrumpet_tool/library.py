@@ -106,7 +106,7 @@ def advertisement_of(values):
                          values["lifetime"], values["flags"] & 0x80, values["flags"] & 0x40)
 
 
-class Ends:
+class Caller:
     """A node of the library, with a memory for each service."""
 
     def __init__(self, services):
@@ -117,7 +117,7 @@ class Ends:
             raise Wrong(f"the library refuses the settings, by {refused}: {TEXTS[refused]}")
 
     def call(self, name, values):
-        """What the call wrote, if it wrote something."""
+        """What the call wrote. A question for a size, a part and a memory write and change nothing."""
         out = (c_uint8 * values.get("room", 0))()
         length = getattr(self, name, lambda *_: 0)(values, out)
         return bytes(out[:length])
@@ -158,8 +158,8 @@ class Ends:
 
 def written(given):
     """The packets that the library writes for the calls of an input, each with the node's latest time."""
-    ends = Ends(given.services)
+    caller = Caller(given.services)
     for name, values in given.calls:
-        packet = ends.call(name, values)
+        packet = caller.call(name, values)
         if packet:
-            yield ends.node.latest, packet
+            yield caller.node.latest, packet

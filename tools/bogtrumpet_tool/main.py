@@ -1,6 +1,5 @@
 """The commands of bogtrumpet-tool."""
 import argparse
-import io
 import os
 import sys
 
@@ -147,7 +146,7 @@ def taken(given, room):
     found = Taken(given)
     with opened(given.capture) as file:
         try:
-            for frame in captures.frames(file if hasattr(file, "peek") else io.BufferedReader(file)):
+            for frame in captures.frames(file):
                 if found.full():
                     break
                 before = len(found.calls)

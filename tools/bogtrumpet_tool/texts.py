@@ -1,9 +1,8 @@
 """The text form of an input: a line for each setting and each call, in the order of the bytes."""
 from pathlib import Path
 
-from .forms import Packet
+from .forms import Number, Packet
 from .inputs import CALLS, DATAGRAM, KINDS, LISTS, SINGLE, Field, Input, Service
-from .forms import Number
 from .wrong import Wrong, named
 
 FORMATS = ("program", "replay")
@@ -115,17 +114,16 @@ class Text:
         self.set.add((len(self.services), name))
 
     def call(self, name, words):
-        known = {"program": ("datagram",), "replay": tuple(KINDS)}.get(self.format, ("datagram", *KINDS))
-        if name not in known:
-            settings = " ".join([*LISTS, *(() if self.format == "program" else ("service", *SINGLE))])
-            raise Wrong(f"{named(name)} is neither a setting ({settings}) nor a call ({' '.join(known)})")
+        settings, calls = (LISTS, ("datagram",)) if self.format == "program" else (("service", *LISTS, *SINGLE), KINDS)
+        if name not in calls:
+            raise Wrong(f"{named(name)} is neither a setting ({' '.join(settings)}) nor a call ({' '.join(calls)})")
         fields = DATAGRAM if name == "datagram" else CALLS[KINDS[name]][1]
         self.calls.append((name, values_of(name, words, fields, self.folder)))
 
 
-def read(data, file, format=None, folder=None):
+def read(data, file, format=None):
     """The input that a text says. Files that it names stand beside it."""
-    text = Text(format, Path(file).parent if folder is None else folder)
+    text = Text(format, Path(file).parent)
     for number, (name, *words) in lines_of(data, file):
         try:
             if text.format is None and name not in FORMATS:
