@@ -179,6 +179,9 @@ def short(captures):
               and "warning: 2 datagrams left out: fewer bytes were captured than came" in err, (status, err))
     status, out, err = captures.run(pcap([(1, UDP, len(UDP)), (1, SIX, len(SIX)), (1, ONE[:30], 99)], 101), "--skip", 1)
     check("nothing taken", (status, out) == (0, expected()) and "no datagram is taken of 3 packets: 1 without IPv4, 1 of another protocol than 41, 1 captured short" in err, err)
+    status, out, err = captures.run(pcap([(1, ONE[:9], len(ONE)), (1, ONE[:10], len(ONE)), (1, UDP[:10], len(UDP)), (1, ONE[:9], 9)], 101))
+    check("snapped before the protocol", (status, out) == (0, expected()) and "2 datagrams left out" in err
+          and "0 without IPv4, 2 of another protocol than 41, 2 captured short" in err, err)
     whole = pcap([(1, ONE, len(ONE)), (1, TWO, len(TWO))], 101)
     blocks = section("<") + interface("<", 101) + enhanced("<", 1, ONE) + enhanced("<", 1, TWO)
     for what, data, first in (("pcap", whole, 24 + 16 + len(ONE)), ("pcapng", blocks, len(blocks) - len(enhanced("<", 1, TWO)))):

@@ -7,35 +7,7 @@ from model import generator
 
 from . import captures, texts
 from .harness import ROOT, TOOL, check, given, refused, run, same, started
-
-P, R = "program\nlocator 10.0.0.1\n", "replay\nlocator 10.0.0.1\n"
-HOP = "next-hop=fe80::5efe:10.0.0.2"
-# Text, the line that is wrong, a part of what is said
-WRONG_TEXTS = [
-    ("locator 10.0.0.1\n", 1, "say --program or --replay"), ("program x\n", 1, "stands alone"), ("program\nprogram\n", 2, "first line"),
-    ("replay\nprogram\n", 2, "first line"), (P + "frob 1\n", 3, "`frob` is neither a setting (locator prefix router) nor a call (datagram)"),
-    (R + "datagram bytes=\n", 3, "`datagram` is neither"), (P + "send time=1\n", 3, "`send` is neither"), (P + "ttl 9\n", 3, "default for `ttl`"),
-    (P + "service 0\n", 3, "no line `service`"), (R + "service 2\n", 3, "no number from 0 to 1"), (R + "service 0\n", 3, "stands once"),
-    ("replay\nservice 1\nservice 1\n", 3, "stands once"), ("replay\nservice 0\nservice 0\n", 3, "stands once"), ("replay\nservice\n", 2, "needs NUMBER"),
-    (R + "memory\nrouter 10.0.0.2\n", 4, "before the first call"), (R + "memory\nservice 1\n", 4, "before the first call"), (R + "ttl 9\nttl 9\n", 4, "twice"),
-    (P + "locator\n", 3, "needs ADDRESS"), (P + "locator 10.0.0.256\n", 3, "no IPv4 address"), (P + "locator 10.0.1\n", 3, "no IPv4 address"),
-    (P + "locator ::1\n", 3, "no IPv4 address"), (P + "locator 10.0.0.2 interface=256\n", 3, "0 to 255"), (P + "locator 10.0.0.2 interface=-1\n", 3, "0 to 255"),
-    (P + "locator 10.0.0.2 interface=\n", 3, "0 to 255"), (P + "locator 10.0.0.2 10.0.0.3\n", 3, "`locator` has no `10.0.0.3`; it has ADDRESS interface=.."),
-    (P + "locator 10.0.0.2 interface=1 interface=1\n", 3, "twice"), (P + "locator address=10.0.0.2\n", 3, "has no `address=10.0.0.2`"),
-    (P + "prefix 2001:db8::\n", 3, "64 bits"), (P + "prefix 2001:db8::/63\n", 3, "64 bits"), (P + "prefix 2001:db8::1/64\n", 3, "64 bits"), (P + "prefix x/64\n", 3, "no IPv6 address"),
-    (R + "reporting fe80::1%1\n", 3, "no IPv6 address"), (R + "link-size 65536\n", 3, "65,535"), (R + "ttl 256\n", 3, "255"), (R + "interval 1e3\n", 3, "65,535"), (R + "identification ٣\n", 3, "65,535"),
-    (P + "datagram\n", 3, "needs bytes="), (P + "datagram bytes=4\n", 3, "`4` is no packet"), (P + "datagram bytes=4x\n", 3, "no packet"), (P + "datagram bytes=00+\n", 3, "no packet"),
-    (P + "datagram bytes=00*\n", 3, "no number"), (P + "datagram bytes=00*65536\n", 3, "no number from 0 to 65,535"), (P + "datagram bytes=00*65535+00\n", 3, "more than 65,535"),
-    (P + "datagram bytes=0000*65535\n", 3, "more than 65,535"), (P + "datagram bytes=@none\n", 3, "No such file"), (P + "datagram bytes=@.\n", 3, "directory"), (P + "datagram bytes=@/dev/zero\n", 3, "more than 65,535"),
-    (P + "datagram bytes=@a\0b\n", 3, "null"), (P + "datagram bytes=00 bytes=00\n", 3, "twice"), (P + "datagram 00\n", 3, "has no `00`"),
-    (R + "ask\n", 3, "needs time="), (R + "ask time=4294967296\n", 3, "4,294,967,295"), (R + "ask time=1 service=2\n", 3, "0 to 1"), (R + "ask time=1 locator=256\n", 3, "255"), (R + "ask time=1 room=65536\n", 3, "65,535"),
-    (R + f"send time=1 {HOP}\n", 3, "needs packet="), (R + "send time=1 packet=\n", 3, "needs next-hop="), (R + f"send time=1 {HOP} packet= hop=1\n", 3, "has no `hop=1`"),
-    (R + "send time=1 next-hop=10.0.0.2 packet=\n", 3, "no IPv6 address"), (R + "size\n", 3, "needs neighbour="), (R + "routers time=1 router=x\n", 3, "no IPv4 address"), (R + "report service=0 time=1 message=\n", 3, "has no `service=0`"),
-    (R + "advertise packet=\n", 3, "needs lifetime="), (R + "advertise lifetime=1 packet= flags=L\n", 3, "letters of MO"), (R + "advertise lifetime=1 packet= flags=MM\n", 3, "letters of MO"), (R + "advertise lifetime=1 packet= flags=0x100\n", 3, "255"),
-    (R + "advertise lifetime=1 packet= flags=\n", 3, "letters of MO"), (R + "advertise lifetime=1 packet= prefix=::/0\n", 3, "3 values"), (R + "advertise lifetime=1 packet= prefix=::,L,1,1\n", 3, "ADDRESS/LENGTH"), (R + "advertise lifetime=1 packet= prefix=::/256,L,1,1\n", 3, "255"),
-    (R + "advertise lifetime=1 packet= route=::/0,best,1\n", 3, "medium, high, low"), (R + "advertise lifetime=1 packet= route=::/0,low,4294967296\n", 3, "4,294,967,295"),
-]
-
+from .wrong_texts import WRONG_TEXTS, P, R
 
 def wrong_texts(folder):
     file = folder / "text"

@@ -1,7 +1,7 @@
-"""The forms of single values: each reads and writes its bytes (big-endian), and parses and shows its text."""
+"""The forms of values: each reads and writes its bytes (big-endian), and parses and shows its text."""
 import re
-import socket
 
+from .addresses import parsed_ipv4, parsed_ipv6, parsed_prefix, shown_ipv4, shown_ipv6, shown_prefix
 from .wrong import Wrong, counted, named
 
 LONGEST = 65535  # bytes of a packet, and entries of a list: lengths and counts have two bytes
@@ -16,27 +16,9 @@ def parsed_number(word, most):
     return value
 
 
-def parsed_address(word, family, kind):
-    try:
-        return socket.inet_pton(family, word)
-    except (OSError, ValueError):
-        raise Wrong(f"{named(word)} is no {kind} address") from None
-
-
-def shown_ipv4(address):
-    return ".".join(map(str, address))
-
-
-def shown_ipv6(address):
-    """After RFC 5952; an ISATAP address, one with 00 00 5E FE or 02 00 5E FE in its middle, ends with the IPv4 address that it embeds."""
-    isatap = address[8] in (0, 2) and address[9:12] == b"\x00\x5e\xfe"
-    groups = [f"{address[place] << 8 | address[place + 1]:x}" for place in range(0, 12 if isatap else 16, 2)]
-    text = ":" + ":".join(groups) + (":" + shown_ipv4(address[12:]) if isatap else "") + ":"
-    zeros = max(re.findall(r"(?::0){2,}(?=:)", text), key=len, default=None)
-    return text.strip(":") if zeros is None else "::".join(part.strip(":") for part in text.split(zeros, 1))
-
-
 class Number:
+    """A number of so many bytes."""
+
     def __init__(self, width, most=None):
         self.width, self.most = width, (1 << 8 * width) - 1 if most is None else most
 
@@ -56,84 +38,12 @@ class Number:
         return str(value)
 
 
-class Ipv4:
-    def read(self, reader):
-        return reader.take(4)
-
-    def write(self, value):
-        return value
-
-    def parse(self, word):
-        return parsed_address(word, socket.AF_INET, "IPv4")
-
-    def show(self, value):
-        return shown_ipv4(value)
-
-
-class Ipv6:
-    def read(self, reader):
-        return reader.take(16)
-
-    def write(self, value):
-        return value
-
-    def parse(self, word):
-        return parsed_address(word, socket.AF_INET6, "IPv6")
-
-    def show(self, value):
-        return shown_ipv6(value)
-
-
-class Prefix:
-    """An on-link prefix: 64 bits."""
-
-    def read(self, reader):
-        return reader.take(8)
-
-    def write(self, value):
-        return value
-
-    def parse(self, word):
-        address, slash, length = word.partition("/")
-        value = parsed_address(address, socket.AF_INET6, "IPv6")
-        if not slash or length != "64" or any(value[8:]):
-            raise Wrong(f"{named(word)} is no prefix of 64 bits, as 2001:db8:0:1::/64")
-        return value[:8]
-
-    def show(self, value):
-        return shown_ipv6(value + bytes(8)) + "/64"
-
-
-class Reporting:
-    """The reporting address: a flag, and behind 1 an address; None is the default."""
-
-    def read(self, reader):
-        flag = reader.number(1)
-        if flag > 1:
-            reader.bad(f"a reporting flag of {flag}, neither 0 nor 1", 1)
-        return reader.take(16) if flag else None
-
-    def write(self, value):
-        return b"\0" if value is None else b"\1" + value
-
-    def parse(self, word):
-        return None if word == "default" else parsed_address(word, socket.AF_INET6, "IPv6")
-
-    def show(self, value):
-        return "default" if value is None else shown_ipv6(value)
-
-
-class Flags:
+class Flags(Number):
     """A byte of which two bits have letters; the others are not looked at, but kept: such a byte is shown as a number."""
 
     def __init__(self, letters):
+        super().__init__(1)
         self.letters = dict(zip(letters, (0x80, 0x40)))
-
-    def read(self, reader):
-        return reader.number(1)
-
-    def write(self, value):
-        return bytes([value])
 
     def parse(self, word):
         if word == "none":
@@ -141,7 +51,7 @@ class Flags:
         if word and len(set(word)) == len(word) and set(word) <= set(self.letters):
             return sum(self.letters[letter] for letter in word)
         if word.startswith("0x"):
-            return parsed_number(word, 255)
+            return super().parse(word)
         raise Wrong(f"{named(word)} is neither `none`, letters of {''.join(self.letters)} nor a number as 0xc0")
 
     def show(self, value):
@@ -150,20 +60,12 @@ class Flags:
         return "".join(letter for letter, bit in self.letters.items() if value & bit) or "none"
 
 
-class Choice:
+class Choice(Number):
     """A byte that stands for a word."""
 
     def __init__(self, *words):
+        super().__init__(1, len(words) - 1)
         self.words = words
-
-    def read(self, reader):
-        value = reader.number(1)
-        if value >= len(self.words):
-            reader.bad(f"a preference of {value} where {len(self.words) - 1} is the most", 1)
-        return value
-
-    def write(self, value):
-        return bytes([value])
 
     def parse(self, word):
         if word not in self.words:
@@ -174,6 +76,39 @@ class Choice:
         return self.words[value]
 
 
+class Octets:
+    """So many bytes, whose text has functions of its own."""
+
+    def __init__(self, width, parse, show):
+        self.width, self.parse, self.show = width, parse, show
+
+    def read(self, reader):
+        return reader.take(self.width)
+
+    def write(self, value):
+        return value
+
+
+IPV4, IPV6 = Octets(4, parsed_ipv4, shown_ipv4), Octets(16, parsed_ipv6, shown_ipv6)
+ON_LINK_PREFIX = Octets(8, parsed_prefix, shown_prefix)
+
+
+class Reporting:
+    """The reporting address: a flag, and behind 1 an address; None is the default."""
+
+    def read(self, reader):
+        return IPV6.read(reader) if Number(1, 1).read(reader) else None
+
+    def write(self, value):
+        return b"\0" if value is None else b"\1" + value
+
+    def parse(self, word):
+        return None if word == "default" else IPV6.parse(word)
+
+    def show(self, value):
+        return "default" if value is None else IPV6.show(value)
+
+
 class Entry:
     """What an advertisement names: prefix length, parts and prefix; in a text ADDRESS/LENGTH and the parts, with commas between."""
 
@@ -181,8 +116,8 @@ class Entry:
         self.parts = parts
 
     def read(self, reader):
-        length, *parts = [reader.number(1)] + [part.read(reader) for part in self.parts]
-        return (reader.take(16), length, *parts)
+        length, *parts = [form.read(reader) for form in (Number(1), *self.parts)]
+        return (IPV6.read(reader), length, *parts)
 
     def write(self, value):
         address, length, *parts = value
@@ -193,12 +128,11 @@ class Entry:
         address, slash, length = first.partition("/")
         if not slash or len(parts) != len(self.parts):
             raise Wrong(f"{named(word)} is not ADDRESS/LENGTH and {len(self.parts)} values, with commas between")
-        address = parsed_address(address, socket.AF_INET6, "IPv6")
-        return (address, parsed_number(length, 255), *(form.parse(part) for form, part in zip(self.parts, parts)))
+        return (IPV6.parse(address), parsed_number(length, 255), *(form.parse(part) for form, part in zip(self.parts, parts)))
 
     def show(self, value):
         address, length, *parts = value
-        return ",".join([f"{shown_ipv6(address)}/{length}"] + [form.show(part) for form, part in zip(self.parts, parts)])
+        return ",".join([f"{IPV6.show(address)}/{length}"] + [form.show(part) for form, part in zip(self.parts, parts)])
 
 
 class Many:

@@ -1,72 +1,15 @@
 """The commands of bogtrumpet-tool."""
 import argparse
-import os
 import sys
 
-from . import captures, inputs, links, texts
+from . import captures, inputs, texts
 from .numbers import NUMBERS, explained
-from .wrong import Wrong, counted, named
+from .streams import about, content, put, put_lines
+from .taking import taken
+from .wrong import Wrong, named
 
 TOOL = "bogtrumpet-tool"
 NOT_PROVED = "The tool itself is not proved: it judges nothing, but turns texts and captures into inputs of the proved programs."
-
-
-# ---- Streams
-
-def opened(file):
-    try:
-        if file == "-" and sys.stdin is None:
-            raise Wrong("standard input is closed")
-        return sys.stdin.buffer if file == "-" else open(file, "rb")
-    except (OSError, ValueError) as error:
-        raise about(file, told(error)) from None
-
-
-def content(file, most=64 << 20):
-    """All bytes of a file, `-` being standard input."""
-    try:
-        with opened(file) as stream:
-            data = stream.read(most + 1)
-    except OSError as error:
-        raise about(file, told(error)) from None
-    if len(data) > most:
-        raise about(file, f"more than {counted(most, 'byte')}")
-    return data
-
-
-def put(data, file="-"):
-    """Writes all of the output at once, to a file or standard output."""
-    if file == "-" and sys.stdout is None:
-        raise Wrong("standard output is closed")
-    try:
-        if file == "-":
-            sys.stdout.buffer.write(data)
-            sys.stdout.buffer.flush()
-        else:
-            with open(file, "wb") as stream:
-                stream.write(data)
-    except (OSError, ValueError) as error:
-        if file == "-":  # what is left in the buffer is not tried again at the end
-            os.dup2(os.open(os.devnull, os.O_WRONLY), 1)
-        raise about("standard output" if file == "-" else file, told(error)) from None
-
-
-def put_lines(lines):
-    put("".join(line + "\n" for line in lines).encode())
-
-
-def warn(file, text):
-    print(f"{file}: warning: {text}", file=sys.stderr)
-
-
-def about(file, wrong):
-    """The same, said of a file."""
-    return Wrong(f"{file}: {wrong}")
-
-
-def told(error):
-    """What the system, or Python, says of a file that it cannot read or write."""
-    return getattr(error, "strerror", None) or error
 
 
 # ---- encode and decode
@@ -92,78 +35,6 @@ def decode(given):
 
 
 # ---- from-pcap
-
-class Taken:
-    """What is taken of a capture, and how many of its packets were left out, and why."""
-
-    def __init__(self, given):
-        self.given, self.calls, self.frames = given, [], []
-        self.seen = self.other = self.protocols = self.snapped = self.skipped = 0
-        self.time = 0
-
-    def full(self):
-        return self.given.count is not None and len(self.calls) >= self.given.count
-
-    def frame(self, frame):
-        self.seen += 1
-        datagram = links.datagram(frame)
-        if datagram is None:
-            self.other += 1
-        elif not self.given.all and datagram[9:10] != b"\x29":
-            self.protocols += 1
-        elif frame.snapped:
-            self.snapped += 1
-        elif self.skipped < self.given.skip:
-            self.skipped += 1
-        else:
-            self.take(frame, datagram)
-
-    def take(self, frame, datagram):
-        interface = frame.interface if self.given.interface is None else self.given.interface
-        if interface > 255:
-            raise Wrong(f"packet {frame.number} came by interface {interface}; arrival interfaces are 0 to 255: say which by --interface")
-        if len(datagram) > 65535:
-            raise Wrong(f"packet {frame.number} has {len(datagram):,} bytes; a datagram has at most 65,535")
-        self.time = self.time if frame.time is None else frame.time
-        if self.given.format == "replay" and not 0 <= self.time < 1 << 32:
-            raise Wrong(f"packet {frame.number} has time {self.time}, which is no 32-bit count of seconds")
-        self.frames.append(frame.number)
-        if self.given.format == "replay":
-            self.calls.append(("receive", {"service": 0, "interface": interface, "time": self.time, "memory": 16384, "datagram": datagram}))
-        else:
-            self.calls.append(("datagram", {"interface": interface, "bytes": datagram}))
-
-    def warnings(self):
-        if self.snapped:
-            warn(self.given.capture, f"{counted(self.snapped, 'datagram')} left out: fewer bytes were captured than came")
-        if not self.calls:
-            warn(self.given.capture, f"no datagram is taken of {counted(self.seen, 'packet')}: {self.other} without IPv4, "
-                 f"{self.protocols} of another protocol than 41, {self.snapped} captured short, {self.skipped} skipped")
-
-
-def taken(given, room):
-    """The datagrams of a capture, as many as there is room for."""
-    found = Taken(given)
-    with opened(given.capture) as file:
-        try:
-            for frame in captures.frames(file):
-                if found.full():
-                    break
-                before = len(found.calls)
-                found.frame(frame)
-                room -= sum(len(inputs.write_call(*call)) for call in found.calls[before:])
-                if room < 0:
-                    raise Wrong(f"more than fits into the {inputs.LIMITS[given.format]:,} bytes that {inputs.READERS[given.format]} reads: of the "
-                                f"datagrams behind the first {given.skip:,} there is room for {before:,}; take a part by --skip and --count")
-        except captures.CutOff as cut:
-            if not given.partial:
-                raise about(given.capture, f"{cut}; --partial takes what stands before that") from None
-            warn(given.capture, f"{cut}; what stands before that is taken")
-        except (Wrong, OSError) as wrong:
-            raise about(given.capture, told(wrong)) from None
-    found.warnings()
-    return found
-
 
 def settings(given):
     """What stands before the datagrams, and how many bytes it takes."""

@@ -1,13 +1,14 @@
 """The text form of an input: a line for each setting and each call, in the order of the bytes."""
 from pathlib import Path
 
+from .fields import CALLS, DATAGRAM, KINDS, LISTS, SINGLE, only
 from .forms import Number, Packet
-from .inputs import CALLS, DATAGRAM, KINDS, LISTS, SINGLE, Field, Input, Service
+from .inputs import Input, Service
 from .wrong import Wrong, named
 
 FORMATS = ("program", "replay")
-SERVICE_LINE = (Field("number", Number(1, 1), placed=True),)
-SINGLE_LINES = {name: (Field(name, form, placed=True),) for name, (form, _) in SINGLE.items()}
+SERVICE_LINE = only("number", Number(1, 1))
+SINGLE_LINES = {name: only(name, form) for name, (form, _) in SINGLE.items()}
 
 
 # ---- Reading
