@@ -125,15 +125,18 @@ def link_types(captures):
                 captures.gives(f"{name}, pcap, {ORDERS[order]}, {magic:x}", pcap(timed, link, order, magic), [(0, ONE), (0, TWO)])
             captures.gives(f"{name}, pcap, all of IPv4", pcap(timed, link, order), [(0, ONE), (0, UDP), (0, TWO)], "--all")
             start = section(order) + interface(order, link)
-            for kind, write in (("enhanced", lambda one: enhanced(order, 5, one)), ("simple", lambda one: simple(order, one)), ("old", lambda one: old(order, 5, one))):
-                captures.gives(f"{name}, pcapng, {kind}, {ORDERS[order]}", start + b"".join(map(write, frames)), [(0, ONE), (0, TWO)])
+            for kind, blocks in (("enhanced", [enhanced(order, 5, one) for one in frames]), ("simple", [simple(order, one) for one in frames]),
+                                 ("old", [old(order, 5, one) for one in frames])):
+                captures.gives(f"{name}, pcapng, {kind}, {ORDERS[order]}", start + b"".join(blocks), [(0, ONE), (0, TWO)])
 
 
 def sections(captures):
     """Interfaces, sections in both orders, blocks that are passed over, options."""
     mixed = b"".join((
-        section("<", options=struct.pack("<HH4sHH", 4, 4, b"tool", 0, 0)), interface("<", 1), interface("<", 101, options=((2, b"tun0"), (9, b"\x09"))), block("<", 5, bytes(12)), interface("<", 113), interface("<", 228),
-        enhanced("<", 1, ONE, place=1, options=struct.pack("<HHIHH", 2, 4, 1, 0, 0)), block("<", 0x0BAD, b"none"), enhanced("<", 1, ONE, place=3), enhanced("<", 1, ether(0x0800, TWO)),
+        section("<", options=struct.pack("<HH4sHH", 4, 4, b"tool", 0, 0)), interface("<", 1),
+        interface("<", 101, options=((2, b"tun0"), (9, b"\x09"))), block("<", 5, bytes(12)), interface("<", 113), interface("<", 228),
+        enhanced("<", 1, ONE, place=1, options=struct.pack("<HHIHH", 2, 4, 1, 0, 0)), block("<", 0x0BAD, b"none"),
+        enhanced("<", 1, ONE, place=3), enhanced("<", 1, ether(0x0800, TWO)),
         section(">"), interface(">", 0), old(">", 1, b"\0\0\0\2" + ONE), enhanced(">", 1, b"\0\0\0\2" + UDP)))
     captures.gives("sections and interfaces", mixed, [(1, ONE), (3, ONE), (0, TWO), (0, ONE)])
     captures.gives("one interface for all", mixed, [(9, ONE), (9, ONE), (9, TWO), (9, ONE), (9, UDP)], "--interface", 9, "--all")
@@ -171,14 +174,16 @@ def times(captures):
 def short(captures):
     """Snapped packets, and captures that are cut off."""
     snapped = [(1, ONE, len(ONE)), (1, ONE[:40], len(ONE)), (1, UDP[:20], 99), (1, TWO, len(TWO) + 1)]
-    for what, data in (("pcap", pcap(snapped, 101)), ("enhanced", section("<") + interface("<", 101) + b"".join(enhanced("<", 1, one, size) for _, one, size in snapped)),
-                       ("simple", section("<") + interface("<", 101, 63) + simple("<", ONE[:63], 63) + simple("<", ONE[:63], 64) + simple("<", TWO[:63], len(TWO)))):
+    blocks = section("<") + interface("<", 101) + b"".join(enhanced("<", 1, one, size) for _, one, size in snapped)
+    simples = section("<") + interface("<", 101, 63) + simple("<", ONE[:63], 63) + simple("<", ONE[:63], 64) + simple("<", TWO[:63], len(TWO))
+    for what, data in (("pcap", pcap(snapped, 101)), ("enhanced", blocks), ("simple", simples)):
         status, out, err = captures.run(data)
         taken = ONE[:63] if what == "simple" else ONE
         check(f"snapped packets of {what}", (status, out) == (0, expected((0, taken))) and err.count("\n") == 1
               and "warning: 2 datagrams left out: fewer bytes were captured than came" in err, (status, err))
     status, out, err = captures.run(pcap([(1, UDP, len(UDP)), (1, SIX, len(SIX)), (1, ONE[:30], 99)], 101), "--skip", 1)
-    check("nothing taken", (status, out) == (0, expected()) and "no datagram is taken of 3 packets: 1 without IPv4, 1 of another protocol than 41, 1 captured short" in err, err)
+    check("nothing taken", (status, out) == (0, expected())
+          and "no datagram is taken of 3 packets: 1 without IPv4, 1 of another protocol than 41, 1 captured short" in err, err)
     status, out, err = captures.run(pcap([(1, ONE[:9], len(ONE)), (1, ONE[:10], len(ONE)), (1, UDP[:10], len(UDP)), (1, ONE[:9], 9)], 101))
     check("snapped before the protocol", (status, out) == (0, expected()) and "2 datagrams left out" in err
           and "0 without IPv4, 2 of another protocol than 41, 2 captured short" in err, err)
@@ -205,21 +210,29 @@ def limits(captures):
     refused("a datagram of 65,536 bytes", captures.run(long), "packet 1 has 65,536 bytes")
 
 
+START = section("<") + interface("<", 101)
 MALFORMED = {
-    "empty": (b"", "cut off"), "no capture": (b"what is this", "neither pcap nor pcapng"), "gzip": (b"\x1f\x8b\x08\0\0", "gzip"),
-    "version 3": (pcap([], 101, version=(3, 0)), "version 3"), "a modified pcap": (struct.pack("<I", 0xA1B2CD34) + bytes(60), "neither pcap nor pcapng"),
+    "empty": (b"", "cut off"),
+    "no capture": (b"what is this", "neither pcap nor pcapng"),
+    "gzip": (b"\x1f\x8b\x08\0\0", "gzip"),
+    "version 3": (pcap([], 101, version=(3, 0)), "version 3"),
+    "a modified pcap": (struct.pack("<I", 0xA1B2CD34) + bytes(60), "neither pcap nor pcapng"),
     "another link": (pcap([(0, ONE, len(ONE))], 127), "link type 127"),
     "a long packet": (pcap([], 101) + struct.pack("<IIII", 0, 0, 262145, 262145) + bytes(262145), "262,145 bytes"),
     "no order": (struct.pack("<III", 0x0A0D0D0A, 28, 0) + bytes(16), "byte order"),
-    "section version 2": (section("<", 2), "version"), "a short section": (block("<", 0x0A0D0D0A, struct.pack("<IHH", 0x1A2B3C4D, 1, 0)), "version"),
-    "a block of 13": (section("<") + struct.pack("<II", 5, 13) + bytes(5), "a block of 13 bytes"), "a block of 8": (section("<") + struct.pack("<II", 5, 8), "a block of 8"),
+    "section version 2": (section("<", 2), "version"),
+    "a short section": (block("<", 0x0A0D0D0A, struct.pack("<IHH", 0x1A2B3C4D, 1, 0)), "version"),
+    "a block of 13": (section("<") + struct.pack("<II", 5, 13) + bytes(5), "a block of 13 bytes"),
+    "a block of 8": (section("<") + struct.pack("<II", 5, 8), "a block of 8"),
     "a block of 16 MiB": (section("<") + struct.pack("<II", 5, (1 << 24) + 4) + bytes(9), "a block of 16,777,220"),
     "two lengths": (section("<") + struct.pack("<II", 5, 16) + bytes(4) + struct.pack("<I", 20), "two lengths"),
-    "a short interface": (section("<") + block("<", 1, bytes(4)), "interface block"), "no interface": (section("<") + enhanced("<", 0, ONE), "interface 0"),
-    "interface of another section": (section("<") + interface("<", 101) + section("<") + simple("<", ONE), "interface 0"),
-    "a short block": (section("<") + interface("<", 101) + block("<", 6, bytes(16)), "too short"), "a short simple block": (section("<") + interface("<", 101) + block("<", 3, b""), "too short"),
-    "more than its block": (section("<") + interface("<", 101) + block("<", 6, struct.pack("<IIIII", 0, 0, 0, 64, 64) + bytes(60)), "room for 60"),
-    "a simple one, more than its block": (section("<") + interface("<", 101) + block("<", 3, struct.pack("<I", 64) + bytes(60)), "room for 60"),
+    "a short interface": (section("<") + block("<", 1, bytes(4)), "interface block"),
+    "no interface": (section("<") + enhanced("<", 0, ONE), "interface 0"),
+    "interface of another section": (START + section("<") + simple("<", ONE), "interface 0"),
+    "a short block": (START + block("<", 6, bytes(16)), "too short"),
+    "a short simple block": (START + block("<", 3, b""), "too short"),
+    "more than its block": (START + block("<", 6, struct.pack("<IIIII", 0, 0, 0, 64, 64) + bytes(60)), "room for 60"),
+    "a simple one, more than its block": (START + block("<", 3, struct.pack("<I", 64) + bytes(60)), "room for 60"),
 }
 
 

@@ -36,12 +36,15 @@ def wrong_words(folder):
     text, none = folder / "text", folder / "none"
     text.write_text(P)
     capture = ROOT / "tools/examples/capture.pcap"
-    for words, part in (((), "COMMAND"), (("frob",), "invalid choice"), (("encode",), "TEXT"), (("encode", "--program", "--replay", text), "not allowed"), (("decode", "a", "b"), "unrecognized"),
-                        (("from-pcap", "--interface", "256", "--settings", text, capture), "0 to 255"), (("from-pcap", "--interface", "x", capture), "no number"), (("from-pcap", "--skip", "-1", capture), "no number"),
-                        (("from-pcap", "--count", "1_0", capture), "no number"), (("to-pcap", text), "OUT.pcap")):
+    pcap = ("from-pcap", "--settings", text, capture)
+    for words, part in (((), "COMMAND"), (("frob",), "invalid choice"), (("encode",), "TEXT"), (("to-pcap", text), "OUT.pcap"),
+                        (("encode", "--program", "--replay", text), "not allowed"), (("decode", "a", "b"), "unrecognized"),
+                        ((*pcap, "--interface", "256"), "0 to 255"), ((*pcap, "--interface", "x"), "no number"),
+                        ((*pcap, "--skip", "-1"), "no number"), ((*pcap, "--count", "1_0"), "no number")):
         status, out, err = run(*words)
         check(f"words {words}", status == 2 and out == b"" and "usage:" in err and part in err and "Traceback" not in err, (status, out, err))
-    for words in (("encode", none), ("decode", none), ("from-pcap", "--settings", none, capture), ("from-pcap", "--settings", text, none), ("to-pcap", none, folder / "out")):
+    for words in (("encode", none), ("decode", none), ("from-pcap", "--settings", none, capture), ("from-pcap", "--settings", text, none),
+                  ("to-pcap", none, folder / "out")):
         refused(f"no such file: {words[0]}", run(*words), str(none), "No such file")
     for words in (("encode", folder), ("decode", folder), ("from-pcap", "--settings", text, folder), ("to-pcap", text, folder)):
         refused(f"a folder: {words[0]}", run(*words), "directory" if words[0] != "to-pcap" else "for `program`")
@@ -94,7 +97,8 @@ def bent(chooser, data, tokens):
     for _ in range(chooser.randint(1, 4)):
         start = chooser.randrange(len(data) + 1)
         end = min(len(data), start + chooser.choice((0, 1, 1, 2, 4, 20)))
-        data[start:end] = chooser.choice((b"", bytes(chooser.randrange(256) for _ in range(end - start)), chooser.choice(tokens), data[:chooser.randrange(9)]))
+        noise = bytes(chooser.randrange(256) for _ in range(end - start))
+        data[start:end] = chooser.choice((b"", noise, chooser.choice(tokens), data[:chooser.randrange(9)]))
     return bytes(data[:chooser.randrange(len(data) + 1)] if chooser.random() < 0.1 else data)
 
 
@@ -107,15 +111,18 @@ def judged(what, result, data):
 
 
 def any_text(chooser, rounds):
-    sources = [text.encode() for _, text, _ in texts.NORMAL] + [(ROOT / "tools/examples" / name).read_bytes() for name in ("worked.txt", "capture.txt")]
-    tokens = (b" ", b"\n", b"=", b"#", b"\xff", b"\0", b"*", b"+", b"@", b"@.", b"@/dev/null", b",", b"/", b":", b"service 1\n", b"packet=", b"99999", b"0x", b"-1", b"replay\n", "é".encode())
+    examples = [(ROOT / "tools/examples" / name).read_bytes() for name in ("worked.txt", "capture.txt")]
+    sources = [text.encode() for _, text, _ in texts.NORMAL] + examples
+    tokens = (b" ", b"\n", b"=", b"#", b"\xff", b"\0", b"*", b"+", b"@", b"@.", b"@/dev/null", b",", b"/", b":", b"service 1\n", b"packet=",
+              b"99999", b"0x", b"-1", b"replay\n", "é".encode())
     taken = 0
     for _ in range(rounds):
         data = bent(chooser, chooser.choice(sources), tokens)
         result = run("encode", "-", stdin=data)
         if judged("any text", result, data):
             taken += 1
-            normal = given("any text, decoded", run("decode", "--replay" if b"replay" in data.split(b"program")[0] else "--program", "-", stdin=result[1]))
+            first = next(line.split()[0] for line in data.split(b"\n") if line.split() and not line.split()[0].startswith(b"#"))
+            normal = given("any text, decoded", run("decode", "--" + first.decode(), "-", stdin=result[1]))
             same("any text, its normal form says the same", run("encode", "-", stdin=normal)[1], result[1])
     check("texts of both kinds came", 0.02 * rounds < taken < 0.9 * rounds, f"{taken} of {rounds} taken")
 
@@ -148,7 +155,8 @@ def any_capture(chooser, rounds, folder):
     for _ in range(rounds):
         data = bent(chooser, chooser.choice(sources), (b"\0\0\0\0", b"\xff\xff\xff\xff", b"\x10\0\0\0", b"\x0a\x0d\x0d\x0a", b"\x81\0"))
         words = chooser.choice(((), ("--all",), ("--partial",), ("--replay",), ("--text",)))
-        status, out, err = run("from-pcap", "--settings", folder / "settings" if "--replay" not in words else folder / "replay_settings", *words, "-", stdin=data)
+        settings = folder / ("replay_settings" if "--replay" in words else "settings")
+        status, out, err = run("from-pcap", "--settings", settings, *words, "-", stdin=data)
         right = status == 0 or status == 2 and out == b"" and err.count("\n") == 1
         check("any capture", right and "Traceback" not in err, (status, err, data[:300]))
         taken += status == 0

@@ -12,8 +12,8 @@ from .harness import ROOT, check, gate_inputs, given, refused, run, same
 
 from bogtrumpet_tool import library  # noqa: E402
 
-C_TYPES = {ctypes.c_uint8: "uint8_t", ctypes.c_uint16: "uint16_t", ctypes.c_uint32: "uint32_t", ctypes.c_size_t: "size_t", ctypes.c_char_p: "const uint8_t *",
-           ctypes.POINTER(ctypes.c_uint8): "uint8_t *"}
+C_TYPES = {ctypes.c_uint8: "uint8_t", ctypes.c_uint16: "uint16_t", ctypes.c_uint32: "uint32_t", ctypes.c_size_t: "size_t",
+           ctypes.c_char_p: "const uint8_t *", ctypes.POINTER(ctypes.c_uint8): "uint8_t *"}
 
 
 # ---- The header
@@ -131,11 +131,8 @@ def against_model(folder):
 
 # ---- tshark
 
-CHECKS = [f"{one}.check_checksum:TRUE" for one in ("ip", "udp", "tcp")] + ["icmpv6.check_checksum:TRUE"]
-
-
 def tshark(file, *words):
-    options = [word for one in CHECKS[:3] for word in ("-o", one)]
+    options = [word for one in ("ip", "udp", "tcp") for word in ("-o", f"{one}.check_checksum:TRUE")]  # ICMPv6's are always checked
     done = subprocess.run(["tshark", "-r", str(file), *options, *words], stdout=subprocess.PIPE, stderr=subprocess.PIPE)
     check("tshark reads the file", done.returncode == 0, done.stderr.decode())
     return done.stdout.decode()
@@ -149,10 +146,11 @@ def seen_by_tshark(folder):
     given("the example's packets", run("to-pcap", calls, out))
     same("tshark has no warning", tshark(out, "-q", "-z", "expert,note").strip(), "")
     same("tshark finds nothing malformed", tshark(out, "-Y", "_ws.malformed || _ws.expert"), "")
-    kinds = tshark(out, "-T", "fields", "-e", "frame.time_epoch", "-e", "ip.proto", "-e", "icmpv6.type", "-e", "frame.len", "-e", "icmpv6.checksum.status").splitlines()
-    rows = [row.split("\t") for row in kinds]
+    fields = ("frame.time_epoch", "ip.proto", "icmpv6.type", "frame.len", "icmpv6.checksum.status")
+    rows = [row.split("\t") for row in tshark(out, "-T", "fields", *[word for one in fields for word in ("-e", one)]).splitlines()]
     same("tshark sees the packets", [(int(float(row[0])), *row[1:4]) for row in rows],
-         [(1000, "41", "128", "1500"), (1002, "", "2,128", "1280"), (1003, "41", "128", "1400"), (1004, "", "133", "48"), (1005, "", "134", "104"), (1601, "41", "128", "1500")])
+         [(1000, "41", "128", "1500"), (1002, "", "2,128", "1280"), (1003, "41", "128", "1400"), (1004, "", "133", "48"), (1005, "", "134", "104"),
+          (1601, "41", "128", "1500")])
     check("tshark finds the ICMPv6 checksums right", all(row[4].startswith("1") for row in rows), rows)
     spoiled = bytearray(out.read_bytes())
     spoiled[24 + 16 + 8] ^= 1

@@ -25,7 +25,8 @@ def orders_of_rules():
     rules = " ".join((ROOT / "docs/RULES.md").read_text().split())
     general = re.search(r"\*\*R1\.13\*\* (.*?) - \*\*", rules)[1]
     receiving = re.search(r"\*\*R23\.1\*\* (.*?) 5 is not given", rules)[1]
-    first, whole, piece = re.search(r"in the order (.*?)\. A whole datagram goes on with (.*?)\. A piece goes on with (.*?), and what it completes", receiving).groups()
+    shape = r"in the order (.*?)\. A whole datagram goes on with (.*?)\. A piece goes on with (.*?), and what it completes"
+    first, whole, piece = re.search(shape, receiving).groups()
     names = {"send": "Sending", "report": "Size report", "ask": "Asking", "advertisement": "Advertisement", "advertise": "Advertising"}
     orders = {name: listed(re.search(rf"{word}: (.*?)\.", general)[1]) for name, word in names.items()}
     setup = listed(re.search(r"Setup and a new router list: (.*?)\.", general)[1])
@@ -33,8 +34,9 @@ def orders_of_rules():
 
 
 HEADER_CALLS = {"receive": "receive", "send": "send", "report": "report", "ask": "ask", "advertisement": "hear", "advertise": "advertise",
-                "rules without state: the outer header": "read_outer", "rules without state: the inner packet": "unwrap", "rules without state: wrapping": "wrap",
-                "rules without state: a Too Big message": "too_big", "rules without state: a solicitation": "solicitation"}
+                "rules without state: the outer header": "read_outer", "rules without state: the inner packet": "unwrap",
+                "rules without state: wrapping": "wrap", "rules without state: a Too Big message": "too_big",
+                "rules without state: a solicitation": "solicitation"}
 
 
 def order_of_header(header, function):
@@ -56,9 +58,13 @@ def explained():
         text, cited, means, do = numbers.NUMBERS[int(number)]
         check(f"explain {number}: the rules of R4's table", {f"R4.{number}", *re.findall(r"R\d+\.\d+", details)} <= set(cited.split()), cited)
         out = given(f"explain {number}", run("explain", number)).decode()
-        check(f"explain {number}: all of it", out.startswith(f"{number}: {text}\n") and means in out and do in out and cited.replace(" ", ", ") in out, out)
+        check(f"explain {number}: no long line", max(map(len, out.splitlines())) <= numbers.WIDTH, out)
+        line = " ".join(out.split())
+        parts = (means, do, cited.replace(" ", ", "))
+        check(f"explain {number}: all of it", line.startswith(f"{number}: {text} ") and all(part in line for part in parts), out)
         calls = [name for name, order in numbers.ORDERS.items() if int(number) in order]
-        check(f"explain {number}: its calls", calls and all(f"given by {name}: " in out for name in calls) and out.count(f"[{number}]") == len(calls), out)
+        named = all(f"given by {name}: " in line for name in calls)
+        check(f"explain {number}: its calls", calls and named and line.count(f"[{number}]") == len(calls), out)
     every = given("explain all", run("explain")).decode()
     same("explain without a number", every, "\n".join(given("each", run("explain", number)).decode() for number in sorted(numbers.NUMBERS)))
 
@@ -82,7 +88,8 @@ def examples(folder):
     same("worked.txt is the worked input", worked, (ROOT / "crates/tunnel/stdin").read_bytes())
     path = given("path.txt", run("encode", EXAMPLES / "path.txt"))
     capture = given("capture.txt and capture.pcap", run("from-pcap", "--settings", EXAMPLES / "capture.txt", EXAMPLES / "capture.pcap"))
-    for name, built, data, model in (("worked", "tunnel", worked, formats.program), ("path", "replay", path, formats.replay), ("capture", "tunnel", capture, formats.program)):
+    for name, built, data, model in (("worked", "tunnel", worked, formats.program), ("path", "replay", path, formats.replay),
+                                     ("capture", "tunnel", capture, formats.program)):
         printed = (EXAMPLES / f"{name}.out").read_text()
         same(f"{name}.out is what the program prints", program(built, data), printed)
         same(f"{name}.out is what the model prints", formats.text(model(data)).decode(), printed)
@@ -115,13 +122,15 @@ def manual():
 
 
 def installed(folder):
-    made = subprocess.run(["make", "-s", "install", f"DESTDIR={folder}/installed", "PREFIX=/usr"], cwd=ROOT, stdout=subprocess.PIPE, stderr=subprocess.STDOUT)
+    words = ["make", "-s", "install", f"DESTDIR={folder}/installed", "PREFIX=/usr"]
+    made = subprocess.run(words, cwd=ROOT, stdout=subprocess.PIPE, stderr=subprocess.STDOUT)
     check("make install", made.returncode == 0, made.stdout.decode())
     tool, bare = folder / "installed/usr/bin/bogtrumpet-tool", {"PATH": "/usr/bin:/bin"}
     python = shutil.which("python3")
     words = [python, str(tool), "to-pcap", str(EXAMPLES / "path.txt"), "-"]
     done = subprocess.run(words, cwd=folder, env=bare, stdout=subprocess.PIPE, stderr=subprocess.PIPE)
-    same("the installed tool calls the installed library", (done.returncode, done.stderr, done.stdout), (0, b"", run("to-pcap", EXAMPLES / "path.txt", "-")[1]))
+    written = run("to-pcap", EXAMPLES / "path.txt", "-")[1]
+    same("the installed tool calls the installed library", (done.returncode, done.stderr, done.stdout), (0, b"", written))
     done = subprocess.run([python, str(tool), "explain", "14"], cwd=folder, env=bare, stdout=subprocess.PIPE)
     same("the installed tool explains", done.stdout, run("explain", 14)[1])
     check("the manual page is installed", (folder / "installed/usr/share/man/man1/bogtrumpet-tool.1").is_file())

@@ -153,20 +153,22 @@ def stored():
 HOP = "fe80::5efe:192.0.2.2"
 NORMAL = [
     ("defaults, order, comments, blank lines and letters",
-     "# a comment\n\n  replay # so it is\nrouter 192.0.2.254\n\tlocator 192.0.2.1\r\nprefix 2001:DB8:0:0:0:0:0:0/64#no comment\n".replace("#no comment", " #one")
-     + f"send time=0x10 packet=AbCd next-hop={HOP}\nask time=1\nsize neighbour=192.0.2.2\nmemory\n",
+     "# a comment\n\n  replay # so it is\nrouter 192.0.2.254\n\tlocator 192.0.2.1\r\nprefix 2001:DB8:0:0:0:0:0:0/64 #one\n"
+     f"send time=0x10 packet=AbCd next-hop={HOP}\nask time=1\nsize neighbour=192.0.2.2\nmemory\n",
      "replay\nservice 0\nlocator 192.0.2.1 interface=0\nprefix 2001:db8::/64\nrouter 192.0.2.254\nlink-size 1500\nttl 64\ninterval 120\n"
      f"identification 1\nreporting default\nsend service=0 locator=0 time=16 next-hop={HOP} room=9216 packet=abcd\n"
      "ask service=0 locator=0 time=1 room=48\nsize service=0 neighbour=192.0.2.2\nmemory service=0\n"),
     ("two services and runs",
-     "replay\nservice 0\nttl 9\nlocator 10.0.0.1 interface=7\nservice 1\nreporting 0:0:0:0:0:0:0:1\nlocator 10.0.0.3\npart datagram=00*20+0000*2+01+02*3\n"
+     "replay\nservice 0\nttl 9\nlocator 10.0.0.1 interface=7\nservice 1\nreporting 0:0:0:0:0:0:0:1\nlocator 10.0.0.3\n"
+     "part datagram=00*20+0000*2+01+02*3\n"
      "receive service=1 memory=0 time=4294967295 datagram=\nreport time=0 message=ff*24\n",
      "replay\nservice 0\nlocator 10.0.0.1 interface=7\nlink-size 1500\nttl 9\ninterval 120\nidentification 1\nreporting default\nservice 1\n"
      "locator 10.0.0.3 interface=0\nlink-size 1500\nttl 64\ninterval 120\nidentification 1\nreporting ::1\n"
      "part service=0 interface=0 datagram=00*24+01020202\nreceive service=1 interface=0 time=4294967295 memory=0 datagram=\n"
      "report time=0 message=ff*24\n"),
     ("an advertisement",
-     "replay\nlocator 10.0.0.1\nadvertise lifetime=1800 packet= flags=OM route=::/0,low,5 prefix=2001:db8::/64,AL,7,6 prefix=fe80::200:5efe:10.0.0.9/129,0xff,1,2\n"
+     "replay\nlocator 10.0.0.1\n"
+     "advertise lifetime=1800 packet= flags=OM route=::/0,low,5 prefix=2001:db8::/64,AL,7,6 prefix=fe80::200:5efe:10.0.0.9/129,0xff,1,2\n"
      "advertise lifetime=0 flags=0x01 packet=00\nrouters time=3\nrouters time=3 router=10.0.0.2 router=10.0.0.2\n",
      "replay\nservice 0\nlocator 10.0.0.1 interface=0\nlink-size 1500\nttl 64\ninterval 120\nidentification 1\nreporting default\n"
      "advertise service=0 locator=0 room=504 flags=MO lifetime=1800 prefix=2001:db8::/64,LA,7,6 prefix=fe80::200:5efe:10.0.0.9/129,0xff,1,2 "
@@ -176,8 +178,9 @@ NORMAL = [
      "program\n" + "locator 10.0.0.1\n" * 9 + "datagram bytes=@piece interface=255\n",
      "program\n" + "locator 10.0.0.1 interface=0\n" * 9 + "datagram interface=255 bytes=0a23\n"),
 ]
-ADDRESSES = {"::": "::", "::1": "::1", "1::": "1::", "1:0:0:2::": "1:0:0:2::", "0:1:0:0:2:0:0:0": "0:1:0:0:2::", "1:0:2:3:4:5:6:7": "1:0:2:3:4:5:6:7",
-             "1:0:0:2:0:0:3:4": "1::2:0:0:3:4", "::FFFF:1.2.3.4": "::ffff:102:304", "FE80::5efe:0.0.0.0": "fe80::5efe:0.0.0.0", "::5efe:a00:1": "::5efe:10.0.0.1",
+ADDRESSES = {"::": "::", "::1": "::1", "1::": "1::", "1:0:0:2::": "1:0:0:2::", "0:1:0:0:2:0:0:0": "0:1:0:0:2::",
+             "1:0:2:3:4:5:6:7": "1:0:2:3:4:5:6:7", "1:0:0:2:0:0:3:4": "1::2:0:0:3:4", "::FFFF:1.2.3.4": "::ffff:102:304",
+             "FE80::5efe:0.0.0.0": "fe80::5efe:0.0.0.0", "::5efe:a00:1": "::5efe:10.0.0.1",
              "fe80:0:0:1:200:5efe:1.2.3.4": "fe80::1:200:5efe:1.2.3.4", "fe80::100:5efe:1.2.3.4": "fe80::100:5efe:102:304"}
 
 

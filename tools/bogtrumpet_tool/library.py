@@ -64,7 +64,8 @@ def load():
     """The calls by name."""
     path = next((place for place in places() if place.is_file()), None)
     if path is None:
-        raise Wrong(f"no library in {' or '.join(map(str, places()))}: `make target/staticlib/libbogtrumpet.so` makes it, BOGTRUMPET_LIBRARY names another")
+        searched = " or ".join(map(str, places()))
+        raise Wrong(f"no library in {searched}: `make target/staticlib/libbogtrumpet.so` makes it, BOGTRUMPET_LIBRARY names another")
     try:
         library = ctypes.CDLL(str(path))
         calls = {name: getattr(library, "bogtrumpet_" + name) for name in CALLS}

@@ -125,7 +125,8 @@ def arguments():
     one = command("from-pcap", from_pcap, "writes the IPv4 datagrams of a pcap or pcapng capture, behind settings, as an input to standard output")
     formats(one)
     one.add_argument("--settings", metavar="TEXT", help="a text of settings; needed without --text")
-    one.add_argument("--interface", type=interface, metavar="N", help="the arrival interface of all; else that of the capture: 0, in pcapng the interface's number")
+    one.add_argument("--interface", type=interface, metavar="N",
+                     help="the arrival interface of all; else that of the capture: 0, in pcapng the interface's number")
     one.add_argument("--all", action="store_true", help="every IPv4 datagram; else those of protocol 41 alone")
     one.add_argument("--skip", type=number, default=0, metavar="N", help="leave out the first N datagrams that would be taken")
     one.add_argument("--count", type=number, metavar="N", help="take at most N datagrams")

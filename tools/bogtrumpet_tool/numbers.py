@@ -1,4 +1,7 @@
 """What each number means, who gives it, and what an operator does about it. The texts are those of the header, the orders those of R1.13."""
+import textwrap
+
+WIDTH = 100  # of an explanation's lines
 
 # The numbers of each call in the order in which they are asked. Before all of them stands 11, for a service that the node has not (R26.4).
 ORDERS = {
@@ -25,13 +28,15 @@ NUMBERS = {
         "Nothing."),
     1: ("settings or a new router list break the rules, or two services share a locator address", "R4.1 R2.11 R2.13 R26.2",
         "There is no node, or the old router list stays.",
-        "Go through R2.1 to R2.9: counts, a pair or router that stands twice, forbidden addresses, a router that is a locator, sizes, TTL, interval."),
+        "Go through R2.1 to R2.9: counts, a pair or router that stands twice, forbidden addresses, a router that is a locator, "
+        "sizes, TTL, interval."),
     2: ("outer header malformed", "R4.2 R5.2",
         "No IPv4 header of version 4 with at least 5 words stands there whole, or its total length does not fit the bytes.",
         "See whether datagrams are handed over from their IPv4 header on and with all their bytes; else the path spoils them."),
     3: ("outer checksum wrong", "R4.3 R5.4",
         "The IPv4 header's checksum does not fit the header.",
-        "A capture taken where the sender's card fills checksums in shows this of sent datagrams; of received ones, look for a path that changes headers."),
+        "A capture taken where the sender's card fills checksums in shows this of sent datagrams; of received ones, look for a "
+        "path that changes headers."),
     4: ("protocol is not 41", "R4.4 R5.5",
         "The datagram is none of IPv6 in IPv4.",
         "Hand only protocol 41 to the tunnel end; ICMPv4 goes to the call for size reports."),
@@ -52,7 +57,8 @@ NUMBERS = {
         "Nothing at this end: no packet comes from there. See who sends it by its IPv4 source."),
     10: ("outer source wrong for the inner source", "R4.10 R5.12 R23.14",
          "The IPv6 source is no ISATAP address that embeds the IPv4 source, and the IPv4 source is no router of the list.",
-         "If the sender is to be trusted: list it as a router, or set the prefix that its address has. Else it is forged, or an address is translated on the way."),
+         "If the sender is to be trusted: list it as a router, or set the prefix that its address has. Else it is forged, or an "
+         "address is translated on the way."),
     11: ("no locator of that number, or no such service", "R4.11 R7.3 R13.2 R22.3 R26.4",
          "The locator's number, from 0, is not below the count; or the node has one service and the second is named.",
          "Correct the number at the call."),
@@ -64,7 +70,8 @@ NUMBERS = {
          "Correct the route: the packet would go nowhere, or back to this node."),
     14: ("packet too big", "R4.14 R7.7 R8.1 R8.2",
          "The packet is longer than what passes to that tunnel end; the answer names the size that passes.",
-         "Hand the message in the output, where one was written, to the packet's sender, which then sends less. If it never does, it does not get or not heed it."),
+         "Hand the message in the output, where one was written, to the packet's sender, which then sends less. If it never does, "
+         "it does not get or not heed it."),
     15: ("output or memory too short", "R4.15 R7.9 R8.3 R13.4 R22.8 R23.2",
          "What would be written does not fit; of receiving, the memory has under 16,384 bytes.",
          "Lend more: 9,216 bytes to send, 48 to ask, 504 to advertise, 16,384 of memory to receive."),
@@ -93,7 +100,8 @@ NUMBERS = {
          "With its IPv4 header the packet would be longer than a datagram can be; no node of accepted settings gives this.",
          "Wrap shorter packets."),
     24: ("no valid solicitation", "R4.24 R22.4 R22.5",
-         "It is no router solicitation by RFC 4861, 6.1.1: hop limit 255, checksum, type, code, length, options, and none of them a link-layer address from ::.",
+         "It is no router solicitation by RFC 4861, 6.1.1: hop limit 255, checksum, type, code, length, options, and none of them "
+         "a link-layer address from ::.",
          "Hand only router solicitations to this call; else ask the sender."),
     25: ("the asker's address is not link-local ISATAP", "R4.25 R22.6",
          "The solicitation's source is not fe80::/64 with 00 or 02 and 00 5E FE behind it, so no tunnel leads there.",
@@ -103,13 +111,15 @@ NUMBERS = {
          "Correct the advertisement at this end."),
     27: ("a piece that waits for others, or is ignored", "R4.27 R23.8 R23.13",
          "A piece was taken and others are missing, or it was there already.",
-         "Nothing: the last missing piece gets the datagram's answer. If it never comes within 30 s, pieces are lost; let the sender send shorter packets."),
+         "Nothing: the last missing piece gets the datagram's answer. If it never comes within 30 s, pieces are lost; let the "
+         "sender send shorter packets."),
     28: ("no place is free for a new datagram's piece", "R4.28 R23.11",
          "The pieces of 8 datagrams are collected already.",
          "Places are free again after 30 s. If it lasts, pieces are lost or forged: see who sends them, and let senders send shorter packets."),
     29: ("pieces overlap, or disagree about the end", "R4.29 R23.7 R23.9",
          "What was collected of that datagram is dropped.",
-         "One datagram lost is chance: two with one identification were under way. Many are an attack, or a sender whose identifications come again within 30 s."),
+         "One datagram lost is chance: two with one identification were under way. Many are an attack, or a sender whose "
+         "identifications come again within 30 s."),
     30: ("a piece's payload is empty, ends past 2,048 bytes, or before the last piece is no multiple of 8", "R4.30 R23.4",
          "The piece cannot be collected; nothing changes.",
          "Let senders send packets of at most 2,048 bytes that are not cut into such pieces: lower the MTU of their tunnel."),
@@ -131,9 +141,7 @@ def orders(number):
 def explained(number):
     """The lines about a number."""
     text, rules, means, do = NUMBERS[number]
+    given = [f"given by {order}" for order in orders(number)]
     yield f"{number}: {text}"
-    yield f"  rules: {rules.replace(' ', ', ')} (docs/RULES.md)"
-    for order in orders(number):
-        yield f"  given by {order}"
-    yield f"  means: {means}"
-    yield f"  to do: {do}"
+    for part in (f"rules: {rules.replace(' ', ', ')} (docs/RULES.md)", *given, f"means: {means}", f"to do: {do}"):
+        yield from textwrap.wrap(part, WIDTH, initial_indent="  ", subsequent_indent="    ", break_on_hyphens=False)
