@@ -123,6 +123,8 @@ def link_types(captures):
         for order in ORDERS:
             for magic in (0xA1B2C3D4, 0xA1B23C4D):
                 captures.gives(f"{name}, pcap, {ORDERS[order]}, {magic:x}", pcap(timed, link, order, magic), [(0, ONE), (0, TWO)])
+            if name == "a VLAN":
+                captures.gives("a tag and no byte more", pcap([(7, framed(b""), 18)], link), [(0, b"")], "--all")
             captures.gives(f"{name}, pcap, all of IPv4", pcap(timed, link, order), [(0, ONE), (0, UDP), (0, TWO)], "--all")
             start = section(order) + interface(order, link)
             for kind, blocks in (("enhanced", [enhanced(order, 5, one) for one in frames]), ("simple", [simple(order, one) for one in frames]),
@@ -142,6 +144,7 @@ def sections(captures):
     captures.gives("one interface for all", mixed, [(9, ONE), (9, ONE), (9, TWO), (9, ONE), (9, UDP)], "--interface", 9, "--all")
     captures.gives("skipped and counted", mixed, [(3, ONE), (0, TWO)], "--skip", 1, "--count", 2)
     check("no datagram counted", captures.run(mixed, "--count", 0)[1] == expected())
+    captures.gives("interface 255", section("<") + interface("<", 101) * 256 + enhanced("<", 1, ONE, place=255), [(255, ONE)])
     many = section("<") + interface("<", 101) * 257 + enhanced("<", 1, ONE, place=256)
     refused("interface 256", captures.run(many), str(captures.file), "packet 1 came by interface 256", "--interface")
     captures.gives("interface 256, said otherwise", many, [(0, ONE)], "--interface", 0)
@@ -154,12 +157,19 @@ def times(captures):
     frames = [(0, ONE, len(ONE)), (4294967295, ONE, len(ONE)), (9, UDP, len(UDP))]
     same("times of pcap", captures.replayed("pcap for replay", pcap(frames, 101)), [(0, 0, 16384), (0, 4294967295, 16384)])
     for name, options, ticks, offset in (("default", (), 10 ** 6, 0), ("nanoseconds", ((9, b"\x09"),), 10 ** 9, 0), ("seconds", ((9, b"\0"),), 1, 0),
-                                         ("of two", ((9, b"\x94"),), 2 ** 20, 0), ("offset", ((14, struct.pack(">q", -100)),), 10 ** 6, -100)):
+                                         ("of two", ((9, b"\x94"),), 2 ** 20, 0), ("offset", ((14, struct.pack(">q", -100)),), 10 ** 6, -100),
+                                         ("none behind the end", ((9, b"\0"), (0, b""), (9, b"\6")), 1, 0),
+                                         ("of a wrong length", ((9, b"\0\0"), (14, b"\0\0\0\1"), (1, bytes(8))), 10 ** 6, 0)):
         start = section(">") + interface(">", 101, options=options)
         data = start + enhanced(">", 1794916800 * ticks + ticks // 2, ONE) + simple(">", ONE) + old(">", 200 * ticks, ONE)
         same(f"times, {name}", captures.replayed(f"pcapng for replay, {name}", data, "--interface", 2),
              [(2, 1794916800 + offset, 16384), (2, 1794916800 + offset, 16384), (2, 200 + offset, 16384)])
     start = section(">") + interface(">", 101, options=((14, struct.pack(">q", -1)),))
+    same("no time known yet", captures.replayed("a simple block alone", section("<") + interface("<", 101) + simple("<", ONE)), [(0, 0, 16384)])
+    seconds = section("<") + interface("<", 101, options=((9, b"\0"),))
+    same("the last time", captures.replayed("a capture of 2106", seconds + enhanced("<", 4294967295, ONE)), [(0, 4294967295, 16384)])
+    captures.file.write_bytes(seconds + enhanced("<", 4294967296, ONE))
+    refused("a time after that", run("from-pcap", "--replay", "--text", captures.file), "packet 1 has time 4294967296")
     captures.file.write_bytes(start + enhanced(">", 0, ONE))
     refused("a time before 0", run("from-pcap", "--replay", "--text", captures.file), "packet 1 has time -1")
     captures.gives("the program needs none", start + enhanced(">", 0, ONE), [(0, ONE)])
@@ -206,33 +216,36 @@ def limits(captures):
     over = pcap([(1, fill, len(fill)), (1, exact + b"\0", len(exact) + 1)], 101)
     refused("an input of 65,537 bytes", captures.run(over), str(captures.file), "65,536", "room for 1;", "--skip and --count")
     captures.gives("a part of it", over, [(0, exact + b"\0")], "--skip", 1)
+    most = ONE + bytes(65535 - len(ONE))
+    captures.file.write_bytes(pcap([(1, most, 65535)], 101))
+    same("a datagram of 65,535 bytes", len(given("for replay", run("from-pcap", "--replay", "--text", captures.file)).split(b"datagram=")), 2)
     long = pcap([(1, ONE + bytes(65536 - len(ONE)), 65536)], 101)
     refused("a datagram of 65,536 bytes", captures.run(long), "packet 1 has 65,536 bytes")
 
 
 START = section("<") + interface("<", 101)
 MALFORMED = {
-    "empty": (b"", "cut off"),
-    "no capture": (b"what is this", "neither pcap nor pcapng"),
-    "gzip": (b"\x1f\x8b\x08\0\0", "gzip"),
-    "version 3": (pcap([], 101, version=(3, 0)), "version 3"),
+    "empty": (b"", "byte 0: the magic number is cut off"),
+    "no capture": (b"what is this", "byte 0: neither pcap nor pcapng"),
+    "gzip": (b"\x1f\x8b\x08\0\0", "byte 0: packed by gzip"),
+    "version 3": (pcap([], 101, version=(3, 0)), "byte 4: pcap of version 3"),
     "a modified pcap": (struct.pack("<I", 0xA1B2CD34) + bytes(60), "neither pcap nor pcapng"),
     "another link": (pcap([(0, ONE, len(ONE))], 127), "link type 127"),
-    "a long packet": (pcap([], 101) + struct.pack("<IIII", 0, 0, 262145, 262145) + bytes(262145), "262,145 bytes"),
-    "no order": (struct.pack("<III", 0x0A0D0D0A, 28, 0) + bytes(16), "byte order"),
-    "section version 2": (section("<", 2), "version"),
-    "a short section": (block("<", 0x0A0D0D0A, struct.pack("<IHH", 0x1A2B3C4D, 1, 0)), "version"),
-    "a block of 13": (section("<") + struct.pack("<II", 5, 13) + bytes(5), "a block of 13 bytes"),
-    "a block of 8": (section("<") + struct.pack("<II", 5, 8), "a block of 8"),
-    "a block of 16 MiB": (section("<") + struct.pack("<II", 5, (1 << 24) + 4) + bytes(9), "a block of 16,777,220"),
-    "two lengths": (section("<") + struct.pack("<II", 5, 16) + bytes(4) + struct.pack("<I", 20), "two lengths"),
-    "a short interface": (section("<") + block("<", 1, bytes(4)), "interface block"),
-    "no interface": (section("<") + enhanced("<", 0, ONE), "interface 0"),
-    "interface of another section": (START + section("<") + simple("<", ONE), "interface 0"),
-    "a short block": (START + block("<", 6, bytes(16)), "too short"),
-    "a short simple block": (START + block("<", 3, b""), "too short"),
-    "more than its block": (START + block("<", 6, struct.pack("<IIIII", 0, 0, 0, 64, 64) + bytes(60)), "room for 60"),
-    "a simple one, more than its block": (START + block("<", 3, struct.pack("<I", 64) + bytes(60)), "room for 60"),
+    "a long packet": (pcap([], 101) + struct.pack("<IIII", 0, 0, 262145, 262145) + bytes(262145), "byte 32: packet 1 has 262,145 bytes"),
+    "no order": (struct.pack("<III", 0x0A0D0D0A, 28, 0) + bytes(16), "byte 8: a section block without its byte order"),
+    "section version 2": (section("<", 2), "byte 12: a section of another version"),
+    "a short section": (block("<", 0x0A0D0D0A, struct.pack("<IHH", 0x1A2B3C4D, 1, 0)), "byte 12: a section of another version"),
+    "a block of 13": (section("<") + struct.pack("<II", 5, 13) + bytes(5), "byte 32: a block of 13 bytes"),
+    "a block of 8": (section("<") + struct.pack("<II", 5, 8), "byte 32: a block of 8 bytes"),
+    "a block of 16 MiB": (section("<") + struct.pack("<II", 5, (1 << 24) + 4) + bytes(9), "byte 32: a block of 16,777,220"),
+    "two lengths": (section("<") + struct.pack("<II", 5, 16) + bytes(4) + struct.pack("<I", 20), "byte 40: a block whose two lengths differ"),
+    "a short interface": (section("<") + block("<", 1, bytes(4)), "byte 36: an interface block"),
+    "no interface": (section("<") + enhanced("<", 0, ONE), "byte 36: packet 1 is of interface 0"),
+    "interface of another section": (START + section("<") + simple("<", ONE), "byte 84: packet 1 is of interface 0"),
+    "a short block": (START + block("<", 6, bytes(16)), "byte 56: the block of packet 1 is too short"),
+    "a short simple block": (START + block("<", 3, b""), "byte 56: the block of packet 1 is too short"),
+    "more than its block": (START + block("<", 6, struct.pack("<IIIII", 0, 0, 0, 64, 64) + bytes(60)), "byte 56: packet 1 has 64 bytes, its block room for 60"),
+    "a simple one, more than its block": (START + block("<", 3, struct.pack("<I", 64) + bytes(60)), "byte 56: packet 1 has 64 bytes, its block room for 60"),
 }
 
 

@@ -100,7 +100,7 @@ def modelled(data):
 def packets_of(data):
     """Times and packets of a pcap file, read here."""
     head = struct.unpack("<IHHiIII", data[:24])
-    same("the pcap header", (head[:3], head[6]), ((0xA1B2C3D4, 2, 4), 101))
+    same("the pcap header", head, (0xA1B2C3D4, 2, 4, 0, 0, 262144, 101))
     place, packets = 24, []
     while place < len(data):
         time, fraction, captured, original = struct.unpack("<IIII", data[place:place + 16])

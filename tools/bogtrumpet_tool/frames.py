@@ -44,5 +44,5 @@ class Stream:
         """Whether nothing more comes; asked between packets and blocks."""
         return not self.file.peek(1)
 
-    def wrong(self, what, back=0):
+    def wrong(self, what, back):
         raise Wrong(f"byte {self.place - back}: {what}")
