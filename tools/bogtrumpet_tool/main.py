@@ -9,7 +9,7 @@ from .taking import taken
 from .wrong import Wrong, named
 
 TOOL = "bogtrumpet-tool"
-NOT_PROVED = "The tool itself is not proved: it judges nothing, but turns texts and captures into inputs of the proved programs."
+NOT_PROVED = "The tool itself is not proved. It judges nothing: the programs and the library do, by calls that are proved."
 
 
 # ---- encode and decode
