@@ -30,28 +30,26 @@ def orders_of_rules():
     names = {"send": "Sending", "report": "Size report", "ask": "Asking", "advertisement": "Advertisement", "advertise": "Advertising"}
     orders = {name: listed(re.search(rf"{word}: (.*?)\.", general)[1]) for name, word in names.items()}
     setup = listed(re.search(r"Setup and a new router list: (.*?)\.", general)[1])
-    return {**orders, "setup": setup, "new router list": setup, "receive": listed(first) + listed(piece) + listed(whole)}
-
-
-HEADER_CALLS = {"receive": "receive", "send": "send", "report": "report", "ask": "ask", "advertisement": "hear", "advertise": "advertise",
-                "rules without state: the outer header": "read_outer", "rules without state: the inner packet": "unwrap",
-                "rules without state: wrapping": "wrap", "rules without state: a Too Big message": "too_big",
-                "rules without state: a solicitation": "solicitation"}
+    return {**orders, "setup": setup, "routers": setup, "receive": listed(first) + listed(piece) + listed(whole)}
 
 
 def order_of_header(header, function):
-    """What stands behind `Numbers` in the comment before a function."""
+    """What stands behind `Numbers` in the comment before a function, or behind `The number: 0, or`, or as `1 is given also`."""
     before = header[:re.search(rf"\bbogtrumpet_{function}\(", header).start()]
     comment = " ".join(before[before.rindex("/*"):].split("*/")[0].split())
-    return listed(re.search(r"Numbers(?:, in this order)?: (.*?)(?:\. |\.?$)", comment)[1])
+    shape = r"Numbers(?:, in this order)?: (.*?)(?:\. |\.?$)|The number: 0, or (\d+)|(1) is given also"
+    return listed(max(re.search(shape, comment).groups(""), key=len))
 
 
 def explained():
     rules, header = (ROOT / "docs/RULES.md").read_text(), (ROOT / "include/bogtrumpet.h").read_text()
     for name, order in orders_of_rules().items():
-        same(f"explain: the order of {name} by the rules", numbers.ORDERS[name], order)
-    for name, function in HEADER_CALLS.items():
-        same(f"explain: the order of {name} by the header", numbers.ORDERS[name], order_of_header(header, function))
+        same(f"explain: the order of {name} by the rules", numbers.CALLS[name][1], order)
+    for functions, order in numbers.CALLS.values():
+        for function in functions.split():
+            same(f"explain: the order of bogtrumpet_{function} by the header", order, order_of_header(header, function))
+    told = set(re.findall(r"\b(?:uint8_t|struct \w+) bogtrumpet_(\w+)\(", header)) - {"defaults", "link_local", "isatap", "path_size"}
+    same("explain: every function of the header that has a number", {one for functions, _ in numbers.CALLS.values() for one in functions.split()}, told)
     table = dict(re.findall(r"(?m)^\| R4\.\d+ \| (\d+) \| .*? \| ([^|]*) \|$", rules))
     same("explain: every number", sorted(numbers.NUMBERS), list(range(len(table) + 1)))
     for number, details in table.items():
@@ -62,8 +60,8 @@ def explained():
         line = " ".join(out.split())
         parts = (means, do, cited.replace(" ", ", "))
         check(f"explain {number}: all of it", line.startswith(f"{number}: {text} ") and all(part in line for part in parts), out)
-        calls = [name for name, order in numbers.ORDERS.items() if int(number) in order]
-        named = all(f"given by {name}: " in line for name in calls)
+        calls = [f"given by {name} (bogtrumpet_{functions.split()[0]}" for name, (functions, order) in numbers.CALLS.items() if int(number) in order]
+        named = all(call in line for call in calls)
         check(f"explain {number}: its calls", calls and named and line.count(f"[{number}]") == len(calls), out)
     every = given("explain all", run("explain")).decode()
     same("explain without a number", every, "\n".join(given("each", run("explain", number)).decode() for number in sorted(numbers.NUMBERS)))

@@ -3,23 +3,24 @@ import textwrap
 
 WIDTH = 100  # of an explanation's lines
 
-# The numbers of each call in the order in which they are asked. Before all of them stands 11, for a service that the node has not (R26.4).
-ORDERS = {
-    "setup": (1,),
-    "new router list": (1,),
-    "receive": (15, 2, 3, 4, 6, 7, 30, 29, 28, 27, 8, 9, 10),
-    "send": (8, 11, 12, 13, 14, 23, 15),
-    "report": (16, 17, 18, 19),
-    "ask": (11, 22, 15),
-    "advertisement": (8, 20, 21),
-    "advertise": (8, 11, 24, 25, 26, 15),
-    "rules without state: the outer header": (2, 3, 4, 5),
-    "rules without state: the inner packet": (2, 3, 4, 5, 8),
-    "rules without state: wrapping": (23, 15),
-    "rules without state: a Too Big message": (8, 15),
-    "rules without state: a solicitation": (15,),
+# The calls, by the words of `replay` where it has them: their functions in C, and their numbers in the order in which they are asked. On a node
+# 11 stands before all of them, for a service that is not there (R26.4).
+CALLS = {
+    "setup": ("new new_pair", (1,)),
+    "routers": ("replace_routers", (1,)),
+    "receive": ("receive", (15, 2, 3, 4, 6, 7, 30, 29, 28, 27, 8, 9, 10)),
+    "send": ("send", (8, 11, 12, 13, 14, 23, 15)),
+    "report": ("report", (16, 17, 18, 19)),
+    "ask": ("ask", (11, 22, 15)),
+    "advertisement": ("hear", (8, 20, 21)),
+    "advertise": ("advertise", (8, 11, 24, 25, 26, 15)),
+    "an outer header alone": ("read_outer", (2, 3, 4, 5)),
+    "a datagram alone": ("unwrap", (2, 3, 4, 5, 8)),
+    "wrapping alone": ("wrap", (23, 15)),
+    "a Too Big message alone": ("too_big", (8, 15)),
+    "a solicitation alone": ("solicitation", (15,)),
 }
-ASKS_FOR_SERVICE = ("new router list", "receive", "send", "ask", "advertisement", "advertise", "size")
+ASKS_FOR_SERVICE = ("routers", "receive", "send", "ask", "advertisement", "advertise", "size")
 
 # number: (text, rules, what it means, what to do)
 NUMBERS = {
@@ -129,9 +130,10 @@ TEXTS = {number: row[0] for number, row in NUMBERS.items()}
 
 def orders(number):
     """A line for each call that gives the number: its order, with the number in brackets."""
-    for call, order in ORDERS.items():
+    for call, (functions, order) in CALLS.items():
         if number in order:
-            yield f"{call}: " + " ".join(f"[{one}]" if one == number else str(one) for one in order)
+            names = ", ".join("bogtrumpet_" + name for name in functions.split())
+            yield f"{call} ({names}): " + " ".join(f"[{one}]" if one == number else str(one) for one in order)
     if number == 11:
         yield "each of these before all others, where the node has no such service: " + ", ".join(ASKS_FOR_SERVICE)
     if number == 0:
