@@ -9,6 +9,31 @@ from . import captures, texts
 from .harness import ROOT, TOOL, check, given, refused, run, same, started
 from .wrong_texts import WRONG_TEXTS, P, R
 
+SINGLE = bytes.fromhex("05dc 40 0078 0001 00")  # link size, TTL, interval, identification, the default reporting address
+ROUTERS = b"\x0a\0\0\2" * 65535
+REPLAY = b"\1" + bytes.fromhex("0001 0a000001 07 0000 0000") + SINGLE
+ADVERTISE = REPLAY + bytes.fromhex("08 00 00 0000 00 0000 0000 0001 00 03 00000000") + bytes(16)
+# Format, input, where it is bad and why
+BAD_INPUTS = [
+    ("--replay", b"", "byte 0: cut off, 1 byte should stand here and 0 do"), ("--replay", b"\3", "byte 0: a number of services of 3"),
+    ("--replay", b"\0", "byte 0: a number of services of 0"), ("--replay", REPLAY[:-1] + b"\2", "byte 19: `reporting`: 2 where 1 is the most"),
+    ("--replay", REPLAY[:-1] + b"\1" + bytes(15), "byte 20: `reporting`: cut off, 16 bytes should stand here and 15 do"),
+    ("--replay", REPLAY + b"\x0b", "byte 20: a call of kind 11; there are 1 to 10"), ("--replay", REPLAY + b"\0", "byte 20: a call of kind 0"),
+    ("--replay", REPLAY + b"\x09\2", "byte 21: `service`: 2 where 1 is the most"), ("--replay", ADVERTISE, "byte 33: `route`: 3 where 2 is the most"),
+    ("--replay", REPLAY + b"\x0a\0\7\0\2\1", "byte 25: `datagram`: cut off, 2 bytes should stand here and 1 does"),
+    ("--program", b"\0\1\x0a\0", "byte 2: `address`: cut off, 4 bytes should stand here and 2 do"),
+    ("--program", bytes(8) + b"\1", "byte 8: 1 byte behind the last datagram"), ("--program", bytes(8) + b"\1\2", "byte 8: 2 bytes behind"),
+    ("--program", bytes(65537), "more than the 65,536 bytes that `tunnel` reads"), ("--replay", bytes(1048577), "more than the 1,048,576 bytes"),
+]
+
+
+def bad_inputs(folder):
+    file = folder / "input"
+    for format, data, part in BAD_INPUTS:
+        file.write_bytes(data)
+        refused(f"bad input {data[:40].hex()}", run("decode", format, file), f"{file}: {part}", "answers this input by `bad input`")
+
+
 def wrong_texts(folder):
     file = folder / "text"
     for text, line, part in WRONG_TEXTS:
@@ -26,6 +51,9 @@ def wrong_texts(folder):
     refused("a text of more", run("encode", file), f"{file}: the input would have 65,537 bytes", "65,536")
     file.write_text(R + "part datagram=00*65535\n" * 16)
     refused("a text of more for replay", run("encode", file), str(file), "1,048,576")
+    file.write_text("replay\n" + "router 10.0.0.2\n" * 65535 + "routers time=1" + " router=10.0.0.2" * 65535)
+    data = given("as many routers as can be counted", run("encode", file))
+    same("as many routers, byte for byte", data[3:], b"\0\0\xff\xff" + ROUTERS + SINGLE + b"\4\0\0\0\0\1\xff\xff" + ROUTERS)
     file.write_text("program\n" + "router 10.0.0.2\n" * 65536)
     refused("more routers than can be counted", run("encode", file), str(file), "65,536 lines of `router`")
     file.write_text(R + "routers time=1" + " router=10.0.0.2" * 65536)
@@ -165,6 +193,7 @@ def any_capture(chooser, rounds, folder):
 
 def tests(folder):
     wrong_texts(folder)
+    bad_inputs(folder)
     wrong_words(folder)
     streams(folder)
     (folder / "replay_settings").write_text(R)

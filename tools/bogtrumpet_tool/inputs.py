@@ -70,10 +70,10 @@ class Reader:
     """The bytes of an input, from the front on. What is no input of the format ends it, with the place."""
 
     def __init__(self, data, format):
-        self.data, self.format, self.place = data, format, 0
+        self.data, self.format, self.place, self.field = data, format, 0, ""
 
     def bad(self, what, back=0):
-        raise Wrong(f"byte {self.place - back}: {what}: {READERS[self.format]} answers this input by `bad input`")
+        raise Wrong(f"byte {self.place - back}: {self.field}{what}: {READERS[self.format]} answers this input by `bad input`")
 
     def take(self, count):
         left = len(self.data) - self.place
@@ -88,14 +88,20 @@ class Reader:
     def ended(self):
         return self.place == len(self.data)
 
+    def value(self, name, form):
+        self.field = f"`{name}`: "
+        value = form.read(self)
+        self.field = ""
+        return value
+
     def values(self, fields):
-        return {one.name: one.form.read(self) for one in fields}
+        return {one.name: self.value(one.name, one.form) for one in fields}
 
     def lists(self):
         return {name: [self.values(fields) for _ in range(self.number(2))] for name, fields in LISTS.items()}
 
     def service(self):
-        return Service(self.lists(), {name: form.read(self) for name, (form, _) in SINGLE.items()})
+        return Service(self.lists(), {name: self.value(name, form) for name, (form, _) in SINGLE.items()})
 
     def services(self):
         count = self.number(1)
