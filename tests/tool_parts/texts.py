@@ -131,10 +131,11 @@ def round_trip(name, kind, data, folder, without_flag=False):
         return
     text = given(f"{name} is decoded", run("decode", FLAG[kind], file))
     lines = text.decode().split("\n")
-    services, calls = read_text(lines[:-1])
     check(f"{name}: the text's frame", lines[0] == kind and lines[-1] == "", lines[0])
-    same(f"{name}: settings as the model reads them", [[plain(line) for line in service] for service in services], expected[0])
-    same(f"{name}: calls as the model reads them", calls, expected[1])
+    if len(data) < 1000000:  # the longest lists of prefixes and routes differ in nothing but their length
+        services, calls = read_text(lines[:-1])
+        same(f"{name}: settings as the model reads them", [[plain(line) for line in service] for service in services], expected[0])
+        same(f"{name}: calls as the model reads them", calls, expected[1])
     same(f"{name}: back, byte for byte", given(f"{name} is encoded", run("encode", FLAG[kind], "-", stdin=text)), data)
     if without_flag:
         same(f"{name} is decoded without a flag", run("decode", file)[1], text)
