@@ -142,6 +142,7 @@ def sections(captures):
         section(">"), interface(">", 0), old(">", 1, b"\0\0\0\2" + ONE), enhanced(">", 1, b"\0\0\0\2" + UDP)))
     captures.gives("sections and interfaces", mixed, [(1, ONE), (3, ONE), (0, TWO), (0, ONE)])
     captures.gives("one interface for all", mixed, [(9, ONE), (9, ONE), (9, TWO), (9, ONE), (9, UDP)], "--interface", 9, "--all")
+    captures.gives("the last interface for all", mixed, [(255, ONE), (255, ONE)], "--interface", 255, "--count", 2)
     captures.gives("skipped and counted", mixed, [(3, ONE), (0, TWO)], "--skip", 1, "--count", 2)
     check("no datagram counted", captures.run(mixed, "--count", 0)[1] == expected())
     captures.gives("interface 255", section("<") + interface("<", 101) * 256 + enhanced("<", 1, ONE, place=255), [(255, ONE)])

@@ -64,6 +64,13 @@ def explained():
         named = all(call in line for call in calls)
         check(f"explain {number}: its calls", calls and named and line.count(f"[{number}]") == len(calls), out)
     every = given("explain all", run("explain")).decode()
+    calls = {functions.split()[0] for functions, _ in numbers.CALLS.values()}
+    named = {numbers.CALLS[name][0] if name in numbers.CALLS else "path_size" for name in numbers.ASKS_FOR_SERVICE}
+    lent = set(re.findall(r"bogtrumpet_(\w+)\((?:const )?struct bogtrumpet_node \*node,\s*uint8_t service", header))
+    same("explain 11: every function that names a service", (named, named - calls), (lent, {"path_size"}))
+    places = [[number for number in numbers.NUMBERS if words in given("one", run("explain", number)).decode()]
+              for words in ("given by every call", "where the node has no such service")]
+    same("explain: what 0 and 11 have alone", places, [[0], [11]])
     same("explain without a number", every, "\n".join(given("each", run("explain", number)).decode() for number in sorted(numbers.NUMBERS)))
 
 
