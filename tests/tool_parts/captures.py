@@ -123,8 +123,8 @@ def link_types(captures):
         for order in ORDERS:
             for magic in (0xA1B2C3D4, 0xA1B23C4D):
                 captures.gives(f"{name}, pcap, {ORDERS[order]}, {magic:x}", pcap(timed, link, order, magic), [(0, ONE), (0, TWO)])
-            if name == "a VLAN":
-                captures.gives("a tag and no byte more", pcap([(7, framed(b""), 18)], link), [(0, b"")], "--all")
+            if not name.startswith("raw IP,"):
+                captures.gives(f"{name}, no byte more", pcap([(7, framed(b""), len(framed(b"")))], link), [(0, b"")], "--all")
             captures.gives(f"{name}, pcap, all of IPv4", pcap(timed, link, order), [(0, ONE), (0, UDP), (0, TWO)], "--all")
             start = section(order) + interface(order, link)
             for kind, blocks in (("enhanced", [enhanced(order, 5, one) for one in frames]), ("simple", [simple(order, one) for one in frames]),
