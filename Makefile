@@ -4,8 +4,10 @@
 PREFIX = /usr/local
 DESTDIR =
 AR = ar
+CC = cc
 
 LIBRARY = target/staticlib/libbogtrumpet.a
+SHARED = target/staticlib/libbogtrumpet.so
 OBJECTS = target/staticlib/objects
 HEADER = include/bogtrumpet.h
 
@@ -35,6 +37,10 @@ $(LIBRARY): $(SOURCES)
 	rm target/staticlib/libbogtrumpet_rules.a
 	$(AR) rcsD $@ $(OBJECTS)/node/*.o $(OBJECTS)/rules/*.o
 
+# the archive as one shared object, for bogtrumpet-tool
+$(SHARED): $(LIBRARY)
+	$(CC) -shared -nostartfiles -Wl,--whole-archive $(LIBRARY) -Wl,--no-whole-archive -o $@
+
 $(HOST): $(HOST_SOURCES) host/bogtrumpetd.h $(HEADER) $(LIBRARY)
 	mkdir -p target/host
 	$(CC) $(HOST_FLAGS) $(CFLAGS) $(HOST_SOURCES) $(LIBRARY) -o $@
@@ -53,13 +59,17 @@ bogtrumpet.pc: Makefile $(HEADER)
 	    'Description: ISATAP tunnel ends (RFC 5214), one or two in a box, proved' 'Version: $(VERSION)' 'Cflags: -I$${includedir}' \
 	    'Libs: -L$${libdir} -lbogtrumpet' > target/$@
 
-install: $(LIBRARY) $(HOST) bogtrumpet.pc
-	install -d $(DESTDIR)$(PREFIX)/include $(DESTDIR)$(PREFIX)/lib/pkgconfig $(DESTDIR)$(PREFIX)/sbin \
-	    $(DESTDIR)$(PREFIX)/share/man/man5 $(DESTDIR)$(PREFIX)/share/man/man8 $(DESTDIR)$(PREFIX)/share/doc/bogtrumpet \
-	    $(DESTDIR)$(PREFIX)/lib/systemd/system
+# The shared object goes beside the tool's modules and not to lib/, where the linker would take it in the archive's place.
+install: $(LIBRARY) $(SHARED) $(HOST) bogtrumpet.pc
+	install -d $(addprefix $(DESTDIR)$(PREFIX)/,bin sbin include lib/pkgconfig lib/bogtrumpet/bogtrumpet_tool lib/systemd/system \
+	    share/man/man1 share/man/man5 share/man/man8 share/doc/bogtrumpet)
 	install -m 644 $(HEADER) $(DESTDIR)$(PREFIX)/include/
 	install -m 644 $(LIBRARY) $(DESTDIR)$(PREFIX)/lib/
 	install -m 644 target/bogtrumpet.pc $(DESTDIR)$(PREFIX)/lib/pkgconfig/
+	install -m 755 tools/bogtrumpet-tool $(DESTDIR)$(PREFIX)/bin/
+	install -m 644 tools/bogtrumpet_tool/*.py $(DESTDIR)$(PREFIX)/lib/bogtrumpet/bogtrumpet_tool/
+	install -m 755 $(SHARED) $(DESTDIR)$(PREFIX)/lib/bogtrumpet/
+	install -m 644 tools/bogtrumpet-tool.1 $(DESTDIR)$(PREFIX)/share/man/man1/
 	install -m 755 $(HOST) $(DESTDIR)$(PREFIX)/sbin/
 	install -m 644 host/bogtrumpetd.conf.5 $(DESTDIR)$(PREFIX)/share/man/man5/
 	install -m 644 host/bogtrumpetd.8 $(DESTDIR)$(PREFIX)/share/man/man8/
@@ -67,7 +77,7 @@ install: $(LIBRARY) $(HOST) bogtrumpet.pc
 	sed 's|/usr/sbin/|$(PREFIX)/sbin/|' host/bogtrumpetd.service > $(DESTDIR)$(PREFIX)/lib/systemd/system/bogtrumpetd.service
 
 clean:
-	rm -rf target/staticlib target/bogtrumpet.pc
+	rm -rf target/staticlib target/host target/bogtrumpet.pc
 
 .DELETE_ON_ERROR:
 .PHONY: all host host-checked install clean bogtrumpet.pc
