@@ -6,7 +6,7 @@
 --     asked-same, heard-same, replaced-same     these change the router list of their service and the latest time alone.        advertised-same     advertising
 --     plain-asked-list, plain-heard-list     what a step says of the router list is what the answer leaves
 use mathlib.Core.Path.{_≡_, refl, ap, _∙_}
-use Prim.Native.Nat.{ℕ, max, _<_, _≤_}
+use Prim.Native.Nat.{ℕ, max, _<_}
 use mathlib.Core.Bool.{Bool, true, false, cond, _&&_}
 use mathlib.Core.List.{List}
 use lib.Dec.{eqb, ltb}

@@ -14,6 +14,7 @@ ghost use Rattle.header.specs.Outer.{outerOf, isOuterMalformed, isSumWro
 
 // The first byte of an IPv4 header: version 4, and from 5 to 15 words.
 const LEAST_FIRST: u8 = 0x45;
+
 const MOST_FIRST: u8 = 0x4f;
 
 // The fields of an IPv4 header, lengths in bytes.
