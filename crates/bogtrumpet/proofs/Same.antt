@@ -1,18 +1,18 @@
 -- What the calls on a node are, as those over a pointer make them: the one place that looks into the node's own definitions. Assumes nothing.
---     by-number        of a service's number.        there-second     whether its service is there
+--     by-number        of a service's number.        there-second, there-both, there-first     whether its service is there
 --     size-is, size-now, size-toward     a size over the table's rows is the node's
 --     gathered-same, absent-same     what receiving gathers changes one place, or none.        received-same     with the latest time it is the node's
 --     sent-same        a sending over a path of the size toward the tunnel end is the node's
 --     asked-same, heard-same, replaced-same     these change the router list of their service and the latest time alone.        advertised-same     advertising
 --     plain-asked-list, plain-heard-list     what a step says of the router list is what the answer leaves
 use mathlib.Core.Path.{_≡_, refl, ap, _∙_}
-use Prim.Native.Nat.{ℕ, max, _<_}
+use Prim.Native.Nat.{ℕ, max, _<_, _≤_}
 use mathlib.Core.Bool.{Bool, true, false, cond, _&&_}
 use mathlib.Core.List.{List}
-use lib.Dec.{eqb, ltb}
+use lib.Dec.{eqb, ltb, leb}
 use lib.ListN.{length}
 use native.Mathlib.Omega.{arith}
-use borrow.Author.Tests.{ne-eqb}
+use borrow.Author.Tests.{eqb-true, eqb-false, ne-eqb, lt-ltb, le-ltb, le-leb, lt-leb}
 use Rattle.address.specs.Address.{lastQuad}
 use Rattle.advertisements.specs.declared.Advertisement.{Advertisement}
 use Rattle.asking.specs.Ask.{answeredWith}
@@ -84,6 +84,23 @@ there-second k both other = rw (ne-eqb k 0 other) (joined (eqb k 1) (ltb 0 both)
     joined : (a b : Bool) → (a && b) ≡ cond a b false
     joined true b = refl
     joined false b = refl
+
+-- a service is there: by the greatest number that is
+pub there-both : (k both : ℕ) → 0 < both → leb k 1 ≡ isThere both k
+there-both k both b = go (eqb k 0) (eqb k 1) refl refl
+  where
+    go : (a b : Bool) → eqb k 0 ≡ a → eqb k 1 ≡ b → leb k 1 ≡ cond a true (cond b (ltb 0 both) false)
+    go true b′ ea eb = let e : k ≡ 0 = eqb-true k 0 ea in le-leb k 1 (omega (arith, e))
+    go false true ea eb = let e : k ≡ 1 = eqb-true k 1 eb in rw (lt-ltb 0 both b) (le-leb k 1 (omega (arith, e)))
+    go false false ea eb = let not0 : k ≡ 0 → ⊥ = eqb-false k 0 ea in let not1 : k ≡ 1 → ⊥ = eqb-false k 1 eb in lt-leb k 1 (omega (arith, not0, not1))
+
+pub there-first : (k both : ℕ) → both ≤ 0 → leb k 0 ≡ isThere both k
+there-first k both b = go (eqb k 0) (eqb k 1) refl refl
+  where
+    go : (a b : Bool) → eqb k 0 ≡ a → eqb k 1 ≡ b → leb k 0 ≡ cond a true (cond b (ltb 0 both) false)
+    go true b′ ea eb = let e : k ≡ 0 = eqb-true k 0 ea in le-leb k 0 (omega (arith, e))
+    go false true ea eb = let e : k ≡ 1 = eqb-true k 1 eb in rw (le-ltb 0 both b) (lt-leb k 0 (omega (arith, e)))
+    go false false ea eb = let not0 : k ≡ 0 → ⊥ = eqb-false k 0 ea in lt-leb k 0 (omega (arith, not0))
 
 abbrev pub size-among : Node → ServiceName → ℕ → ℕ → ℕ
 size-among h w v t = inForce (serviceOf h w .settings .«link_size») (keptAmong (h .paths .neighbours) (h .paths .sizes) (h .paths .times) (h .paths .count) v t)

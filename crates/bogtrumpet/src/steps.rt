@@ -216,7 +216,7 @@ pub fn sent(
     let c = next_hop.third;
     let d = next_hop.last;
     let bytes = plain::whole(a, b, c, d);
-    let there = numbered::there(both, service);
+    let there = numbered::there_by_most(both, service);
     let sent = send::sent_by(there, named, path_size, packet, bytes, locator, out);
     let given = sent.answer;
     let answer = answers::plain_sent(given);
@@ -326,7 +326,7 @@ pub fn advertised(
     ensures { λ r. ⌜ (r ≡ plainAdvertised (advertisedBy (isThere both service) named (now (packet .entry)) locator (advertisementFrom advertisement) (length (now (out .entry)))))
         × (now (out .exit) ≡ advertisedThrough (isThere both service) named (now (packet .entry)) locator (advertisementFrom advertisement) (now (out .entry))) ⌝ }
 {
-    let there = numbered::there(both, service);
+    let there = numbered::there_by_most(both, service);
     let told = plain::advertisement_from(advertisement);
     answers::plain_advertised(advertise::advertised_by(there, named, packet, locator, told, out))
 }
