@@ -1,5 +1,5 @@
 -- What the calls on a node are, as those over a pointer make them: the one place that looks into the node's own definitions. Assumes nothing.
---     by-number        of a service's number.        there-both, there-first     whether its service is there
+--     by-number        of a service's number.        there-second, there-both, there-first     whether its service is there
 --     size-is, size-now, size-toward     a size over the table's rows is the node's
 --     gathered-same, absent-same     what receiving gathers changes one place, or none.        received-same     with the latest time it is the node's
 --     sent-same        a sending over a path of the size toward the tunnel end is the node's
@@ -7,12 +7,12 @@
 --     plain-asked-list, plain-heard-list     what a step says of the router list is what the answer leaves
 use mathlib.Core.Path.{_≡_, refl, ap, _∙_}
 use Prim.Native.Nat.{ℕ, max, _<_, _≤_}
-use mathlib.Core.Bool.{Bool, true, false, cond}
+use mathlib.Core.Bool.{Bool, true, false, cond, _&&_}
 use mathlib.Core.List.{List}
 use lib.Dec.{eqb, ltb, leb}
 use lib.ListN.{length}
 use native.Mathlib.Omega.{arith}
-use borrow.Author.Tests.{eqb-true, eqb-false, lt-ltb, le-ltb, le-leb, lt-leb}
+use borrow.Author.Tests.{eqb-true, eqb-false, ne-eqb, lt-ltb, le-ltb, le-leb, lt-leb}
 use Rattle.address.specs.Address.{lastQuad}
 use Rattle.advertisements.specs.declared.Advertisement.{Advertisement}
 use Rattle.asking.specs.Ask.{answeredWith}
@@ -29,15 +29,18 @@ use Rattle.paths.specs.Table.{keptAmong, keptIn}
 use Rattle.refusals.specs.declared.Refusal.the-variants.{NoLocator}
 use Rattle.refusals.proofs.Numbers.{never-zero}
 use Rattle.routers.specs.Routers.{live}
+use Rattle.routers.specs.declared.Router.{Router}
 use Rattle.routers.specs.declared.RouterList.{RouterList}
+use Rattle.settings.specs.declared.Settings.{Settings}
 use Rattle.sending.specs.declared.SendAnswer.the-variants as sent
 use Rattle.pieces.specs.Places.{places}
 use Rattle.pieces.specs.Take.{withPlace}
 use Rattle.pieces.specs.declared.Place.{Place}
 use Rattle.receiving.specs.Collect.{Collected, collectedOf}
-use Rattle.receiving.specs.Stages.{judgedOf, judgedWith}
+use Rattle.receiving.specs.Stages.{placedAt, judgedOf, judgedWith}
 use Rattle.receiving.specs.declared.Received.the-variants as received
 use Rattle.receiving.specs.declared.collect.Gathered.{Gathered}
+use Rattle.receiving.specs.declared.judging.Stage.{Stage}
 use Rattle.receiving.specs.declared.judging.Stage.the-variants as stage
 use Rattle.node.specs.Advertise.{advertisedBy, advertisedThrough, advertiseOf, advertiseOutput}
 use Rattle.node.specs.Ask.{askedBy, askedThrough, askOf, askOutput}
@@ -54,7 +57,7 @@ use Rattle.node.specs.declared.Service.{Service}
 use Rattle.node.specs.declared.ServiceName.{ServiceName}
 use Rattle.node.specs.declared.ServiceName.the-variants.{First, Second}
 use Rattle.bogtrumpet.specs.Answers.{plainReceived, plainSized, plainSent, plainAsked, plainHeard, plainAdvertised}
-use Rattle.bogtrumpet.specs.Gathered.{judgedStep, gatheredAfter, GatheredAs}
+use Rattle.bogtrumpet.specs.Gathered.{plainStage, plainJudged, judgedStep, gatheredAfter, GatheredAs}
 use Rattle.bogtrumpet.specs.Numbered.{byNumber, nameOf, isThere}
 use Rattle.bogtrumpet.specs.Steps.{sentStep, sentAfter, sizedStep, replacedStep, listAfter, AskedAs, HeardAs}
 use Rattle.bogtrumpet.specs.declared.steps.AskedStep.{AskedStep}
@@ -73,6 +76,14 @@ by-number f call none both k at-first at-second at-none = go (eqb k 0) (eqb k 1)
     go true b = at-first
     go false true = at-second
     go false false = at-none
+
+-- whether a service other than the first is there
+pub there-second : (k both : ℕ) → (k ≡ 0 → ⊥) → (eqb k 1 && ltb 0 both) ≡ isThere both k
+there-second k both other = rw (ne-eqb k 0 other) (joined (eqb k 1) (ltb 0 both))
+  where
+    joined : (a b : Bool) → (a && b) ≡ cond a b false
+    joined true b = refl
+    joined false b = refl
 
 -- a service is there: by the greatest number that is
 pub there-both : (k both : ℕ) → 0 < both → leb k 1 ≡ isThere both k
@@ -125,11 +136,22 @@ module _ (h : Node) (k : ℕ) (p hop : List ℕ) (locator t : ℕ) (out : List �
   pub sent-same : (size : ℕ) → size ≡ pathSizeToward h (nameOf k) hop t → Sent-same size
   sent-same size sized = rw sized at-size
 
+plain-placed : (joined : Bool) (offset length : ℕ) → record { number = 0; joined = joined; offset = offset; length = length } ≡ plainReceived (placedAt joined offset length)
+plain-placed true offset length = refl
+plain-placed false offset length = refl
+
+-- what is to be judged comes to the same with a refusal's number for it
+plain-judged : (s : Settings) (routers : List Router) (x : Stage) → plainJudged s routers (plainStage x) ≡ plainReceived (judgedOf s routers x)
+unfolding judgedOf
+plain-judged s routers (stage.Open x) = refl
+plain-judged s routers (stage.Passed p) = plain-placed (p .joined) (p .offset) (p .length)
+plain-judged s routers (stage.Refused r) = refl
+
 -- what is gathered, with one place changed or none, says all that is asked of receiving
 module _ (s : Service) (now : ℕ) (d : List ℕ) (i : ℕ) (memory : List ℕ) where
   module _ (g : Gathered) where
     abbrev gathered : GatheredStep
-    gathered = record { stage = g .stage; place = g .place; at = g .at; latest = now; piece = g .piece }
+    gathered = record { stage = plainStage (g .stage); place = g .place; at = g .at; latest = now; piece = g .piece }
 
     after : (b : Bool) → cond b (withPieces s (withPlace (g .at) (g .place) (s .pieces))) s ≡ withPieces s (cond b (withPlace (g .at) (g .place) (s .pieces)) (s .pieces))
     after true = refl
@@ -148,11 +170,11 @@ module _ (s : Service) (now : ℕ) (d : List ℕ) (i : ℕ) (memory : List ℕ) 
     gathered-same told in-bounds = record {
       at-time = refl;
       next = after (g .piece) ∙ ap (λ (c : Collected). withPieces s (c .pieces)) told;
-      answer = rw (settings-kept (g .piece), routers-kept (g .piece)) (ap (λ (c : Collected). plainReceived (c .answer)) told);
+      answer = rw (settings-kept (g .piece), routers-kept (g .piece)) (plain-judged (s .settings) (live (s .routers)) (g .stage) ∙ ap (λ (c : Collected). plainReceived (c .answer)) told);
       in-bounds = in-bounds;
     }
 
-  pub absent-same : (p : Place) → GatheredAs false s now d i memory (record { stage = stage.Refused NoLocator; place = p; at = 0; latest = now; piece = false })
+  pub absent-same : (p : Place) → GatheredAs false s now d i memory (record { stage = plainStage (stage.Refused NoLocator); place = p; at = 0; latest = now; piece = false })
   unfolding collectedBy judgedStep judgedOf
   absent-same p = record { at-time = refl; next = refl; answer = refl; in-bounds = omega arith }
 

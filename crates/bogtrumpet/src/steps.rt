@@ -20,7 +20,9 @@ use node::send;
 use pieces::Place;
 use receiving::collect;
 use receiving::judging;
+use receiving::judging::Opening;
 use receiving::judging::Stage;
+use receiving::judging::Standing;
 use refusals::Refusal;
 use routers::RouterList;
 use settings::Settings;
@@ -34,7 +36,7 @@ ghost use Rattle.node.specs.Receive.{collectedThrough};
 ghost use Rattle.node.specs.Send.{sentThrough};
 ghost use Rattle.routers.specs.Routers.{rescheduledOf};
 ghost use Rattle.bogtrumpet.specs.Answers.{plainAdvertised};
-ghost use Rattle.bogtrumpet.specs.Gathered.{GatheredAs, judgedStep};
+ghost use Rattle.bogtrumpet.specs.Gathered.{plainStage, GatheredAs, judgedStep};
 ghost use Rattle.bogtrumpet.specs.Numbered.{isThere};
 ghost use Rattle.bogtrumpet.specs.Plain.{bytesOf, advertisementFrom};
 ghost use Rattle.bogtrumpet.specs.Steps.{madeStep, sentStep, replacedStep, AskedAs, HeardAs};
@@ -52,10 +54,18 @@ pub struct SentStep {
     pub latest: u32,
 }
 
+// What is to be judged of a datagram, or where the packet stands, or the number: what `receiving::judging::Stage` has, but for the number. It is
+// told where the refusal is, which the compiler knows there, and so is looked up nowhere.
+pub(crate) enum PlainStage {
+    Open(Opening),
+    Passed(Standing),
+    Refused(u8),
+}
+
 // What is to be judged of a datagram. Of the node a piece that comes to the collection of its service changes one place there and the latest time, any
 // other datagram the latest time alone.
 pub(crate) struct GatheredStep {
-    pub stage: Stage,
+    pub stage: PlainStage,
     pub place: Place,
     pub at: usize,
     pub latest: u32,
@@ -107,6 +117,16 @@ pub fn made_pair(_: Node, first: Settings, second: Settings) -> MadeStep
     MadeStep { answer, node }
 }
 
+fn plain_stage(stage: Stage) -> PlainStage
+    ensures { λ r. ⌜ r ≡ plainStage stage ⌝ }
+{
+    match stage {
+        Stage::Open(x) => PlainStage::Open(x),
+        Stage::Passed(at) => PlainStage::Passed(at),
+        Stage::Refused(refusal) => PlainStage::Refused(refusal.number()),
+    }
+}
+
 // A datagram up to what is to be judged of it: receiving::collect::gather.
 pub(crate) fn gathered(
     named: Service,
@@ -126,7 +146,8 @@ pub(crate) fn gathered(
         let settings = named.settings;
         let pieces = named.pieces;
         let gathered = collect::gather(settings, pieces, latest, datagram, interface, memory);
-        let stage = gathered.stage;
+        let read = gathered.stage;
+        let stage = plain_stage(read);
         let place = gathered.place;
         return GatheredStep {
             stage,
@@ -136,9 +157,10 @@ pub(crate) fn gathered(
             piece: gathered.piece,
         };
     }
+    let stage = plain_stage(Stage::Refused(Refusal::NoLocator));
     let place = Place::none();
     GatheredStep {
-        stage: Stage::Refused(Refusal::NoLocator),
+        stage,
         place,
         at: 0,
         latest,
@@ -150,11 +172,27 @@ pub(crate) fn gathered(
 pub(crate) fn judged(named: Service, step: GatheredStep) -> Received
     ensures { λ r. ⌜ r ≡ judgedStep named step ⌝ }
 {
-    let settings = named.settings;
-    let routers = named.routers;
     let stage = step.stage;
-    let given = judging::judge(settings, routers, stage);
-    answers::plain_received(given)
+    match stage {
+        PlainStage::Open(x) => {
+            let settings = named.settings;
+            let routers = named.routers;
+            let given = judging::judge(settings, routers, Stage::Open(x));
+            answers::plain_received(given)
+        }
+        PlainStage::Passed(at) => Received {
+            number: 0,
+            joined: at.joined,
+            offset: at.offset,
+            length: at.length,
+        },
+        PlainStage::Refused(number) => Received {
+            number,
+            joined: false,
+            offset: 0,
+            length: 0,
+        },
+    }
 }
 
 // A sending over a path of that size: node::send::sent_by.
@@ -178,7 +216,7 @@ pub fn sent(
     let c = next_hop.third;
     let d = next_hop.last;
     let bytes = plain::whole(a, b, c, d);
-    let there = numbered::there(both, service);
+    let there = numbered::there_by_most(both, service);
     let sent = send::sent_by(there, named, path_size, packet, bytes, locator, out);
     let given = sent.answer;
     let answer = answers::plain_sent(given);
@@ -288,7 +326,7 @@ pub fn advertised(
     ensures { λ r. ⌜ (r ≡ plainAdvertised (advertisedBy (isThere both service) named (now (packet .entry)) locator (advertisementFrom advertisement) (length (now (out .entry)))))
         × (now (out .exit) ≡ advertisedThrough (isThere both service) named (now (packet .entry)) locator (advertisementFrom advertisement) (now (out .entry))) ⌝ }
 {
-    let there = numbered::there(both, service);
+    let there = numbered::there_by_most(both, service);
     let told = plain::advertisement_from(advertisement);
     answers::plain_advertised(advertise::advertised_by(there, named, packet, locator, told, out))
 }

@@ -124,11 +124,13 @@ pub fn right(s: &[u8]) -> bool
     right_from(0, s)
 }
 
-// Whether the checksum is right of words that were added up exactly, its own among them.
+// Whether the checksum is right of words that were added up exactly, its own among them. One turn of the fold tells: it leaves at most twice
+// sixteen one bits, and what it leaves comes to sixteen one bits exactly where it is these or twice these.
 pub fn right_words(words: u32) -> bool
     ensures { λ r. ⌜ r ≡ isRightFrom words [] ⌝ }
 {
-    sum_of_words(words) == ALL_ONES
+    let turned = two_words(words);
+    (turned == 65535) | (turned == 131070)
 }
 
 // Whether the checksum that s holds is right, the sum continued from a start value.

@@ -9,8 +9,9 @@ use mir.Val.{Fits}
 use mir.Syntax.{w8}
 use Rattle.address.specs.Address.{quadOf}
 use Rattle.checksum.specs.Folding.{wordSum}
+use Rattle.checksum.specs.Sum.{swapped}
 use Rattle.header.specs.Numbers.{outerHeader}
-use Rattle.header.specs.Fields.{wordAt, quadAt, bytesFrom, addressAt}
+use Rattle.header.specs.Fields.{wordAt, quadAt, exchangedAt, bytesFrom, addressAt}
 use Rattle.header.specs.Outer.{outerOf}
 use Rattle.header.specs.declared.outer.Outer.{Outer}
 
@@ -41,10 +42,14 @@ module _ (d : List ℕ) (byte : (i : ℕ) → getD d i 0 < 256) where
   unfolding quadAt
   at k = quad-words (getD d k 0) (getD d (k + 1) 0) (getD d (k + 2) 0) (getD d (k + 3) 0) (byte (k + 1)) (byte (k + 2)) (byte (k + 3))
 
-  -- the exact sum of the words of a header without options
-  pub ten-words : outerHeader ≤ length d → twoWords (quadAt d 0) + twoWords (quadAt d 4) + (twoWords (quadAt d 8) + twoWords (quadAt d 12)) + twoWords (quadAt d 16) ≡ wordSum (take outerHeader d)
-  unfolding wordSum
-  ten-words long = rw (sym (bytes-taken 20 0 d long), at 0, at 4, at 8, at 12, at 16) (omega arith)
+  exchanged : (k : ℕ) → twoWords (exchangedAt d k) ≡ getD d (k + 3) 0 * 256 + getD d (k + 2) 0 + (getD d (k + 1) 0 * 256 + getD d k 0)
+  unfolding exchangedAt
+  exchanged k = quad-words (getD d (k + 3) 0) (getD d (k + 2) 0) (getD d (k + 1) 0) (getD d k 0) (byte (k + 2)) (byte (k + 1)) (byte k)
+
+  -- the exact sum of the words of a header without options, their bytes exchanged
+  pub ten-words : outerHeader ≤ length d → twoWords (exchangedAt d 0) + twoWords (exchangedAt d 4) + (twoWords (exchangedAt d 8) + twoWords (exchangedAt d 12)) + twoWords (exchangedAt d 16) ≡ wordSum (swapped (take outerHeader d))
+  unfolding wordSum swapped
+  ten-words long = rw (sym (bytes-taken 20 0 d long), exchanged 0, exchanged 4, exchanged 8, exchanged 12, exchanged 16) (omega arith)
 
 -- the exact sum of the words of an address
 pub eight-words : (a : List ℕ) → length a ≡ 16 → ((i : ℕ) → getD a i 0 < 256)

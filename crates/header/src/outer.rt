@@ -5,11 +5,17 @@ use crate::fields;
 use refusals::Check;
 use refusals::Refusal;
 ghost use mathlib.Core.Path.{_≡_};
-ghost use Prim.Native.Nat.{_≤_};
+ghost use Prim.Native.Nat.{_*_, _/_, _%_, _≤_};
 ghost use lib.ListN.{length, take};
 ghost use Rattle.checksum.specs.Folding.{wordSum};
+ghost use Rattle.checksum.specs.Sum.{swapped};
 ghost use Rattle.header.specs.Numbers.{outerHeader};
 ghost use Rattle.header.specs.Outer.{outerOf, isOuterMalformed, isSumWrong, headerCheck, outerGiven, headerReadOf, outerReadOf, payloadOf, quoteOf, isQuoteMalformed};
+
+// The first byte of an IPv4 header: version 4, and from 5 to 15 words.
+const LEAST_FIRST: u8 = 0x45;
+
+const MOST_FIRST: u8 = 0x4f;
 
 // The fields of an IPv4 header, lengths in bytes.
 pub struct Outer {
@@ -81,23 +87,26 @@ fn short_header(d: &[u8]) -> Outer
     full_header(&padded)
 }
 
-// Number 2, of a datagram of n bytes. A header that is no longer than the total length, which the bytes have, is no longer than these.
-pub fn malformed(n: usize, o: Outer) -> bool
+// Number 2, of a datagram of n bytes whose first byte has the version and the header's words: both are asked of it at once. A header that is no
+// longer than the total length, which the bytes have, is no longer than these.
+fn malformed(n: usize, first: u8, o: Outer) -> bool
+    requires { ⌜ (o .version ≡ first / 16) × (o .header ≡ first % 16 * 4) ⌝ }
     ensures { λ r. ⌜ r ≡ isOuterMalformed n o ⌝ }
 {
-    (o.version != 4) | (o.header < OUTER_HEADER) | (o.total < o.header) | (n < o.total)
+    (first < LEAST_FIRST) | (MOST_FIRST < first) | (o.total < o.header) | (n < o.total)
 }
 
-// The exact sum of the ten words of a header without options, which was read as numbers before.
+// The exact sum of the ten words of a header without options, their bytes exchanged: so the numbers that were read before are added up as the
+// machine reads them, and the checksum is right by that sum exactly where it is by the other (RFC 1071, 2 (B)).
 fn ten_words(d: &[u8]) -> u32
     requires { ⌜ outerHeader ≤ length (now d) ⌝ }
-    ensures { λ r. ⌜ (r ≡ wordSum (take outerHeader (now (d .entry)))) × (r ≤ 655350) ⌝ }
+    ensures { λ r. ⌜ (r ≡ wordSum (swapped (take outerHeader (now (d .entry))))) × (r ≤ 655350) ⌝ }
 {
-    let first = checksum::two_words(fields::quad_in(d, 0))
-        + checksum::two_words(fields::quad_in(d, 4));
-    let second = checksum::two_words(fields::quad_in(d, 8))
-        + checksum::two_words(fields::quad_in(d, 12));
-    first + second + checksum::two_words(fields::quad_in(d, 16))
+    let first = checksum::two_words(fields::exchanged_in(d, 0))
+        + checksum::two_words(fields::exchanged_in(d, 4));
+    let second = checksum::two_words(fields::exchanged_in(d, 8))
+        + checksum::two_words(fields::exchanged_in(d, 12));
+    first + second + checksum::two_words(fields::exchanged_in(d, 16))
 }
 
 // Number 3. Most headers have no options.
@@ -111,11 +120,12 @@ pub fn sum_wrong(d: &[u8], o: Outer) -> bool
     !checksum::right(&d[..end])
 }
 
-// Numbers 2 to 4 of a datagram of n bytes that starts with d.
-pub fn check_header(n: usize, d: &[u8], o: Outer) -> Check
+// Numbers 2 to 4 of a datagram of n bytes that starts with d, where the header o is read from.
+fn check_header(n: usize, d: &[u8], o: Outer) -> Check
+    requires { ⌜ o ≡ outerOf (now d) ⌝ }
     ensures { λ r. ⌜ r ≡ headerCheck n (now (d .entry)) o ⌝ }
 {
-    if malformed(n, o) {
+    if malformed(n, fields::byte(d, 0), o) {
         return Check::Stop(Refusal::OuterMalformed);
     }
     if sum_wrong(d, o) {

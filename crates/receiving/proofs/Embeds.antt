@@ -67,11 +67,13 @@ pub passes : (x : Opening) → x .address .last < 4294967296 → passesAnyhow x 
 unfolding passesAnyhow innerCheck isOnLink
 passes x h t s isListed =
     let a : List ℕ = bytesIn (x .address) in
-    let whole = and-left (not (isInnerMalformed (x .length) (innerIn x))) (isLinkLocal a && isIdentifier a && eqb (x .address .last) (x .source)) t in
-    let sender = and-right (not (isInnerMalformed (x .length) (innerIn x))) (isLinkLocal a && isIdentifier a && eqb (x .address .last) (x .source)) t in
-    let prefixed = and-left (isLinkLocal a) (isIdentifier a) (and-left (isLinkLocal a && isIdentifier a) (eqb (x .address .last) (x .source)) sender) in
-    let identified = and-right (isLinkLocal a) (isIdentifier a) (and-left (isLinkLocal a && isIdentifier a) (eqb (x .address .last) (x .source)) sender) in
-    let embedded = and-right (isLinkLocal a && isIdentifier a) (eqb (x .address .last) (x .source)) sender in
+    let it : Bool = eqb (x .address .last) (x .source) in
+    let right : Bool = not (isInnerMalformed (x .length) (innerIn x)) in
+    let sender = and-left (it && isLinkLocal a && isIdentifier a) right t in
+    let whole = and-right (it && isLinkLocal a && isIdentifier a) right t in
+    let identified = and-right (it && isLinkLocal a) (isIdentifier a) sender in
+    let prefixed = and-right it (isLinkLocal a) (and-left (it && isLinkLocal a) (isIdentifier a) sender) in
+    let embedded = and-left it (isLinkLocal a) (and-left (it && isLinkLocal a) (isIdentifier a) sender) in
     rw (not-true (isInnerMalformed (x .length) (innerIn x)) whole, link-local-good (forbiddenTo s (lastQuad a)) a prefixed, embeds-quads s (x .address) (x .source) h, identified, embedded, prefixed)
   where
     not-true : (b : Bool) → not b ≡ true → b ≡ false

@@ -64,7 +64,7 @@ innerIn x = record { version = x .version; length = x .packet; next = 0; hop = 0
 unfoldable pub passesAnyhow : Opening → Bool
 passesAnyhow x =
     let source : List ℕ = bytesIn (x .address) in
-    not (isInnerMalformed (x .length) (innerIn x)) && (isLinkLocal source && isIdentifier source && eqb (x .address .last) (x .source))
+    eqb (x .address .last) (x .source) && isLinkLocal source && isIdentifier source && not (isInnerMalformed (x .length) (innerIn x))
 
 -- where an inner packet of n bytes stands: in the memory if it was joined there, else in the datagram
 abbrev pub placedAt : Bool → ℕ → ℕ → Received

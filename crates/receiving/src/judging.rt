@@ -53,7 +53,7 @@ fn passes_anyhow(x: Opening) -> bool
     ensures { λ r. ⌜ r ≡ passesAnyhow x ⌝ }
 {
     let q = x.address;
-    !malformed(x) & (quads::link_local_prefixed(q) & quads::identifier(q) & (q.last == x.source))
+    (q.last == x.source) & quads::link_local_prefixed(q) & quads::identifier(q) & !malformed(x)
 }
 
 // What is read of a payload from that outer source. Its length is asked first, so that the header is then read without asking it again.

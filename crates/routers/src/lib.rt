@@ -149,10 +149,13 @@ impl RouterList {
         }
     }
 
-    // Whether a router of that address is in the list.
+    // Whether a router of that address is in the list. Where there is none, the addresses are not copied to be searched.
     pub fn lists(self, address: u32) -> bool
         ensures { λ r. ⌜ r ≡ listed address (live self) ⌝ }
     {
+        if self.count == 0 {
+            return false;
+        }
         let addresses = self.addresses;
         lists_among(&addresses, self.count, address)
     }

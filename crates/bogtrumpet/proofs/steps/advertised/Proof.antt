@@ -7,7 +7,7 @@ returns : tie.Need-returns
 returns c =
     let a = c .before .before .before in
     let told = a .before .before .advertisement-from .ensures in
-    let there = a .before .before .before .there .ensures in
+    let there = a .before .before .before .there-by-most .ensures in
     (rw (c .plain-advertised .ensures, a .advertised-by .ensures .0, told, there), rw (a .advertised-by .ensures .1, told, there))
 
 pub advertised-spec : {M : Type 1} → statement M

@@ -1,9 +1,17 @@
 -- `header::outer::check_header` meets its contract: at each return the tests that led there say which row holds. Assumes nothing.
 use native.Mathlib.Omega.{arith}
 use borrow.Author.Tests.{eq-eqb, ne-eqb}
-use Rattle.header.specs.Outer.{headerCheck}
+use mathlib.Core.Path.{ap, _∙_}
+use Rattle.header.specs.Outer.{outerOf, headerCheck}
+use Rattle.header.specs.declared.outer.Outer.{Outer}
 use Rattle.header.proofs.outer.check_header.Statement.{statement}
 use Rattle.header.proofs.outer.check_header.Tie as tie
+
+malformed-requires : tie.Need-malformed-requires
+unfolding outerOf
+malformed-requires c κs =
+    let read = c .before .before .pre in
+    (ap (λ (x : Outer). x .version) read ∙ rw (c .byte .ensures), ap (λ (x : Outer). x .header) read ∙ rw (c .byte .ensures))
 
 returns : tie.Need-returns
 unfolding headerCheck
@@ -24,4 +32,4 @@ returns-4 c = let s = c .before .before in simp (← s .before .before .before .
 pub check-header-spec : {M : Type 1} → statement M
 check-header-spec =
     tie.close
-    (tie.spec (omega arith) returns (omega arith) returns-2 returns-3 returns-4)
+    (tie.spec (omega arith) malformed-requires returns (omega arith) returns-2 returns-3 returns-4)

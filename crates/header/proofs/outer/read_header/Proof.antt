@@ -21,4 +21,4 @@ returns-3 c = rw (← c .before .before .before .before .full-header .ensures, �
 pub read-header-spec : {M : Type 1} → statement M
 read-header-spec =
     tie.close
-    (tie.spec returns (omega arith) (omega arith) (search needs) (search needs) returns-2 returns-3)
+    (tie.spec returns (omega arith) (λ c κs. c .full-header .ensures) (search needs) (search needs) returns-2 returns-3)

@@ -6,9 +6,7 @@ use Rattle.receiving.proofs.judging.passes_anyhow.Tie as tie
 
 returns : tie.Need-returns
 unfolding passesAnyhow
-returns c =
-    let i = c .before .before in
-    rw (i .identifier .ensures, i .before .link-local-prefixed .ensures, i .before .before .malformed .ensures)
+returns c = rw (c .malformed .ensures, c .before .identifier .ensures, c .before .before .link-local-prefixed .ensures)
 
 pub passes-anyhow-spec : {M : Type 1} → statement M
 passes-anyhow-spec = tie.close (tie.spec (search needs) (search needs) (search needs) returns)
