@@ -4,10 +4,10 @@ use mathlib.Core.Logic.{⊎-elim}
 use mathlib.Core.Bool.{Bool, true, false, cond}
 use mathlib.Core.List.{List, [], _∷_}
 use mathlib.Core.Option.{Option, none, some}
-use Prim.Native.Nat.{ℕ, zero, suc, _-_, _<_, min, max}
+use Prim.Native.Nat.{ℕ, zero, suc, _-_, _≤_, _<_, min, max}
 use native.Mathlib.Omega.{arith}
 use native.Mathlib.Nat.{zero-min}
-use borrow.Author.Tests.{lt-ltb}
+use borrow.Author.Tests.{lt-ltb, le-ltb, ltb-true, ltb-false}
 use lib.Dec.{ltb, eqb, leb·suc-suc}
 use lib.ListN.{length, take, getD, length-take}
 use Rattle.paths.specs.Kept.{Report, mostNeighbours, lastOf, keptFrom, whileYoung, inForce}
@@ -18,6 +18,7 @@ use Rattle.paths.specs.declared.Look.{Look}
 use Rattle.paths.specs.declared.Kept.{Kept}
 use Rattle.paths.specs.declared.Kept.the-variants.{Nothing}
 use Rattle.paths.proofs.Reports.{tested, keptFrom-cond}
+use Rattle.paths.proofs.Scan.{row-take}
 
 -- the report at a place
 abbrev rowAt : List ℕ → List ℕ → List ℕ → ℕ → Report
@@ -62,6 +63,17 @@ in-force-cond false link k = refl
 pub record Scanned (vs ss ts : List ℕ) (count v n p : ℕ) : Type 0 where
   pub used : n ≡ min count (min (min (length vs) (length ss)) (length ts))
   pub row : p ≡ rowOf v (take n vs)
+
+-- of all rows the place r of v was found: that among those in use is r, or their number
+pub scanned-all : (vs ss ts : List ℕ) (count v r m : ℕ) → r ≡ rowOf v vs → m ≡ min (min (length vs) (length ss)) (length ts)
+    → Scanned vs ss ts count v (min count m) (min r (min count m))
+scanned-all vs ss ts count v r m found all = record { used = ap (min count) all; row = ap (λ (k : ℕ). min k (min count m)) found ∙ sym (row-take v (min count m) vs) }
+
+-- what is read at a place that is in use
+pub read-in-use : (f : ℕ → ℕ) (r n other : ℕ) → cond (ltb r n) (f r) other ≡ cond (ltb (min r n) n) (f (min r n)) other
+read-in-use f r n other =
+    ⊎-elim (λ e. let h : r < n = ltb-true r n e in let m : min r n ≡ r = omega arith in rw m)
+    (λ e. let h : n ≤ r = ltb-false r n e in let m : min r n ≡ n = omega arith in rw (e, m, le-ltb n n (omega arith))) (tested (ltb r n))
 
 module _ {vs ss ts : List ℕ} {count v n p : ℕ} (c : Scanned vs ss ts count v n p) (now : ℕ) where
   number : n ≡ length (heldIn vs ss ts count)

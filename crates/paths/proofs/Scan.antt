@@ -1,17 +1,18 @@
 -- What the loops of the code ask: one more turn of a search, and one more turn of the shift.
 use mathlib.Core.Path.{_≡_, refl, sym, ap, _∙_}
-use mathlib.Core.Bool.{Bool, true, false, _||_, or-assoc, or-false}
+use mathlib.Core.Bool.{Bool, true, false, _||_, or-assoc, or-false, false≢true}
+use mathlib.Core.Logic.{⊎-elim}
 use mathlib.Core.List.{List, [], _∷_, _++_}
-use Prim.Native.Nat.{ℕ, zero, suc, _+_, _-_, _≤_, _<_}
-use native.Mathlib.Numerals.{add-one, add-two, add-three}
+use Prim.Native.Nat.{ℕ, zero, suc, _+_, _-_, _≤_, _<_, min}
+use native.Mathlib.Numerals.{add-one}
 use native.Mathlib.Nat.{zero-add}
 use native.Mathlib.Omega.{arith}
 use borrow.Author.Tests.{eq-eqb, ne-eqb, lt-ltb, le-ltb}
 use lib.Dec.{eqb}
 use lib.ListN.{length, take, drop, getD, set, length-append, length-drop, take-append-drop, drop-of-length-le, List·getD-append}
 use lib.Seq.{drop-cons, drop-drop, take-add, take-suc, set-at, drop-at, getD-take, append-snoc, length-take-le}
-use Rattle.lists.proofs.Tests.{or-left, or-right}
-use Rattle.paths.specs.Search.{half, together, isAmong}
+use Rattle.lists.proofs.Tests.{tested, or-left, or-right}
+use Rattle.paths.specs.Search.{isAmong, Passed, Within}
 use Rattle.paths.specs.Table.{rowOf, cut, pushed}
 use Rattle.paths.specs.Candidate.{firstBelow}
 use Rattle.paths.specs.declared.Candidate.the-variants.{Size}
@@ -28,48 +29,67 @@ module _ (v : ℕ) (xs : List ℕ) (i : ℕ) where
   pub row-end : length xs ≤ i → rowOf v (drop i xs) ≡ 0
   row-end l = rw (drop-of-length-le xs l)
 
--- four that are compared at once
-four : (xs : List ℕ) (i : ℕ) → i + half ≤ length xs → take half (drop i xs) ≡ getD xs i 0 ∷ getD xs (i + 1) 0 ∷ getD xs (i + 2) 0 ∷ getD xs (i + 3) 0 ∷ []
-four xs i h =
-    rw (
-      drop-cons xs i 0 (omega arith),
-      drop-cons xs (suc i) 0 (omega arith),
-      drop-cons xs (suc (suc i)) 0 (omega arith),
-      drop-cons xs (suc (suc (suc i))) 0 (omega arith),
-      add-one i,
-      add-two i,
-      add-three i,
-    )
+-- of the first n the place of v is that among all, where there is one
+pub row-take : (v n : ℕ) (xs : List ℕ) → rowOf v (take n xs) ≡ min (rowOf v xs) n
+row-take v zero xs = omega arith
+row-take v (suc n) [] = omega arith
+row-take v (suc n) (x ∷ xs) =
+    ⊎-elim (λ e. rw e (omega arith)) (λ e. rw e (omega (arith, row-take v n xs))) (tested (eqb x v))
 
-joined : (a b c d : Bool) → ((a || b) || (c || d)) ≡ (a || (b || (c || (d || false))))
-joined true b c d = refl
-joined false true c d = refl
-joined false false c d = ap (λ (e : Bool). c || e) (sym (or-false d))
-
-pub among-four : (v : ℕ) (xs : List ℕ) (i : ℕ) → i + half ≤ length xs
-    → ((eqb (getD xs i 0) v || eqb (getD xs (i + 1) 0) v) || (eqb (getD xs (i + 2) 0) v || eqb (getD xs (i + 3) 0) v)) ≡ isAmong v (take half (drop i xs))
-among-four v xs i h = rw (four xs i h) (joined (eqb (getD xs i 0) v) (eqb (getD xs (i + 1) 0) v) (eqb (getD xs (i + 2) 0) v) (eqb (getD xs (i + 3) 0) v))
-
--- a number is among two lists one after another exactly if it is among one of them: of eight numbers, four and four
+-- a number is among two lists one after another exactly if it is among one of them
 among-both : (v : ℕ) (xs ys : List ℕ) → (isAmong v xs || isAmong v ys) ≡ isAmong v (xs ++ ys)
 among-both v [] ys = refl
 among-both v (x ∷ xs) ys = or-assoc (eqb x v) (isAmong v xs) (isAmong v ys) ∙ ap (λ (e : Bool). eqb x v || e) (among-both v xs ys)
 
-pub among-eight : (v : ℕ) (xs : List ℕ) (i : ℕ) → (isAmong v (take half (drop i xs)) || isAmong v (take half (drop (i + half) xs))) ≡ isAmong v (take together (drop i xs))
-among-eight v xs i =
-    let ys : List ℕ = drop i xs in
-    rw (← drop-drop half i xs) (among-both v (take half ys) (take half (drop half ys)) ∙ ap (isAmong v) (sym (take-add half half ys)))
+among-cut : (v a b : ℕ) (ys : List ℕ) → (isAmong v (take a ys) || isAmong v (take b (drop a ys))) ≡ isAmong v (take (a + b) ys)
+among-cut v a b ys = among-both v (take a ys) (take b (drop a ys)) ∙ ap (isAmong v) (sym (take-add a b ys))
+
+-- a turn of the loop that compares
+pub among-turn : (v : ℕ) (xs : List ℕ) (i : ℕ) (found : Bool) → i < length xs
+    → (found || eqb (getD xs i 0) v || isAmong v (drop (i + 1) xs)) ≡ (found || isAmong v (drop i xs))
+among-turn v xs i found inside = rw (add-one i, drop-cons xs i 0 inside) (or-assoc found (eqb (getD xs i 0) v) (isAmong v (drop (suc i) xs)))
+
+pub among-end : (v : ℕ) (xs : List ℕ) (i : ℕ) (found : Bool) → length xs ≤ i → (found || isAmong v (drop i xs)) ≡ found
+among-end v xs i found l = rw (drop-of-length-le xs l) (or-false found)
 
 none-in : (v : ℕ) (xs ys : List ℕ) → isAmong v xs ≡ false → rowOf v (xs ++ ys) ≡ length xs + rowOf v ys
 none-in v [] ys h = sym (zero-add (rowOf v ys))
 none-in v (x ∷ xs) ys h = rw (or-left (eqb x v) (isAmong v xs) h) (omega (arith, none-in v xs ys (or-right (eqb x v) (isAmong v xs) h)))
 
-pub eight-miss : (v : ℕ) (xs : List ℕ) (i : ℕ) → i + together ≤ length xs → isAmong v (take together (drop i xs)) ≡ false
-    → rowOf v (drop i xs) ≡ together + rowOf v (drop (i + together) xs)
-eight-miss v xs i h none =
-    let parts : take together (drop i xs) ++ drop (i + together) xs ≡ drop i xs = rw (← drop-drop together i xs) (take-append-drop together (drop i xs)) in
-    let l : length (take together (drop i xs)) ≡ together = length-take-le together (drop i xs) (omega (arith, length-drop i xs)) in
-    ap (rowOf v) (sym parts) ∙ none-in v (take together (drop i xs)) (drop (i + together) xs) none ∙ rw l
+-- those that v is not among are passed
+pub block-passed : (v : ℕ) (xs : List ℕ) (i w : ℕ) → Passed v xs i → i + w ≤ length xs → isAmong v (take w (drop i xs)) ≡ false → Passed v xs (i + w)
+block-passed v xs i w before h none =
+    let parts : take w (drop i xs) ++ drop (i + w) xs ≡ drop i xs = rw (← drop-drop w i xs) (take-append-drop w (drop i xs)) in
+    let l : length (take w (drop i xs)) ≡ w = length-take-le w (drop i xs) (omega (arith, length-drop i xs)) in
+    let miss : rowOf v (drop i xs) ≡ w + rowOf v (drop (i + w) xs) = ap (rowOf v) (sym parts) ∙ none-in v (take w (drop i xs)) (drop (i + w) xs) none ∙ rw l in
+    (h, omega (arith, miss, before .1))
+
+-- a half of those that v is among: the first, as long as the second
+pub in-first : (v : ℕ) (xs : List ℕ) (i w h : ℕ) → Within v xs i w → h ≤ w - h → isAmong v (take h (drop i xs)) ≡ true → Within v xs i (w - h)
+in-first v xs i w h before l there =
+    let e : h + (w - h - h) ≡ w - h = omega arith in
+    let cut : (isAmong v (take h (drop i xs)) || isAmong v (take (w - h - h) (drop h (drop i xs)))) ≡ isAmong v (take (w - h) (drop i xs)) = among-cut v h (w - h - h) (drop i xs) ∙ rw e in
+    let inside : i + w ≤ length xs = before .inside in
+    record { passed = before .passed; inside = omega arith; there = sym cut ∙ rw there }
+
+-- or the second
+pub in-second : (v : ℕ) (xs : List ℕ) (i w h : ℕ) → Within v xs i w → h ≤ w → isAmong v (take h (drop i xs)) ≡ false → Within v xs (i + h) (w - h)
+in-second v xs i w h before l none =
+    let e : h + (w - h) ≡ w = omega arith in
+    let cut : (isAmong v (take h (drop i xs)) || isAmong v (take (w - h) (drop h (drop i xs)))) ≡ isAmong v (take w (drop i xs)) = among-cut v h (w - h) (drop i xs) ∙ rw e in
+    let rest : isAmong v (take (w - h) (drop h (drop i xs))) ≡ true = rw none at cut ∙ before .there in
+    let inside : i + w ≤ length xs = before .inside in
+    record { passed = block-passed v xs i h (before .passed) (omega arith) none; inside = omega arith; there = rw (← drop-drop h i xs) rest }
+
+-- where one is left it is v
+front-is : (v : ℕ) (ys : List ℕ) → isAmong v (take 1 ys) ≡ true → rowOf v ys ≡ 0
+front-is v [] h = refl
+front-is v (y ∷ ys) h = rw (sym (or-false (eqb y v)) ∙ h)
+
+pub row-left : (v : ℕ) (xs : List ℕ) (i w : ℕ) → Within v xs i w → w ≤ 1 → i ≡ rowOf v xs
+row-left v xs i zero before l = absurd (false≢true (before .there))
+row-left v xs i (suc zero) before l = omega (arith, before .passed .1, front-is v (drop i xs) (before .there))
+row-left v xs i (suc (suc w)) before l = absurd (omega arith)
 
 -- ---- the search for a plateau
 

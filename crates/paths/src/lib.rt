@@ -122,8 +122,8 @@ fn smaller(a: u16, b: u16) -> u16
     if a < b { a } else { b }
 }
 
-// The size in force over a link toward a neighbour at a time, of a table whose rows are lent: one pass over those in use, where
-// there are any, and nothing is copied.
+// The size in force over a link toward a neighbour at a time, of a table whose rows are lent: all of them are searched, where any is in
+// use, and nothing is copied.
 pub fn size_among<'a>(
     link: u16,
     neighbours: &'a [u32],
@@ -138,10 +138,9 @@ pub fn size_among<'a>(
     if count == 0 {
         return link;
     }
+    let p = row_in_lent(neighbours, neighbour);
     let rows = lists::least(lists::least(neighbours.len(), sizes.len()), times.len());
-    let used = lists::least(count, rows);
-    let p = row_in_lent(neighbours, used, neighbour);
-    size_at(link, sizes, times, used, p, time)
+    size_at(link, sizes, times, count, rows, p, time)
 }
 
 // What lent rows say of a neighbour at a time: one search is for the size in force and for the row that makes room.
@@ -156,11 +155,11 @@ pub fn look_among<'a>(
 ) -> Look
     ensures { λ r. ⌜ r ≡ lookAmong link (now (neighbours .entry)) (now (sizes .entry)) (now (times .entry)) count neighbour time ⌝ }
 {
+    let p = row_in_lent(neighbours, neighbour);
     let rows = lists::least(lists::least(neighbours.len(), sizes.len()), times.len());
+    let in_force = size_at(link, sizes, times, count, rows, p, time);
     let used = lists::least(count, rows);
-    let p = row_in_lent(neighbours, used, neighbour);
-    let in_force = size_at(link, sizes, times, used, p, time);
-    let row = lists::least(p, LAST_ROW);
+    let row = lists::least(lists::least(p, used), LAST_ROW);
     Look {
         in_force,
         row,
@@ -168,23 +167,27 @@ pub fn look_among<'a>(
     }
 }
 
-// The size in force over a link by the report of a row, where that is one of the `used` rows.
+// The size in force over a link by the report of a row, where that is one of the first `count` of `rows`. Two tests: that a row which was found is
+// one of the 64 the compiler knows.
 fn size_at<'a>(
     link: u16,
     sizes: &'a [u16],
     times: &'a [u32],
-    used: usize,
+    count: usize,
+    rows: usize,
     row: usize,
     time: u32,
 ) -> u16
-    requires { ⌜ (used ≤ length (now sizes)) × (used ≤ length (now times)) ⌝ }
-    ensures { λ r. ⌜ r ≡ cond (ltb row used) (inForce link (whileYoung (getD (now (sizes .entry)) row 0) (getD (now (times .entry)) row 0) time)) link ⌝ }
+    requires { ⌜ (rows ≤ length (now sizes)) × (rows ≤ length (now times)) ⌝ }
+    ensures { λ r. ⌜ r ≡ cond (ltb row (min count rows)) (inForce link (whileYoung (getD (now (sizes .entry)) row 0) (getD (now (times .entry)) row 0) time)) link ⌝ }
 {
-    if row < used {
-        in_force(link, while_young(sizes[row], times[row], time))
-    } else {
-        link
+    if count <= row {
+        return link;
     }
+    if rows <= row {
+        return link;
+    }
+    in_force(link, while_young(sizes[row], times[row], time))
 }
 
 // A report's size while that is under 600 s old.

@@ -3,14 +3,14 @@ use native.Mathlib.Omega.{arith}
 use lib.ListN.{length}
 use Rattle.paths.specs.Search.{Passed}
 use Rattle.paths.proofs.Scan.{row-hit, row-miss, row-end}
-use Rattle.paths.proofs.rows.row_from.Statement.{statement}
-use Rattle.paths.proofs.rows.row_from.Tie as tie
+use Rattle.paths.proofs.rows.row_in_turn.Statement.{statement}
+use Rattle.paths.proofs.rows.row_in_turn.Tie as tie
 
 abbrev Inv-loop : tie.InvT-loop
-Inv-loop used start neighbour i₀ i = Passed neighbour used i
+Inv-loop used neighbour i₀ i = Passed neighbour used i
 
 abbrev μ-loop : tie.MeasureT-loop
-μ-loop used start neighbour i₀ i = length used - i
+μ-loop used neighbour i₀ i = length used - i
 
 returns : tie.Need-returns Inv-loop μ-loop
 returns c =
@@ -30,7 +30,7 @@ returns-2 c =
     let a = b .before .args in
     omega (arith, row-end (a .neighbour) (a .used .now) (b .loop .i) (omega arith))
 
-pub row-from-spec : {M : Type 1} → statement M
-row-from-spec =
+pub row-in-turn-spec : {M : Type 1} → statement M
+row-in-turn-spec =
     tie.close
     (tie.spec Inv-loop μ-loop (omega arith) (omega arith) (omega arith) returns (omega arith) (omega arith) loop-again returns-2)
