@@ -71,7 +71,8 @@ enum call { CALLS(NAME) CALL_COUNT };
 enum event { EVENTS(NAME) EVENT_COUNT };
 #undef NAME
 
-#define NUMBERS 32 /* the library's are 0 to 30 */
+#define NUMBERS 32
+_Static_assert(BOGTRUMPET_PIECE_UNFIT < NUMBERS, "the library's last number is counted");
 
 struct counters {
     uint64_t calls[CALL_COUNT][NUMBERS]; /* by the number that a call gave */
@@ -109,7 +110,7 @@ struct host {
     struct counters node_counters; /* of size reports, which name no service */
     struct sockets sockets;
     uint32_t started;
-    unsigned indexes[INTERFACES]; /* the kernel's numbers of the interfaces, 0 for one that is not there now */
+    unsigned indexes[INTERFACES]; /* the kernel's numbers of the interfaces, 0 for one that is not there */
     uint32_t indexes_time;        /* at which they were looked up */
 };
 
@@ -134,6 +135,7 @@ void replace_routers(struct host *host, const struct config *config);
 /* Writes the counters. */
 void counters_text(const struct host *host, FILE *out);
 void counters_json(const struct host *host, FILE *out);
+void counters_say(const struct host *host);
 void counters_files(const struct host *host);
 
 /* ---- system.c: devices, sockets, privileges, the log --------------------------------------------------------------- */
@@ -147,13 +149,16 @@ void drop_privileges(const char *user);
 bool put_datagram(const struct sockets *sockets, const uint8_t *datagram, size_t length);
 bool put_cut(const struct sockets *sockets, const uint8_t *datagram, size_t length);
 
-/* The size that the link takes over which the datagram goes, 0 where that is not known. */
-uint16_t near_link_size(const uint8_t *datagram);
+/* The size that the link takes over which the datagram goes, which is too long for it; 0 where that is not known. */
+uint16_t near_link_size(const uint8_t *datagram, size_t length);
 
 /* Has the kernel no longer join TCP segments that come in a tunnel: what a raw socket then gets has checksums that are not finished. */
 void stop_joining_of_segments(const char *name);
 
-/* A line of the log. A note is left out where one of the same text was written in the same second. */
+/* Bytes for standard error, of which those that it does not take at once are lost: the tunnel does not wait for its log. */
+void say(const char *bytes, size_t length);
+
+/* A line of the log. It is left out where the same one was written in the same second, or 16 others. */
 void note(const char *text, ...) __attribute__((format(printf, 1, 2)));
 
 /* The same, with the error that errno names; then the program ends. */

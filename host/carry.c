@@ -57,9 +57,9 @@ static void report(struct host *host, const uint8_t *message, size_t length) {
 }
 
 /* The near link takes no such datagram: its size, as the next router would have reported it. */
-static void report_near_link(struct host *host, struct service *service, const uint8_t *datagram) {
+static void report_near_link(struct host *host, struct service *service, const uint8_t *datagram, size_t length) {
     enum { QUOTED = BOGTRUMPET_OUTER_HEADER_LENGTH + 8 };
-    uint16_t size = near_link_size(datagram);
+    uint16_t size = near_link_size(datagram, length);
     uint8_t message[8 + QUOTED] = {3, 4, [6] = (uint8_t)(size >> 8), (uint8_t)size};
     memcpy(message + 8, datagram, QUOTED);
     uint16_t sum = (uint16_t)~bogtrumpet_checksum(0, message, sizeof message);
@@ -75,7 +75,7 @@ static bool put(struct host *host, struct service *service, const uint8_t *datag
         return true;
     }
     if (errno == EMSGSIZE && datagram[6] & DONT_FRAGMENT) {
-        report_near_link(host, service, datagram);
+        report_near_link(host, service, datagram, length);
         return false;
     }
     bool cut = errno == EMSGSIZE && put_cut(&host->sockets, datagram, length);
@@ -98,6 +98,8 @@ static void send_packet(struct host *host, struct service *service, const uint8_
         done = sent.number != BOGTRUMPET_OK || put(host, service, out, sent.length);
     }
     service->counters.events[UNSENT] += !done;
+    if (!done)
+        note("%s: the near link takes no datagram of %zu bytes", service->config->tun, length + BOGTRUMPET_OUTER_HEADER_LENGTH);
 }
 
 /* An ISATAP address is its own next hop; all else goes to the router that the operator names, or that advertised last. A multicast
@@ -170,12 +172,15 @@ void ask_routers(struct host *host) {
 
 /* ---- From IPv4 ------------------------------------------------------------------------------------------------------ */
 
-/* The type of the ICMPv6 message that the kernel finds in the packet, behind extension headers too; 0 where it finds none. */
+/* The type of the ICMPv6 message that the kernel finds in the packet, behind extension headers too; 0 where it finds none, as in a fragment
+   that is not the first. */
 static uint8_t message_type(const uint8_t *packet, size_t length) {
     uint8_t next = packet[NEXT_HEADER];
     size_t at = BOGTRUMPET_INNER_HEADER_LENGTH;
     while (at + 8 <= length && (next == IPPROTO_HOPOPTS || next == IPPROTO_ROUTING || next == IPPROTO_FRAGMENT || next == IPPROTO_DSTOPTS)) {
         size_t header = next == IPPROTO_FRAGMENT ? 8 : 8 * ((size_t)packet[at + 1] + 1);
+        if (next == IPPROTO_FRAGMENT && (packet[at + 2] != 0 || packet[at + 3] >> 3 != 0))
+            return 0;
         next = packet[at];
         at += header;
     }
@@ -226,18 +231,16 @@ static void take_inner(struct host *host, struct service *service, const uint8_t
         deliver(service, packet, length, joined);
 }
 
-/* The library's number of an interface. An interface may go and come back under another index. */
+/* The library's number of an interface. An interface may go and come back under another index, or be renamed: names are looked up anew each second. */
 static uint8_t interface_number(struct host *host, unsigned index) {
-    for (int turn = 0; turn < 2; turn++) {
-        for (size_t i = 0; i < host->config.interface_count; i++)
-            if (host->indexes[i] == index)
-                return (uint8_t)i;
-        if (host->indexes_time == now())
-            break;
+    if (host->indexes_time != now()) {
         host->indexes_time = now();
         for (size_t i = 0; i < host->config.interface_count; i++)
             host->indexes[i] = if_nametoindex(host->config.interfaces[i]);
     }
+    for (size_t i = 0; i < host->config.interface_count; i++)
+        if (index != 0 && host->indexes[i] == index)
+            return (uint8_t)i;
     return NO_INTERFACE;
 }
 
@@ -279,12 +282,14 @@ static void replace_list(struct host *host, struct service *service, const struc
     memcpy(list.routers, settings->routers, sizeof list.routers);
     uint8_t number = bogtrumpet_replace_routers(&host->node, service->number, list, now());
     count(&service->counters, ROUTERS, number);
+    note("%s: a list of %zu routers: %s", service->config->tun, list.count, bogtrumpet_number_text(number));
+    if (number != BOGTRUMPET_OK)
+        return;
     bool listed = false;
     for (size_t i = 0; i < list.count; i++)
         listed |= list.routers[i] == service->heard_router;
     if (!listed)
         service->heard_until = 0;
-    note("%s: a list of %zu routers: %s", service->config->tun, list.count, bogtrumpet_number_text(number));
 }
 
 void replace_routers(struct host *host, const struct config *config) {

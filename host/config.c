@@ -83,6 +83,8 @@ static const char *take_tun(struct reader *reader, char *value) {
         }
     if (config->service_count == SERVICES)
         return "a third service";
+    if (strpbrk(value, "/%:") != NULL || strcmp(value, ".") == 0 || strcmp(value, "..") == 0)
+        return "no name that the kernel takes for a device";
     reader->service = &config->services[config->service_count++];
     reader->service->place = reader->place;
     reader->service->advertisement.lifetime = 1800;
@@ -97,6 +99,8 @@ static const char *interface(struct config *config, const char *name, uint8_t *f
     *found = (uint8_t)i;
     if (i < config->interface_count)
         return NULL;
+    if (i == INTERFACES)
+        return "too many interfaces";
     const char *wrong = *name == 0 ? "no name of an interface" : word(name, config->interfaces[i], IFNAMSIZ);
     config->interface_count += wrong == NULL;
     return wrong;
@@ -254,13 +258,16 @@ static const char *take(struct reader *reader, const struct key *key, char *valu
         return "given twice";
     *given |= bit;
     struct service_config before = key->of_node ? (struct service_config){0} : *service;
+    size_t interfaces = reader->config->interface_count;
     const char *wrong = take_value(reader, key, value);
     if (wrong == NULL && key->refused != NULL && !accepted(reader->config))
         wrong = key->refused;
     if (key->of_node)
         return wrong;
-    if (wrong != NULL) /* so that the next keys are judged without it */
+    if (wrong != NULL) { /* so that the next keys are judged without it */
         *service = before;
+        reader->config->interface_count = interfaces;
+    }
     service->advertises |= strncmp(key->name, "advertise-", 10) == 0;
     service->identification |= strcmp(key->name, "identification") == 0;
     return wrong;

@@ -2,8 +2,10 @@
 #include "bogtrumpetd.h"
 
 #include <errno.h>
+#include <fcntl.h>
 #include <stdlib.h>
 #include <string.h>
+#include <sys/stat.h>
 #include <unistd.h>
 
 #define NAME(name, text) text,
@@ -68,21 +70,42 @@ void counters_json(const struct host *host, FILE *out) {
     fflush(out);
 }
 
-/* A file that is there whole at any moment: what is written anew takes its name. */
+/* A file that is there whole at any moment: what is written anew takes its name. What is no file, a device for instance, is left alone. */
 static void write_file(const struct host *host, const char *name, void (*write)(const struct host *, FILE *)) {
     char other[PATH_MAX + 8];
-    snprintf(other, sizeof other, "%s.new", name);
-    FILE *file = *name != 0 ? fopen(other, "w") : NULL;
+    struct stat there;
     if (*name == 0)
         return;
+    if (lstat(name, &there) == 0 && !S_ISREG(there.st_mode)) {
+        note("%s: no file", name);
+        return;
+    }
+    snprintf(other, sizeof other, "%s.new", name);
+    int place = open(other, O_WRONLY | O_CREAT | O_TRUNC | O_NOFOLLOW | O_CLOEXEC, 0644);
+    FILE *file = place >= 0 ? fdopen(place, "w") : NULL;
     if (file == NULL) {
         note("%s: %s", other, strerror(errno));
         return;
     }
     write(host, file);
     bool written = !ferror(file);
-    if (fclose(file) != 0 || !written || rename(other, name) != 0)
+    if (fclose(file) != 0 || !written || rename(other, name) != 0) {
         note("%s: %s", name, strerror(errno));
+        unlink(other);
+    }
+}
+
+/* As text on standard error. */
+void counters_say(const struct host *host) {
+    char *text = NULL;
+    size_t length = 0;
+    FILE *memory = open_memstream(&text, &length);
+    if (memory == NULL)
+        return;
+    counters_text(host, memory);
+    if (fclose(memory) == 0)
+        say(text, length);
+    free(text);
 }
 
 void counters_files(const struct host *host) {

@@ -107,7 +107,7 @@ static bool read_signal(int signals, char **options) {
     if (signal.ssi_signo == SIGHUP)
         load_routers(options);
     else if (signal.ssi_signo == SIGUSR1) {
-        counters_text(&host, stderr);
+        counters_say(&host);
         counters_files(&host);
     }
     return signal.ssi_signo == SIGHUP || signal.ssi_signo == SIGUSR1;
@@ -192,6 +192,7 @@ int main(int count, char **words) {
     if (host.config.check)
         return 0;
     host.started = now();
+    signal(SIGPIPE, SIG_IGN); /* of who read the log */
     int signals = open_signals();
     open_sockets(&host.sockets);
     set_up();

@@ -16,6 +16,7 @@
 #include <linux/netlink.h>
 #include <linux/rtnetlink.h>
 #include <linux/sockios.h>
+#include <poll.h>
 #include <pwd.h>
 #include <stdarg.h>
 #include <stdlib.h>
@@ -34,27 +35,38 @@
 
 /* ---- The log -------------------------------------------------------------------------------------------------------- */
 
+void say(const char *bytes, size_t length) {
+    enum { TAKEN_AT_ONCE = 4096 }; /* by a pipe that takes anything */
+    while (length > 0 && poll(&(struct pollfd){.fd = 2, .events = POLLOUT}, 1, 0) == 1) {
+        ssize_t written = write(2, bytes, length < TAKEN_AT_ONCE ? length : TAKEN_AT_ONCE);
+        if (written <= 0)
+            return;
+        bytes += written;
+        length -= (size_t)written;
+    }
+}
+
 void note(const char *text, ...) {
-    static struct {
-        const char *text;
-        uint32_t time;
-    } said[16];
-    static size_t next;
-    size_t i = 0;
-    while (i < 16 && said[i].text != text)
-        i++;
-    if (i < 16 && said[i].time == now())
-        return;
-    if (i == 16)
-        i = next++ % 16;
-    said[i].text = text;
-    said[i].time = now();
+    static char said[16][512];
+    static size_t count;
+    static uint32_t second;
+    char line[512] = "bogtrumpetd: ";
+    size_t front = strlen(line);
     va_list values;
     va_start(values, text);
-    fputs("bogtrumpetd: ", stderr);
-    vfprintf(stderr, text, values);
-    fputc('\n', stderr);
+    vsnprintf(line + front, sizeof line - front - 1, text, values);
     va_end(values);
+    strcat(line, "\n");
+    if (second != now())
+        count = 0;
+    second = now();
+    for (size_t i = 0; i < count; i++)
+        if (strcmp(said[i], line) == 0)
+            return;
+    if (count == 16)
+        return;
+    strcpy(said[count++], line);
+    say(line, strlen(line));
 }
 
 void end(const char *text, ...) {
@@ -69,6 +81,15 @@ void end(const char *text, ...) {
 
 /* ---- The device ----------------------------------------------------------------------------------------------------- */
 
+/* Asks the kernel by netlink, and gives the length of its answer. */
+static size_t ask_kernel(const void *question, size_t length, void *answer, size_t room) {
+    int kernel = socket(AF_NETLINK, SOCK_RAW | SOCK_CLOEXEC, NETLINK_ROUTE);
+    ssize_t read = kernel >= 0 && send(kernel, question, length, 0) >= 0 ? recv(kernel, answer, room, 0) : -1;
+    if (kernel >= 0)
+        close(kernel);
+    return read > 0 ? (size_t)read : 0;
+}
+
 /* No link-local address of the kernel's own making: its identifier would not embed the locator. */
 static void no_automatic_address(const char *tun) {
     struct {
@@ -76,8 +97,8 @@ static void no_automatic_address(const char *tun) {
         struct ifinfomsg link;
         struct rtattr all, inet6, mode;
         uint8_t value, padding[3];
-    } ask = {
-        .head = {sizeof ask, RTM_NEWLINK, NLM_F_REQUEST | NLM_F_ACK, 0, 0},
+    } question = {
+        .head = {sizeof question, RTM_NEWLINK, NLM_F_REQUEST | NLM_F_ACK, 0, 0},
         .link = {.ifi_index = (int)if_nametoindex(tun)},
         .all = {3 * sizeof(struct rtattr) + 4, IFLA_AF_SPEC},
         .inet6 = {2 * sizeof(struct rtattr) + 4, AF_INET6},
@@ -89,13 +110,10 @@ static void no_automatic_address(const char *tun) {
         struct nlmsgerr error;
         uint8_t rest[256];
     } answer = {.error = {.error = -EPROTO}};
-    int links = socket(AF_NETLINK, SOCK_RAW | SOCK_CLOEXEC, NETLINK_ROUTE);
-    if (links < 0 || send(links, &ask, sizeof ask, 0) < 0 || recv(links, &answer, sizeof answer, 0) < 0)
-        end("%s: netlink", tun);
-    errno = -answer.error.error;
+    size_t length = ask_kernel(&question, sizeof question, &answer, sizeof answer);
+    errno = length > 0 ? -answer.error.error : errno;
     if (errno != 0)
-        end("%s: no automatic address", tun);
-    close(links);
+        end("%s: no automatic IPv6 address", tun);
 }
 
 /* The link-local address of the first locator, the size of the packets that pass at best, and up. */
@@ -192,6 +210,7 @@ void open_sockets(struct sockets *sockets) {
         end("a filter for ICMP");
     set_room(sockets->tunnel);
     set_room(sockets->pieces);
+    set_room(sockets->icmp);
 }
 
 /* An address of a header as the kernel takes it. */
@@ -229,16 +248,44 @@ bool put_cut(const struct sockets *sockets, const uint8_t *datagram, size_t leng
     return put(sockets->tunnel, datagram, datagram + BOGTRUMPET_OUTER_HEADER_LENGTH, length - BOGTRUMPET_OUTER_HEADER_LENGTH);
 }
 
-uint16_t near_link_size(const uint8_t *datagram) {
-    struct sockaddr_in from = address_at(datagram + 12), to = address_at(datagram + 16);
-    int probe = socket(AF_INET, SOCK_DGRAM | SOCK_CLOEXEC, 0), size = 0;
-    socklen_t room = sizeof size;
-    to.sin_port = htons(9); /* discard: nothing is sent */
-    if (bind(probe, (struct sockaddr *)&from, sizeof from) < 0 || connect(probe, (struct sockaddr *)&to, sizeof to) < 0 ||
-        getsockopt(probe, IPPROTO_IP, IP_MTU, &size, &room) < 0)
-        size = 0;
-    close(probe);
-    return (uint16_t)(size > UINT16_MAX ? UINT16_MAX : size);
+/* The interface that the kernel sends the datagram by, 0 where it has no way. */
+static unsigned way_of(const uint8_t *datagram) {
+    struct {
+        struct nlmsghdr head;
+        struct rtmsg route;
+        struct rtattr to;
+        uint8_t to_address[4];
+        struct rtattr from;
+        uint8_t from_address[4];
+    } question = {
+        .head = {sizeof question, RTM_GETROUTE, NLM_F_REQUEST, 0, 0},
+        .route = {.rtm_family = AF_INET, .rtm_src_len = 32, .rtm_dst_len = 32},
+        .to = {sizeof(struct rtattr) + 4, RTA_DST},
+        .from = {sizeof(struct rtattr) + 4, RTA_SRC},
+    };
+    union {
+        struct nlmsghdr head;
+        uint8_t bytes[1024];
+    } answer;
+    memcpy(question.to_address, datagram + 16, 4);
+    memcpy(question.from_address, datagram + 12, 4);
+    size_t length = ask_kernel(&question, sizeof question, &answer, sizeof answer);
+    if (!NLMSG_OK(&answer.head, length) || answer.head.nlmsg_type != RTM_NEWROUTE)
+        return 0;
+    unsigned index = 0, rest = (unsigned)RTM_PAYLOAD(&answer.head);
+    for (struct rtattr *part = RTM_RTA(NLMSG_DATA(&answer.head)); RTA_OK(part, rest); part = RTA_NEXT(part, rest))
+        if (part->rta_type == RTA_OIF)
+            memcpy(&index, RTA_DATA(part), sizeof index);
+    return index;
+}
+
+/* The size of the interface, not the kernel's size for the path: what reports say of that, the node judges. */
+uint16_t near_link_size(const uint8_t *datagram, size_t length) {
+    struct ifreq request = {0};
+    int any = socket(AF_INET, SOCK_DGRAM | SOCK_CLOEXEC, 0);
+    bool known = if_indextoname(way_of(datagram), request.ifr_name) != NULL && ioctl(any, SIOCGIFMTU, &request) == 0;
+    close(any);
+    return known && request.ifr_mtu > 0 && (size_t)request.ifr_mtu < length ? (uint16_t)request.ifr_mtu : 0;
 }
 
 void stop_joining_of_segments(const char *name) {

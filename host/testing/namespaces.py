@@ -98,6 +98,7 @@ def _no_namespace(run):
         probe = Namespace(run, "probe")
         try:
             probe.batch("tuntap add dev probe mode tun", "link add wan0 type veth peer name wan1")
+            probe.set("ipv4/ip_forward", 1)
         finally:
             probe.remove()
     except OSError as error:

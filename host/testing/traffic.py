@@ -19,6 +19,12 @@ def ping(space, to, count=3, size=104, interval=0.2):
     return said
 
 
+def ping_in_fragments(space, to, byte):
+    """The same of 3,000 bytes of that value, which the sender's kernel cuts into IPv6 fragments."""
+    said = space.run(["ping", "-6", "-n", "-c", "2", "-w", str(LIMIT), "-i", "0.2", "-s", "3000", "-p", f"{byte:02x}", to]).stdout
+    expect("2 received" in said, f"2 answers to 3,000 bytes of {byte:#x} in fragments from {space.name} to {to}", said)
+
+
 class Transfer:
     """So many blocks over TCP from one namespace to another. With `halt` the sender stops at the middle until it is told to go on."""
 

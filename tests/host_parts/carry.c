@@ -22,6 +22,7 @@
 #define PEERS 8
 
 static struct host host;
+static unsigned loopback;
 static int device; /* the other end of the service's */
 static uint16_t near_sizes[PEERS];
 static uint32_t used[256]; /* the locator that a neighbour last used as its router, by the last byte of its address */
@@ -53,8 +54,8 @@ bool put_cut(const struct sockets *sockets, const uint8_t *datagram, size_t leng
     return take(datagram, length, &cut);
 }
 
-uint16_t near_link_size(const uint8_t *datagram) {
-    return size_toward(datagram);
+uint16_t near_link_size(const uint8_t *datagram, size_t length) {
+    return size_toward(datagram) < length ? size_toward(datagram) : 0;
 }
 
 void note(const char *text, ...) {
@@ -104,6 +105,7 @@ static void make_packet(uint8_t *packet, size_t length, uint32_t from, uint32_t 
     if (length > 48) {
         packet[40] = packet[6] == 58 ? types[below(sizeof types)] : kinds[below(sizeof kinds)];
         packet[41] = 0;
+        packet[42] = below(2) ? 0 : packet[42], packet[43] = below(2) ? packet[43] & 7 : packet[43];
         packet[48] = types[below(sizeof types)];
     }
 }
@@ -205,6 +207,8 @@ static size_t make_datagram(uint8_t *datagram, size_t room) {
 static unsigned type_of(unsigned kind, const uint8_t *rest, size_t length) {
     if (kind == 58)
         return length > 0 ? rest[0] : 0;
+    if (kind == 44 && length >= 8 && ((unsigned)rest[2] << 8 | rest[3]) >= 8)
+        return 0; /* a fragment that is not the first: RFC 8200, 4.5 */
     size_t header = kind == 44 ? 8 : kind == 0 || kind == 43 || kind == 60 ? 8 + 8 * (length > 1 ? (size_t)rest[1] : 0) : 0;
     return header == 0 || length < 8 || length < header ? 0 : type_of(rest[0], rest + header, length - header);
 }
@@ -224,10 +228,10 @@ static void arrive(void) {
     bool heard = type == 134 && bogtrumpet_hear(&twin, 0, inner, received.length, time).number == 0;
     bool expected = received.number == 0 && type != 133 && (type != 134 || heard);
     delivered = sent = cut = 0;
-    take_datagram(&host, datagram, total, 7, true);
+    take_datagram(&host, datagram, total, loopback, true);
     drain();
     must(delivered + sent + cut == 0, "what the kernel joined is taken");
-    take_datagram(&host, datagram, total, 7, false);
+    take_datagram(&host, datagram, total, loopback, false);
     drain();
     struct bogtrumpet_address destination;
     memcpy(destination.bytes, inner + 24, 16);
@@ -261,10 +265,8 @@ int main(int count, char **words) {
     service->config = &host.config.services[0];
     service->tun = ends[0], device = ends[1];
     must(bogtrumpet_new(&host.node, service->config->settings) == 0, "the node");
-    host.indexes[0] = 7;
-    host.indexes_time = now();
+    loopback = if_nametoindex("lo");
     for (unsigned long turn = 0; turn < turns; turn++) {
-        host.indexes[0] = 7;
         if (turn % 4096 == 0) { /* other links, and a node that knows nothing of them */
             for (size_t i = 0; i < PEERS; i++)
                 near_sizes[i] = (uint16_t)(68 + below(1500));
