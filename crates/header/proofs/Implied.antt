@@ -29,10 +29,10 @@ first-byte f = go (ltb f 0x45) refl (ltb 0x4f f) refl (eqb (f / 16) 4) refl
     go false below false above false four = absurd (eqb-false (f / 16) 4 four (omega (arith, ltb-false f 0x45 below, ltb-false 0x4f f above)))
 
 -- the tests of number 2 without the two that follow from the others
-abbrev fewerTests : ℕ → Outer → Bool
+abbrev pub fewerTests : ℕ → Outer → Bool
 fewerTests n o = not (eqb (o .version) 4) || ltb (o .header) outerHeader || ltb (o .total) (o .header) || ltb n (o .total)
 
-implied : (n : ℕ) (o : Outer) → fewerTests n o ≡ isOuterMalformed n o
+pub implied : (n : ℕ) (o : Outer) → fewerTests n o ≡ isOuterMalformed n o
 unfolding isOuterMalformed
 implied n o = alike (fewerTests n o) (isOuterMalformed n o) all fewer
   where

@@ -55,6 +55,10 @@ protocolRows o = (not (eqb (o .protocol) ipv6), OtherProtocol) ∷ []
 abbrev pub pieceRows : Outer → List (Bool × Refusal)
 pieceRows o = (not (eqb (o .fragment) 0), Piece) ∷ []
 
+-- the first of 3 and 4 that a datagram gets which starts with d and has the fields o
+unfoldable pub sumCheck : List ℕ → Outer → Check
+sumCheck d o = firstOf ((isSumWrong d o, OuterChecksum) ∷ protocolRows o)
+
 -- the first of 2 to 4 that a datagram of n bytes gets, which starts with d and has the fields o
 unfoldable pub headerCheck : ℕ → List ℕ → Outer → Check
 headerCheck n d o = firstOf (headerRows n d o ++ protocolRows o)

@@ -10,7 +10,7 @@ ghost use lib.ListN.{length, take};
 ghost use Rattle.checksum.specs.Folding.{wordSum};
 ghost use Rattle.checksum.specs.Sum.{swapped};
 ghost use Rattle.header.specs.Numbers.{outerHeader};
-ghost use Rattle.header.specs.Outer.{outerOf, isOuterMalformed, isSumWrong, headerCheck, outerGiven, headerReadOf, outerReadOf, payloadOf, quoteOf, isQuoteMalformed};
+ghost use Rattle.header.specs.Outer.{outerOf, isOuterMalformed, isSumWrong, sumCheck, headerCheck, outerGiven, headerReadOf, outerReadOf, payloadOf, quoteOf, isQuoteMalformed};
 
 // The first byte of an IPv4 header: version 4, and from 5 to 15 words.
 const LEAST_FIRST: u8 = 0x45;
@@ -87,9 +87,15 @@ fn short_header(d: &[u8]) -> Outer
     full_header(&padded)
 }
 
-// Number 2, of a datagram of n bytes whose first byte has the version and the header's words: both are asked of it at once. A header that is no
-// longer than the total length, which the bytes have, is no longer than these.
-fn malformed(n: usize, first: u8, o: Outer) -> bool
+// Number 2, of a datagram of n bytes. A header that is no longer than the total length, which the bytes have, is no longer than these.
+pub fn malformed(n: usize, o: Outer) -> bool
+    ensures { λ r. ⌜ r ≡ isOuterMalformed n o ⌝ }
+{
+    (o.version != 4) | (o.header < OUTER_HEADER) | (o.total < o.header) | (n < o.total)
+}
+
+// The same where the first byte is at hand, which has the version and the header's words: both are asked of it at once.
+fn malformed_by(n: usize, first: u8, o: Outer) -> bool
     requires { ⌜ (o .version ≡ first / 16) × (o .header ≡ first % 16 * 4) ⌝ }
     ensures { λ r. ⌜ r ≡ isOuterMalformed n o ⌝ }
 {
@@ -120,14 +126,10 @@ pub fn sum_wrong(d: &[u8], o: Outer) -> bool
     !checksum::right(&d[..end])
 }
 
-// Numbers 2 to 4 of a datagram of n bytes that starts with d, where the header o is read from.
-fn check_header(n: usize, d: &[u8], o: Outer) -> Check
-    requires { ⌜ o ≡ outerOf (now d) ⌝ }
-    ensures { λ r. ⌜ r ≡ headerCheck n (now (d .entry)) o ⌝ }
+// Numbers 3 and 4 of a datagram that starts with d.
+fn check_sum(d: &[u8], o: Outer) -> Check
+    ensures { λ r. ⌜ r ≡ sumCheck (now (d .entry)) o ⌝ }
 {
-    if malformed(n, fields::byte(d, 0), o) {
-        return Check::Stop(Refusal::OuterMalformed);
-    }
     if sum_wrong(d, o) {
         return Check::Stop(Refusal::OuterChecksum);
     }
@@ -135,6 +137,27 @@ fn check_header(n: usize, d: &[u8], o: Outer) -> Check
         return Check::Stop(Refusal::OtherProtocol);
     }
     Check::Pass
+}
+
+// Numbers 2 to 4 of a datagram of n bytes that starts with d.
+pub fn check_header(n: usize, d: &[u8], o: Outer) -> Check
+    ensures { λ r. ⌜ r ≡ headerCheck n (now (d .entry)) o ⌝ }
+{
+    if malformed(n, o) {
+        return Check::Stop(Refusal::OuterMalformed);
+    }
+    check_sum(d, o)
+}
+
+// The same of the whole datagram d, which the header o was read from.
+fn check_read(d: &[u8], o: Outer) -> Check
+    requires { ⌜ o ≡ outerOf (now d) ⌝ }
+    ensures { λ r. ⌜ r ≡ headerCheck (length (now (d .entry))) (now (d .entry)) o ⌝ }
+{
+    if malformed_by(d.len(), fields::byte(d, 0), o) {
+        return Check::Stop(Refusal::OuterMalformed);
+    }
+    check_sum(d, o)
 }
 
 // The outer header of a datagram, a piece's too, or the first of the numbers 2 to 4.
@@ -145,7 +168,7 @@ pub fn read_header(d: &[u8]) -> OuterRead
         return OuterRead::Refused(Refusal::OuterMalformed);
     }
     let o = full_header(d);
-    let check = check_header(d.len(), d, o);
+    let check = check_read(d, o);
     match check {
         Check::Pass => OuterRead::Header(o),
         Check::Stop(refusal) => OuterRead::Refused(refusal),

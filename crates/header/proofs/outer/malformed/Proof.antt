@@ -1,10 +1,12 @@
--- `header::outer::malformed` meets its contract: the tests are the definition's, but for those that follow from the others. Assumes nothing.
-use Rattle.header.proofs.Implied.{by-first}
+-- `header::outer::malformed` meets its contract: the tests are the definition's but for two that follow from the others. Assumes nothing.
+use Rattle.header.specs.Outer.{isOuterMalformed}
+use Rattle.header.proofs.Implied.{implied}
 use Rattle.header.proofs.outer.malformed.Statement.{statement}
 use Rattle.header.proofs.outer.malformed.Tie as tie
 
 returns : tie.Need-returns
-returns c = let s = c .before .before in let a = s .args in by-first (a .n) (a .first) (a .o) (s .pre .0) (s .pre .1)
+unfolding isOuterMalformed
+returns c = let a = c .before .before .before .before .args in implied (a .n) (a .o)
 
 pub malformed-spec : {M : Type 1} → statement M
 malformed-spec = tie.close (tie.spec returns)

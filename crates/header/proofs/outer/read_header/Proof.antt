@@ -12,11 +12,11 @@ returns c = simp (lt-ltb _ _ (c .if1 .taken))
 
 returns-2 : tie.Need-returns-2
 unfolding headerReadOf
-returns-2 c = rw (← c .before .before .before .full-header .ensures, ← c .before .before .check-header .ensures, c .enum-told .given .1)
+returns-2 c = rw (← c .before .before .before .full-header .ensures, ← c .before .before .check-read .ensures, c .enum-told .given .1)
 
 returns-3 : tie.Need-returns-3
 unfolding headerReadOf
-returns-3 c = rw (← c .before .before .before .before .full-header .ensures, ← c .before .before .before .check-header .ensures, c .before .check .given .1)
+returns-3 c = rw (← c .before .before .before .before .full-header .ensures, ← c .before .before .before .check-read .ensures, c .before .check .given .1)
 
 pub read-header-spec : {M : Type 1} → statement M
 read-header-spec =
