@@ -1,13 +1,12 @@
 -- Laws of the sum: it is the exact sum of the words, folded; so parts may be summed one after another or moved into the start
 -- value, and a message that holds the complement of its sum is right. Assumes nothing.
 use Prim.Native.Nat.{ℕ, _+_, _*_, _/_, _%_, _≤_, _<_, _^_}
-use mathlib.Core.Path.{_≡_, refl, sym, ap, _∙_}
-use mathlib.Core.Bool.{Bool, true, false, _||_}
+use mathlib.Core.Path.{_≡_, sym, ap, _∙_}
+use mathlib.Core.Bool.{true}
 use mathlib.Core.List.{List, [], _∷_, _++_, foldl}
 use native.Mathlib.Omega.{arith}
 use lib.ListN.{length}
-use lib.Dec.{eqb}
-use borrow.Author.Tests.{eqb-true, eqb-false, eq-eqb, ne-eqb}
+use borrow.Author.Tests.{eq-eqb}
 use Rattle.checksum.specs.Sum.{wordsOf, carried, onesAdd, onesSumFrom, allOnes, onesComplement, isRightFrom}
 use Rattle.checksum.specs.Folding.{wordSum, folded}
 use Rattle.checksum.proofs.Bytes.{Bytes, bytes-append}
@@ -36,15 +35,9 @@ pub folded-complement : (n m : ℕ) → m ≡ folded n → folded (n + onesCompl
 unfolding folded
 folded-complement n m h = omega arith
 
--- of a number of 32 bits one turn of the fold tells whether all bits of the result are one
-pub right-once : (n : ℕ) → n < 2 ^ 32 → (eqb (n / 65536 + n % 65536) 65535 || eqb (n / 65536 + n % 65536) 131070) ≡ eqb (folded n) allOnes
-unfolding folded
-right-once n h = cases (eqb (n / 65536 + n % 65536) 65535) refl (eqb (n / 65536 + n % 65536) 131070) refl
-  where
-    cases : (a : Bool) → eqb (n / 65536 + n % 65536) 65535 ≡ a → (b : Bool) → eqb (n / 65536 + n % 65536) 131070 ≡ b → (a || b) ≡ eqb (folded n) allOnes
-    cases true ea b eb = sym (eq-eqb (folded n) allOnes (omega (arith, eqb-true (n / 65536 + n % 65536) 65535 ea)))
-    cases false ea true eb = sym (eq-eqb (folded n) allOnes (omega (arith, eqb-true (n / 65536 + n % 65536) 131070 eb)))
-    cases false ea false eb = sym (ne-eqb (folded n) allOnes (λ q. omega (arith, q, eqb-false (n / 65536 + n % 65536) 65535 ea, eqb-false (n / 65536 + n % 65536) 131070 eb)))
+-- of 32 bits two turns of the fold leave no carry
+pub folded-twice : (n once : ℕ) → n < 2 ^ 32 → once ≡ carried n → carried once ≡ folded n
+folded-twice n once h q = sym (folded-word (carried once) (omega arith)) ∙ folded-once once ∙ ap folded q ∙ folded-once n
 
 -- words added one after another to a word
 

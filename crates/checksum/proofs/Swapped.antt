@@ -8,8 +8,8 @@ use native.Mathlib.Omega.{arith}
 use lib.ListN.{length}
 use lib.Dec.{eqb}
 use borrow.Author.Tests.{eqb-true, eqb-false, eq-eqb, ne-eqb}
-use Rattle.checksum.specs.Sum.{onesSumFrom, allOnes, isRight, isRightFrom, swapped}
-use Rattle.checksum.specs.Folding.{wordSum, folded}
+use Rattle.checksum.specs.Sum.{onesSumFrom, allOnes, isRight, isRightFrom}
+use Rattle.checksum.specs.Folding.{wordSum, folded, swapped}
 use Rattle.checksum.proofs.Bytes.{Bytes}
 use Rattle.checksum.proofs.Laws.{sum-folded, sum-exact}
 

@@ -10,6 +10,12 @@ wordSum [] = 0
 wordSum (hi ∷ []) = hi * 256
 wordSum (hi ∷ (lo ∷ rest)) = hi * 256 + lo + wordSum rest
 
+-- the octets of each pair exchanged, as a machine reads words whose first octet is the low-order one (RFC 1071 section 2 (B))
+unfoldable pub swapped : List ℕ → List ℕ
+swapped [] = []
+swapped (x ∷ []) = x ∷ []
+swapped (x ∷ (y ∷ rest)) = y ∷ (x ∷ swapped rest)
+
 -- what is left when all carries of n have been brought back: the one number of 16 bits that has n's remainder by 65535 and is 0
 -- exactly when n is
 unfoldable pub folded : ℕ → ℕ

@@ -124,13 +124,13 @@ pub fn right(s: &[u8]) -> bool
     right_from(0, s)
 }
 
-// Whether the checksum is right of words that were added up exactly, its own among them. One turn of the fold tells: it leaves at most twice
-// sixteen one bits, and what it leaves comes to sixteen one bits exactly where it is these or twice these.
+// Whether the checksum is right of words that were added up exactly, its own among them. Of 32 bits two turns of the fold leave no carry.
 pub fn right_words(words: u32) -> bool
     ensures { λ r. ⌜ r ≡ isRightFrom words [] ⌝ }
 {
-    let turned = two_words(words);
-    (turned == 65535) | (turned == 131070)
+    let once = two_words(words);
+    let twice = two_words(once);
+    twice == 65535
 }
 
 // Whether the checksum that s holds is right, the sum continued from a start value.

@@ -8,10 +8,9 @@ use lib.Seq.{drop-cons, getD-drop, take-all}
 use mir.Val.{Fits}
 use mir.Syntax.{w8}
 use Rattle.address.specs.Address.{quadOf}
-use Rattle.checksum.specs.Folding.{wordSum}
-use Rattle.checksum.specs.Sum.{swapped}
+use Rattle.checksum.specs.Folding.{wordSum, swapped}
 use Rattle.header.specs.Numbers.{outerHeader}
-use Rattle.header.specs.Fields.{wordAt, quadAt, exchangedAt, bytesFrom, addressAt}
+use Rattle.header.specs.Fields.{wordAt, quadAt, reversedAt, bytesFrom, addressAt}
 use Rattle.header.specs.Outer.{outerOf}
 use Rattle.header.specs.declared.outer.Outer.{Outer}
 
@@ -42,12 +41,12 @@ module _ (d : List ℕ) (byte : (i : ℕ) → getD d i 0 < 256) where
   unfolding quadAt
   at k = quad-words (getD d k 0) (getD d (k + 1) 0) (getD d (k + 2) 0) (getD d (k + 3) 0) (byte (k + 1)) (byte (k + 2)) (byte (k + 3))
 
-  exchanged : (k : ℕ) → twoWords (exchangedAt d k) ≡ getD d (k + 3) 0 * 256 + getD d (k + 2) 0 + (getD d (k + 1) 0 * 256 + getD d k 0)
-  unfolding exchangedAt
+  exchanged : (k : ℕ) → twoWords (reversedAt d k) ≡ getD d (k + 3) 0 * 256 + getD d (k + 2) 0 + (getD d (k + 1) 0 * 256 + getD d k 0)
+  unfolding reversedAt
   exchanged k = quad-words (getD d (k + 3) 0) (getD d (k + 2) 0) (getD d (k + 1) 0) (getD d k 0) (byte (k + 2)) (byte (k + 1)) (byte k)
 
   -- the exact sum of the words of a header without options, their bytes exchanged
-  pub ten-words : outerHeader ≤ length d → twoWords (exchangedAt d 0) + twoWords (exchangedAt d 4) + (twoWords (exchangedAt d 8) + twoWords (exchangedAt d 12)) + twoWords (exchangedAt d 16) ≡ wordSum (swapped (take outerHeader d))
+  pub ten-words : outerHeader ≤ length d → twoWords (reversedAt d 0) + twoWords (reversedAt d 4) + (twoWords (reversedAt d 8) + twoWords (reversedAt d 12)) + twoWords (reversedAt d 16) ≡ wordSum (swapped (take outerHeader d))
   unfolding wordSum swapped
   ten-words long = rw (sym (bytes-taken 20 0 d long), exchanged 0, exchanged 4, exchanged 8, exchanged 12, exchanged 16) (omega arith)
 

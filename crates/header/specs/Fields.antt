@@ -12,9 +12,9 @@ wordAt d k = getD d k 0 * 256 + getD d (k + 1) 0
 unfoldable pub quadAt : List ℕ → ℕ → ℕ
 quadAt d k = quadOf (getD d k 0) (getD d (k + 1) 0) (getD d (k + 2) 0) (getD d (k + 3) 0)
 
--- the 32 bits at k with their bytes exchanged
-unfoldable pub exchangedAt : List ℕ → ℕ → ℕ
-exchangedAt d k = quadOf (getD d (k + 3) 0) (getD d (k + 2) 0) (getD d (k + 1) 0) (getD d k 0)
+-- the 32 bits at k, last byte first, as the machine reads them
+unfoldable pub reversedAt : List ℕ → ℕ → ℕ
+reversedAt d k = quadOf (getD d (k + 3) 0) (getD d (k + 2) 0) (getD d (k + 1) 0) (getD d k 0)
 
 -- n bytes from i on
 abbrev pub bytesFrom : ℕ → ℕ → List ℕ → List ℕ

@@ -5,7 +5,7 @@ ghost use Prim.Native.Nat.{_+_, _*_, _/_, _%_, _≤_};
 ghost use mathlib.Core.List.{[]};
 ghost use lib.ListN.{getD, drop, length};
 ghost use Rattle.address.specs.Quads.{bytesIn, quadsOf};
-ghost use Rattle.header.specs.Fields.{wordAt, quadAt, exchangedAt, bytesFrom, addressAt};
+ghost use Rattle.header.specs.Fields.{wordAt, quadAt, reversedAt, bytesFrom, addressAt};
 ghost use Rattle.header.specs.Wrap.{be16, be32};
 
 pub fn byte(d: &[u8], i: usize) -> u8
@@ -90,10 +90,10 @@ pub(crate) fn quad_in(d: &[u8], i: usize) -> u32
     address::quad(d[i], d[i + 1], d[i + 2], d[i + 3])
 }
 
-// The same with their bytes exchanged, which is one load and nothing else.
-pub(crate) fn exchanged_in(d: &[u8], i: usize) -> u32
+// The same, last byte first: one load and nothing else.
+pub(crate) fn reversed_in(d: &[u8], i: usize) -> u32
     requires { ⌜ i + 4 ≤ length (now d) ⌝ }
-    ensures { λ r. ⌜ r ≡ exchangedAt (now (d .entry)) i ⌝ }
+    ensures { λ r. ⌜ r ≡ reversedAt (now (d .entry)) i ⌝ }
 {
     address::quad(d[i + 3], d[i + 2], d[i + 1], d[i])
 }

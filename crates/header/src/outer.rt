@@ -7,8 +7,7 @@ use refusals::Refusal;
 ghost use mathlib.Core.Path.{_≡_};
 ghost use Prim.Native.Nat.{_*_, _/_, _%_, _≤_};
 ghost use lib.ListN.{length, take};
-ghost use Rattle.checksum.specs.Folding.{wordSum};
-ghost use Rattle.checksum.specs.Sum.{swapped};
+ghost use Rattle.checksum.specs.Folding.{wordSum, swapped};
 ghost use Rattle.header.specs.Numbers.{outerHeader};
 ghost use Rattle.header.specs.Outer.{outerOf, isOuterMalformed, isSumWrong, sumCheck, headerCheck, outerGiven, headerReadOf, outerReadOf, payloadOf, quoteOf, isQuoteMalformed};
 
@@ -108,11 +107,11 @@ fn ten_words(d: &[u8]) -> u32
     requires { ⌜ outerHeader ≤ length (now d) ⌝ }
     ensures { λ r. ⌜ (r ≡ wordSum (swapped (take outerHeader (now (d .entry))))) × (r ≤ 655350) ⌝ }
 {
-    let first = checksum::two_words(fields::exchanged_in(d, 0))
-        + checksum::two_words(fields::exchanged_in(d, 4));
-    let second = checksum::two_words(fields::exchanged_in(d, 8))
-        + checksum::two_words(fields::exchanged_in(d, 12));
-    first + second + checksum::two_words(fields::exchanged_in(d, 16))
+    let first = checksum::two_words(fields::reversed_in(d, 0))
+        + checksum::two_words(fields::reversed_in(d, 4));
+    let second = checksum::two_words(fields::reversed_in(d, 8))
+        + checksum::two_words(fields::reversed_in(d, 12));
+    first + second + checksum::two_words(fields::reversed_in(d, 16))
 }
 
 // Number 3. Most headers have no options.

@@ -11,15 +11,15 @@ returns c =
     let c8 = c4 .before .before .before .before in (
       rw (
         c .two-words5 .ensures .0,
-        c .before .exchanged-in5 .ensures,
+        c .before .reversed-in5 .ensures,
         c .before .before .two-words4 .ensures .0,
-        c .before .before .before .exchanged-in4 .ensures,
+        c .before .before .before .reversed-in4 .ensures,
         c4 .two-words3 .ensures .0,
-        c4 .before .exchanged-in3 .ensures,
+        c4 .before .reversed-in3 .ensures,
         c4 .before .before .two-words2 .ensures .0,
-        c4 .before .before .before .exchanged-in2 .ensures,
+        c4 .before .before .before .reversed-in2 .ensures,
         c8 .two-words .ensures .0,
-        c8 .before .exchanged-in .ensures,
+        c8 .before .reversed-in .ensures,
       )
           (ten-words (c8 .before .before .before .args .d .now) (λ i. c8 .before .before .shared-slice-known .given i .fits) (c8 .before .before .before .pre)),
       omega (arith, c .two-words5 .ensures .1, c .before .before .two-words4 .ensures .1, c4 .two-words3 .ensures .1, c4 .before .before .two-words2 .ensures .1, c8 .two-words .ensures .1),

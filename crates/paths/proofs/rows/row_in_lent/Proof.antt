@@ -3,7 +3,7 @@ use mathlib.Core.Bool.{true, false}
 use Prim.Native.Nat.{_+_, _-_}
 use native.Mathlib.Omega.{arith}
 use lib.ListN.{length, take, drop}
-use Rattle.paths.specs.Search.{isAmong, Passed, Within}
+use Rattle.paths.specs.Search.{isAmong, Passed}
 use Rattle.paths.proofs.Scan.{row-end, block-passed}
 use Rattle.paths.proofs.rows.row_in_lent.Statement.{statement}
 use Rattle.paths.proofs.rows.row_in_lent.Tie as tie
