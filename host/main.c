@@ -25,6 +25,13 @@ static const char help[] =
     "  --check    reads and checks the configuration, and ends\n"
     "  --version  the library's version, and ends\n";
 
+/* Whether nothing is left to be read. A read that fails otherwise is said. */
+static bool nothing_left(ssize_t length, const char *what) {
+    if (length < 0 && errno != EAGAIN)
+        note("%s: a read failed: %s", what, strerror(errno));
+    return length < 0;
+}
+
 static void read_device(struct service *service) {
     for (int turn = 0; turn < BURST; turn++) {
         ssize_t length = read(service->tun, bytes, sizeof bytes);
@@ -61,7 +68,7 @@ static void read_tunnel(void) {
         struct msghdr message = {.msg_iov = &place, .msg_iovlen = 1, .msg_control = &control, .msg_controllen = sizeof control};
         ssize_t length = recvmsg(host.sockets.tunnel, &message, 0);
         bool joined;
-        if (length < 0)
+        if (nothing_left(length, "datagrams"))
             return;
         unsigned index = arrival(&message, &joined);
         take_datagram(&host, bytes, (size_t)length, index, joined);
@@ -73,7 +80,7 @@ static void read_pieces(void) {
         struct sockaddr_ll from = {0};
         socklen_t room = sizeof from;
         ssize_t length = recvfrom(host.sockets.pieces, bytes, sizeof bytes, 0, (struct sockaddr *)&from, &room);
-        if (length < 0)
+        if (nothing_left(length, "pieces"))
             return;
         take_datagram(&host, bytes, (size_t)length, (unsigned)from.sll_ifindex, false);
     }
@@ -82,7 +89,7 @@ static void read_pieces(void) {
 static void read_reports(void) {
     for (int turn = 0; turn < BURST; turn++) {
         ssize_t length = recv(host.sockets.icmp, bytes, sizeof bytes, 0);
-        if (length < 0)
+        if (nothing_left(length, "size reports"))
             return;
         take_report(&host, bytes, (size_t)length);
     }
