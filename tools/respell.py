@@ -91,6 +91,17 @@ def turned(text, table):
     return WORD.sub(lambda m: table.get(m[0], m[0]), text)
 
 
+def of_libraries(text, crates):
+    """The names that a file imports from a library: they stay in it."""
+    own = set(os.listdir(crates))
+    found = set()
+    for m in re.finditer(r"\buse ([^\s;{]+?)\.?(\{[^}]*\})?(?: as \S+)?;?\s*$", text, re.M):
+        parts = m[1].split(".")
+        if not (parts[0] == "Rattle" and parts[1] in own):
+            found.update(WORD.findall(m[2] or ""))
+    return found
+
+
 def code_spans(text, table):
     return re.sub(r"`[^`\n]+`", lambda m: turned_span(m[0], table), text)
 
@@ -145,7 +156,8 @@ def main(argv):
         return 0
     for path in files(crates, ".antt", ".rt", ".edit"):
         text = read(path)
-        new = turned(text, table)
+        stay = of_libraries(text, crates)
+        new = turned(text, {old: new for old, new in table.items() if old not in stay})
         if new != text:
             with open(path, "w", encoding="utf-8") as f:
                 f.write(new)

@@ -1,5 +1,7 @@
 // Addresses: IPv4 addresses as 32-bit numbers, IPv6 addresses as 16 bytes.
 // Tests are joined by `|` and `&`, which evaluate both sides and leave no branch; those on IPv6 addresses are made on four numbers (`quads`).
+#![tactic(auto)]
+
 pub mod prefixes;
 pub mod quads;
 
@@ -10,7 +12,7 @@ ghost use Rattle.address.specs.Address.{is_forbidden, quad_of, last_quad, is_lin
 const FIRST_IDENTIFIER_BYTE: u8 = 0;
 
 // The IPv4 address that an IPv6 address embeds.
-#[derive(Drop)]
+#[derive(Clone, Copy)]
 pub enum Embedded {
     Ipv4(u32),
     Nothing,

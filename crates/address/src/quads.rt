@@ -12,7 +12,7 @@ const IDENTIFIER_00: u32 = 0x00005efe;
 const IDENTIFIER_02: u32 = 0x02005efe;
 
 // An IPv6 address, the first number the highest.
-#[derive(Drop)]
+#[derive(Clone, Copy)]
 pub struct Quads {
     pub first: u32,
     pub second: u32,

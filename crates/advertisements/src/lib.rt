@@ -1,4 +1,6 @@
 // The router advertisement that we write: what the operator sets of it, its length and its bytes. Any values are taken.
+#![tactic(auto)]
+
 pub mod bits;
 pub mod prefix;
 pub mod route;
@@ -32,7 +34,7 @@ const CURRENT_HOP_LIMIT: u8 = 0;
 const OPTIONS: usize = HEADERS + 8;
 
 // An advertisement as the operator sets it. Entries behind a count are not read.
-#[derive(Drop)]
+#[derive(Clone, Copy)]
 pub struct Advertisement {
     // The flag M.
     pub managed: bool,

@@ -9,7 +9,7 @@ use lent::write_at;
 use options::{PREFIX, PREFIX_UNITS};
 
 // A prefix as the operator sets it.
-#[derive(Drop)]
+#[derive(Clone, Copy)]
 pub struct Prefix {
     pub bytes: [u8; 16],
     pub valid: u32,

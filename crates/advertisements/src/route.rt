@@ -9,7 +9,7 @@ use lent::write_at;
 use options::{ROUTE, UNIT};
 
 // How a router is preferred for a route.
-#[derive(Drop)]
+#[derive(Clone, Copy)]
 pub enum Preference {
     Medium,
     High,
@@ -17,7 +17,7 @@ pub enum Preference {
 }
 
 // A route as the operator sets it.
-#[derive(Drop)]
+#[derive(Clone, Copy)]
 pub struct Route {
     pub bytes: [u8; 16],
     pub lifetime: u32,

@@ -1,4 +1,6 @@
 // Answering a router solicitation: who may ask, and the advertisement that the asker gets.
+#![tactic(auto)]
+
 ghost use Rattle.std.specs.Prelude.{◌≡◌, length};
 ghost use Rattle.advertising.specs.Advertise.{is_asker_right, asker_check, advertised_of, advertised_output};
 

@@ -1,4 +1,6 @@
 // Asking a router: which one is asked, the solicitation that it gets, and when it is due again.
+#![tactic(auto)]
+
 ghost use Rattle.std.specs.Prelude.{◌≡◌, ◌+◌, length};
 ghost use Rattle.asking.specs.Ask.{plan_for, ask_plan, answered_with, asked_of, asked_output, ask_given};
 
@@ -9,21 +11,21 @@ use settings::Settings;
 use settings::locators::Found;
 
 // The router that is asked, by its address, or the number.
-#[derive(Drop)]
+#[derive(Clone, Copy)]
 pub enum AskAnswer {
     Router(u32),
     Refused(Refusal),
 }
 
 // The answer, and the router list after the asking.
-#[derive(Drop)]
+#[derive(Clone, Copy)]
 pub struct Asked {
     pub answer: AskAnswer,
     pub routers: RouterList,
 }
 
 // What is to be done: a router asked from a locator's address, or nothing.
-#[derive(Drop)]
+#[derive(Clone, Copy)]
 enum Plan {
     Ask { from: u32, router: u32 },
     Refuse(Refusal),

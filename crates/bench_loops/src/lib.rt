@@ -1,5 +1,7 @@
 // Loops for timing: many calls in one, so that what is timed is the library and not the crossing from C. The answer is the sum, modulo
 // 2^64, of what the calls answer: a refused one its number, another its length or size.
+#![tactic(auto)]
+
 ghost use Rattle.std.specs.Prelude.{◌≡◌, ◌≤◌, length};
 ghost use Rattle.bench_loops.specs.Loops.{part_at, received_worth, sent_worth, sums_from, received_many, sent_many, sent_many_output, sizes_toward};
 
@@ -10,7 +12,7 @@ use sending::SendAnswer;
 
 // An IPv6 address.
 #[repr(C)]
-#[derive(Drop)]
+#[derive(Clone, Copy)]
 pub struct Address {
     pub bytes: [u8; 16],
 }
@@ -56,7 +58,7 @@ pub extern "C" fn bench_checksum(start: u32, bytes: &[u8], size: usize, count: u
     let mut i: u32 = 0;
     while i < count {
         let sum = checksum::sum_from(start, part_at(bytes, size, i));
-        total = std::num::wrapping_add_u64(total, sum as u64);
+        total = total.wrapping_add(sum as u64);
         i = i + 1;
     }
     total
@@ -90,7 +92,7 @@ pub extern "C" fn bench_receive(
         );
         next = receipt.node;
         let answer = receipt.answer;
-        sum = std::num::wrapping_add_u64(sum, received_worth(answer));
+        sum = sum.wrapping_add(received_worth(answer));
         i = i + 1;
     }
     sum
@@ -127,7 +129,7 @@ pub extern "C" fn bench_send(
         );
         next = sent.node;
         let answer = sent.answer;
-        sum = std::num::wrapping_add_u64(sum, sent_worth(answer));
+        sum = sum.wrapping_add(sent_worth(answer));
         i = i + 1;
     }
     sum
@@ -142,7 +144,7 @@ pub extern "C" fn bench_lookup(table: PathTable, link: u16, first: u32, count: u
     let mut sum: u64 = 0;
     let mut i: u32 = 0;
     while i < count {
-        let neighbour = std::num::wrapping_add_u32(first, i);
+        let neighbour = first.wrapping_add(i);
         let size = paths::size_among(
             link,
             &table.neighbours,

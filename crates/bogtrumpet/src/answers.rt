@@ -12,7 +12,7 @@ use sending::SendAnswer;
 
 // Where the inner packet stands: in the memory where it was joined of pieces, else in the datagram.
 #[repr(C)]
-#[derive(Drop)]
+#[derive(Clone, Copy)]
 pub struct Received {
     pub number: u8,
     pub joined: bool,
@@ -21,7 +21,7 @@ pub struct Received {
 }
 
 #[repr(C)]
-#[derive(Drop)]
+#[derive(Clone, Copy)]
 pub struct Sized {
     pub number: u8,
     pub size: u16,
@@ -30,7 +30,7 @@ pub struct Sized {
 // With 0 the length of the datagram written; with 14 the size M and the length of the message written. Each length has a field of its
 // own: a caller who forgets the number puts no message on the IPv4 wire.
 #[repr(C)]
-#[derive(Drop)]
+#[derive(Clone, Copy)]
 pub struct Sent {
     pub number: u8,
     pub size: u16,
@@ -39,7 +39,7 @@ pub struct Sent {
 }
 
 #[repr(C)]
-#[derive(Drop)]
+#[derive(Clone, Copy)]
 pub struct Reported {
     pub number: u8,
     pub neighbour: u32,
@@ -48,7 +48,7 @@ pub struct Reported {
 
 // The router that is asked.
 #[repr(C)]
-#[derive(Drop)]
+#[derive(Clone, Copy)]
 pub struct Asked {
     pub number: u8,
     pub router: u32,
@@ -56,7 +56,7 @@ pub struct Asked {
 
 // The router that advertised.
 #[repr(C)]
-#[derive(Drop)]
+#[derive(Clone, Copy)]
 pub struct Heard {
     pub number: u8,
     pub router: u32,
@@ -64,7 +64,7 @@ pub struct Heard {
 
 // The length of the advertisement written.
 #[repr(C)]
-#[derive(Drop)]
+#[derive(Clone, Copy)]
 pub struct Advertised {
     pub number: u8,
     pub length: usize,

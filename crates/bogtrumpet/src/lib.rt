@@ -2,6 +2,8 @@
 // a length in C, and so is a `&mut [u8]`. A service is named by its number, 0 or 1; any other number gives 11, as a service does that the
 // node has not. A call that names one takes it by reference, so that neither is copied to be chosen, and hands it by value to a function of
 // `steps`; a setup hands over the node. What such a function answers of the node is stored. A size report is looked up over lent rows.
+#![tactic(auto)]
+
 pub mod answers;
 mod numbered;
 pub mod plain;
@@ -44,7 +46,7 @@ use settings::Settings;
 
 // An IPv6 address. It is handed over in memory; in fields of four bytes it is read by four bytes, and not by one.
 #[repr(C)]
-#[derive(Drop)]
+#[derive(Clone, Copy)]
 pub struct Address {
     pub first: [u8; 4],
     pub second: [u8; 4],
@@ -54,7 +56,7 @@ pub struct Address {
 
 // A new router list: the first `count` addresses.
 #[repr(C)]
-#[derive(Drop)]
+#[derive(Clone, Copy)]
 pub struct Addresses {
     pub routers: [u32; 16],
     pub count: usize,

@@ -7,7 +7,7 @@ use advertisements::{MOST, prefix, route};
 
 // Any value but 0 sets a flag.
 #[repr(C)]
-#[derive(Drop)]
+#[derive(Clone, Copy)]
 pub struct Prefix {
     pub bytes: [u8; 16],
     pub valid: u32,
@@ -19,7 +19,7 @@ pub struct Prefix {
 
 // Of the preferences 1 is high, 2 is low, and any other medium.
 #[repr(C)]
-#[derive(Drop)]
+#[derive(Clone, Copy)]
 pub struct Route {
     pub bytes: [u8; 16],
     pub lifetime: u32,
@@ -29,7 +29,7 @@ pub struct Route {
 
 // The first `prefix_count` prefixes, and the first `route_count` routes. Any value but 0 sets a flag.
 #[repr(C)]
-#[derive(Drop)]
+#[derive(Clone, Copy)]
 pub struct Advertisement {
     pub prefixes: [Prefix; MOST],
     pub prefix_count: usize,

@@ -12,7 +12,7 @@ use settings::Settings;
 
 // The answer. Of the node a report that is accepted changes the rows of the path table up to that one, how many are in use, and the latest time; any
 // other changes the latest time alone.
-#[derive(Drop)]
+#[derive(Clone, Copy)]
 pub(crate) struct ReportLook {
     pub answer: Reported,
     pub row: usize,

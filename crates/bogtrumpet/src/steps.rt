@@ -24,14 +24,14 @@ use routers::RouterList;
 use settings::Settings;
 
 // A number, and the node that is made.
-#[derive(Drop)]
+#[derive(Clone, Copy)]
 pub struct MadeStep {
     pub answer: u8,
     pub node: Node,
 }
 
 // Of the node a sending changes the next identification of its service and the latest time alone.
-#[derive(Drop)]
+#[derive(Clone, Copy)]
 pub struct SentStep {
     pub answer: Sent,
     pub identification: u16,
@@ -40,7 +40,7 @@ pub struct SentStep {
 
 // What is to be judged of a datagram, or where the packet stands, or the number: what `receiving::judging::Stage` has, but for the number. It is
 // told where the refusal is, which the compiler knows there, and so is looked up nowhere.
-#[derive(Drop)]
+#[derive(Clone, Copy)]
 pub(crate) enum PlainStage {
     Open(Opening),
     Passed(Standing),
@@ -49,7 +49,7 @@ pub(crate) enum PlainStage {
 
 // What is to be judged of a datagram. Of the node a piece that comes to the collection of its service changes one place there and the latest time, any
 // other datagram the latest time alone.
-#[derive(Drop)]
+#[derive(Clone, Copy)]
 pub(crate) struct GatheredStep {
     pub stage: PlainStage,
     pub place: Place,
@@ -59,7 +59,7 @@ pub(crate) struct GatheredStep {
 }
 
 // Of the node a new router list changes the router list of its service and the latest time alone.
-#[derive(Drop)]
+#[derive(Clone, Copy)]
 pub struct ReplacedStep {
     pub answer: u8,
     pub routers: RouterList,
@@ -67,7 +67,7 @@ pub struct ReplacedStep {
 }
 
 // Of the node an asking and an advertisement change the latest time and, where `changed`, the due time of a router of their service.
-#[derive(Drop)]
+#[derive(Clone, Copy)]
 pub struct AskedStep {
     pub answer: Asked,
     pub latest: u32,
@@ -76,7 +76,7 @@ pub struct AskedStep {
     pub changed: bool,
 }
 
-#[derive(Drop)]
+#[derive(Clone, Copy)]
 pub struct HeardStep {
     pub answer: Heard,
     pub latest: u32,

@@ -7,14 +7,14 @@ use address::prefixes;
 
 // An IPv6 address.
 #[repr(C)]
-#[derive(Drop)]
+#[derive(Clone, Copy)]
 pub struct Address {
     pub bytes: [u8; 16],
 }
 
 // On-link prefixes of eight bytes, one behind the other: the first `count`.
 #[repr(C)]
-#[derive(Drop)]
+#[derive(Clone, Copy)]
 pub struct Prefixes {
     pub bytes: [u8; 64],
     pub count: usize,
@@ -22,7 +22,7 @@ pub struct Prefixes {
 
 // The IPv4 address that an ISATAP address embeds, if it is one.
 #[repr(C)]
-#[derive(Drop)]
+#[derive(Clone, Copy)]
 pub struct Embedded {
     pub found: bool,
     pub address: u32,

@@ -9,7 +9,7 @@ use refusals::Refusal;
 
 // An outer header that passes 2 to 5: its length and the datagram's, its protocol, source and destination.
 #[repr(C)]
-#[derive(Drop)]
+#[derive(Clone, Copy)]
 pub struct OuterRead {
     pub number: u8,
     pub protocol: u8,
@@ -21,7 +21,7 @@ pub struct OuterRead {
 
 // Where in the datagram the inner packet stands. The struct is that of the node's call, where a packet may be joined of pieces.
 #[repr(C)]
-#[derive(Drop)]
+#[derive(Clone, Copy)]
 pub struct Received {
     pub number: u8,
     pub joined: bool,

@@ -1,5 +1,7 @@
 // The rules without state, for C and Rust: each function is one of the crates below under a C name, with its contract. A `&[u8]` is
 // a pointer and a length in C, and so is a `&mut [u8]`.
+#![tactic(auto)]
+
 pub mod addresses;
 pub mod headers;
 pub mod recordings;

@@ -8,7 +8,7 @@ use comparing::More;
 
 // Which recording has more datagrams (0 neither, 1 the first, 2 the second), and the length of the report that was written.
 #[repr(C)]
-#[derive(Drop)]
+#[derive(Clone, Copy)]
 pub struct Compared {
     pub number: u8,
     pub more: u8,

@@ -10,7 +10,7 @@ use header::wrap;
 use header::wrap::OuterFields;
 
 #[repr(C)]
-#[derive(Drop)]
+#[derive(Clone, Copy)]
 pub struct Written {
     pub number: u8,
     pub length: usize,
@@ -18,7 +18,7 @@ pub struct Written {
 
 // The fields of an outer header. Any don't-fragment byte but 0 sets the flag, so that no value breaks the header.
 #[repr(C)]
-#[derive(Drop)]
+#[derive(Clone, Copy)]
 pub struct Outer {
     pub identification: u16,
     pub dont_fragment: u8,

@@ -5,6 +5,8 @@
 //   the end             complement; of a checksum that is read, right
 // That program folds once, at the end; here each full chunk is folded too, so that 32 bits hold the sum of the words since, however many
 // there are.
+#![tactic(auto)]
+
 mod words;
 
 ghost use Rattle.std.specs.Prelude.{◌≡◌, ◌+◌, ◌/◌, ◌%◌, ◌≤◌, min, [], length, take, drop};
@@ -128,7 +130,7 @@ pub fn right_words(words: u32) -> bool
     ensures { result ≡ is_right_from words [] }
 {
     let exchanged = words % 65536 * 65536 + words / 65536;
-    let sum = std::num::wrapping_add_u32(words, exchanged);
+    let sum = words.wrapping_add(exchanged);
     sum / 65536 == 65535
 }
 

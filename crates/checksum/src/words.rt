@@ -12,7 +12,7 @@ const RUN: usize = 256;
 const RUN_FROM: usize = 32;
 
 // How far the words are added up: the exact sum of those before a place, which is between two words.
-#[derive(Drop)]
+#[derive(Clone, Copy)]
 struct Part {
     sum: u32,
     at: usize,

@@ -5,7 +5,7 @@ use mathlib.Core.Logic.{⊎_elim}
 use mathlib.Core.Bool.{Bool, true, false, not, cond, ◌&&◌, beq, true≢false, false≢true}
 use mathlib.Core.List.{List}
 use native.Mathlib.Omega.{arith}
-use borrow.Author.Tests.{lt-ltb, le-ltb, ltb-true, ltb-false, not_true}
+use borrow.Author.Tests.{lt-ltb, le-ltb, ltb-true, ltb-false, not-true}
 use lib.Dec.{ltb}
 use lib.ListN.{length, get_or, take, drop, length-drop}
 use lib.Seq.{get_or-take, get_or-drop, length-take-le}
@@ -44,7 +44,7 @@ module _ (test : ℕ → Bool) (wanted : Bool) where
   -- the same of a loop that looks at all places
   pub none_kept_lem : (p r : ℕ) (none : Bool) → (none ≡ true → NoneIn test wanted p r) → (none && not (beq (test r) wanted)) ≡ true → NoneIn test wanted p (r + 1)
   none_kept_lem p r none n t =
-      none_turn p r (n (and_left none (not (beq (test r) wanted)) t)) (not_true (beq (test r) wanted) (and_right none (not (beq (test r) wanted)) t))
+      none_turn p r (n (and_left none (not (beq (test r) wanted)) t)) (not-true (beq (test r) wanted) (and_right none (not (beq (test r) wanted)) t))
 
   pub found_here : (p end r : ℕ) → p ≤ r → r < end → NoneIn test wanted p r → beq (test r) wanted ≡ true → IsNext test wanted p end r
   found_here p end r h k n t = record { behind = h; inside = omega arith; before = n; here = λ l. beq_true (test r) wanted t }

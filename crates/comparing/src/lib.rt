@@ -1,4 +1,6 @@
 // Two recordings compared, datagram by datagram: the report of every longest run of differing bytes.
+#![tactic(auto)]
+
 mod blocks;
 mod ends;
 mod pair;
@@ -14,7 +16,7 @@ use input::recording;
 use refusals::Refusal;
 
 // Which of two recordings has more datagrams.
-#[derive(Drop)]
+#[derive(Clone, Copy)]
 pub enum More {
     First,
     Second,
@@ -22,7 +24,7 @@ pub enum More {
 }
 
 // What comparing answers: the length of the report in bytes and which recording has more datagrams, or the refusal.
-#[derive(Drop)]
+#[derive(Clone, Copy)]
 pub enum Compared {
     Report { length: usize, more: More },
     Refused(Refusal),

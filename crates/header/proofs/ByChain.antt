@@ -2,7 +2,7 @@
 -- Assumes nothing.
 use Prim.Native.Nat.{ℕ, ◌≤◌, ◌<◌}
 use mathlib.Core.Path.{◌≡◌, refl, ◌∙◌}
-use mathlib.Core.Bool.{Bool, true, false, not, ◌&&◌, ◌||◌, and_false}
+use mathlib.Core.Bool.{Bool, true, false, not, ◌&&◌, ◌||◌, and-false}
 use mathlib.Core.List.{List}
 use native.Mathlib.Omega.{arith}
 use lib.ListN.{get_or, length, drop, length-drop}
@@ -30,7 +30,7 @@ module _ (p : List ℕ) where
   -- a chain that draws none
   silent : chain_may_draw (get_or p 6 0) (drop inner_header p) ≡ false → may_draw_error p ≡ false
   unfolding may_draw_error
-  silent e = rw e (and_false (not (is_multicast_or_unspecified (address_at p 8))))
+  silent e = rw e (and-false (not (is_multicast_or_unspecified (address_at p 8))))
 
   -- an upper layer that draws none
   quiet-end : (hs : List (List ℕ)) (upper at : ℕ) → Chain p hs upper at → not (is_quiet upper (drop at p)) ≡ false → may_draw_error p ≡ false

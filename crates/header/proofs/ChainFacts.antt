@@ -9,7 +9,7 @@ use native.Mathlib.Omega.{arith}
 use lib.ListN.{get_or, length, length-append, get_or-append}
 use lib.Seq.{drop-append_seam}
 use lib.Dec.{eqb}
-use borrow.Author.Tests.{eq-eqb, ne_eqb, not_true}
+use borrow.Author.Tests.{eq-eqb, ne_eqb, not-true}
 use Rattle.lists.proofs.Decides.{Decides, fails, refutes, decides_eq, decides_or, decides_as}
 use Rattle.header.specs.Fields.{word_at}
 use Rattle.header.specs.Chain.{hop_by_hop, routing, fragment, destination_options, is_extension, extension_length, is_later_fragment, chain_may_draw}
@@ -99,7 +99,7 @@ module _ (rest : List ℕ) where
   headers-on next [] upper x z = rw x
   headers-on next (h ∷ hs) upper x z =
       rw (append_assoc h (flatten hs) rest)
-      (header_on next h (flatten hs ++ rest) x.0 (not_true (is_later_fragment next h) ((decides_not-later next h).passes z.0))
+      (header_on next h (flatten hs ++ rest) x.0 (not-true (is_later_fragment next h) ((decides_not-later next h).passes z.0))
       ∙ headers-on (get_or h 0 0) hs upper x.1 z.1)
 
   -- the chain draws none where its upper layer draws none, or where a later fragment is among the headers

@@ -1,7 +1,7 @@
 -- The chain of extension headers, a header at a time. Assumes nothing.
 use Prim.Native.Nat.{ℕ, zero, suc, ◌+◌, ◌*◌, ◌≤◌, ◌<◌, pred}
 use mathlib.Core.Path.{◌≡◌, refl}
-use mathlib.Core.Bool.{Bool, true, false, cond, not, ◌&&◌, ◌||◌, and_false}
+use mathlib.Core.Bool.{Bool, true, false, cond, not, ◌&&◌, ◌||◌, and-false}
 use mathlib.Core.List.{List, [], ◌∷◌}
 use native.Mathlib.Decide.{ℕ_discrete}
 use native.Mathlib.Omega.{arith}
@@ -51,7 +51,7 @@ unfolding may_draw_from
 chain-past next [] e h = rw e
 chain-past next (b ∷ bs) e h =
     let least = extension-least next (b ∷ bs) in
-    rw (e, past (pred (extension_length next (b ∷ bs))) b bs (omega arith)) (and_false (not (is_later_fragment next (b ∷ bs))))
+    rw (e, past (pred (extension_length next (b ∷ bs))) b bs (omega arith)) (and-false (not (is_later_fragment next (b ∷ bs))))
 
 -- a header that is there, and what stands behind it
 pub chain-on : (next : ℕ) (bs : List ℕ) → is_extension next ≡ true → is_later_fragment next bs ≡ false → extension_length next bs ≤ length bs

@@ -8,7 +8,7 @@ use native.Mathlib.Decide.{ℕ_discrete}
 use native.Mathlib.Omega.{arith}
 use lib.ListN.{get_or, length, take, drop, length-take, length-drop, take-append-drop}
 use lib.Seq.{get_or-take}
-use borrow.Author.Tests.{eq-eqb, ne_eqb, not_true}
+use borrow.Author.Tests.{eq-eqb, ne_eqb, not-true}
 use Rattle.lists.proofs.Tests.{or_left, or_right}
 use Rattle.header.specs.Fields.{word_at}
 use Rattle.header.specs.Chain.{fragment, is_extension, extension_length, is_quiet, chain_may_draw}
@@ -73,9 +73,9 @@ only_upper next bs e = record {
   upper = next;
   rest = bs;
   headers = refl;
-  ends = is-upper next (or_left _ _ (not_true _ e));
+  ends = is-upper next (or_left _ _ (not-true _ e));
   offsets = tt;
-  drawn = or_right (is_extension next) _ (not_true _ e);
+  drawn = or_right (is_extension next) _ (not-true _ e);
   bytes = refl;
 }
 

@@ -63,7 +63,7 @@ fn passed_length(next: u8, rest: &[u8]) -> usize
 }
 
 // What a walk comes to: the number of the header there, and how many bytes are left from it on.
-#[derive(Drop)]
+#[derive(Clone, Copy)]
 struct Walked {
     next: u8,
     left: usize,

@@ -6,7 +6,7 @@ ghost use Rattle.header.specs.Inner.{inner_of, is_inner_malformed, is_packet_mal
 use crate::{INNER_HEADER, chain, fields};
 
 // The fields of an IPv6 header.
-#[derive(Drop)]
+#[derive(Clone, Copy)]
 pub struct Inner {
     pub version: u8,
     // The packet's length in bytes by its header: 40 and the payload length.

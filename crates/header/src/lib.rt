@@ -1,5 +1,7 @@
 // Headers: the outer IPv4 header, the inner IPv6 header, the extension headers behind it and the header that a size report quotes, read by
 // total readers and judged by the rules; the outer header written, with the packet behind it.
+#![tactic(auto)]
+
 pub mod chain;
 pub mod fields;
 pub mod inner;

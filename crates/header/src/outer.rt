@@ -13,7 +13,7 @@ const LEAST_FIRST: u8 = 0x45;
 const MOST_FIRST: u8 = 0x4f;
 
 // The fields of an IPv4 header, lengths in bytes.
-#[derive(Drop)]
+#[derive(Clone, Copy)]
 pub struct Outer {
     pub version: u8,
     pub header: usize,
@@ -25,7 +25,7 @@ pub struct Outer {
     pub destination: u32,
 }
 
-#[derive(Drop)]
+#[derive(Clone, Copy)]
 pub enum OuterRead {
     Header(Outer),
     Refused(Refusal),

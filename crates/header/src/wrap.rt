@@ -12,7 +12,7 @@ const LONGEST: usize = 65535 - OUTER_HEADER;
 
 // The fields of the outer header that the caller chooses, laid out as in C.
 #[repr(C)]
-#[derive(Drop)]
+#[derive(Clone, Copy)]
 pub struct OuterFields {
     pub identification: u16,
     pub dont_fragment: bool,
@@ -23,7 +23,7 @@ pub struct OuterFields {
 }
 
 // What a writer answers: how much it wrote, or why it wrote nothing.
-#[derive(Drop)]
+#[derive(Clone, Copy)]
 pub enum Written {
     Length(usize),
     Refused(Refusal),

@@ -3,7 +3,7 @@ use Prim.Native.Nat.{ℕ}
 use mathlib.Core.Path.{◌≡◌}
 use mathlib.Core.Bool.{true, not}
 use mathlib.Core.List.{List}
-use borrow.Author.Tests.{not_true}
+use borrow.Author.Tests.{not-true}
 use lib.ListN.{length, take, drop}
 use Rattle.lists.specs.Any.{Some}
 use Rattle.lists.proofs.Tests.{and_left, and_right}
@@ -50,7 +50,7 @@ decides_solicitation p =
     let whole = not (is_inner_malformed (length p) i) in
     record {
       holds = λ h. record {
-        whole = inner-whole (length p) i (not_true _ (and_left whole (is_valid_solicitation i q) h));
+        whole = inner-whole (length p) i (not-true _ (and_left whole (is_valid_solicitation i q) h));
         options = options_of (drop solicitation_options (message_of q));
         valid = solicitation_facts i q (and_right whole (is_valid_solicitation i q) h);
       };

@@ -1,5 +1,7 @@
 // Router advertisements: whether one is valid and its router listed, and when that router is due again. Router solicitations: whether one
 // is valid.
+#![tactic(auto)]
+
 mod message;
 pub mod solicitation;
 
@@ -19,21 +21,21 @@ use settings::Settings;
 const OPTIONS: usize = 16;
 
 // The advertising router, by its address, or the number.
-#[derive(Drop)]
+#[derive(Clone, Copy)]
 pub enum HeardAnswer {
     Router(u32),
     Refused(Refusal),
 }
 
 // The answer, and the due time of the router whose advertisement is accepted.
-#[derive(Drop)]
+#[derive(Clone, Copy)]
 pub struct Judged {
     pub answer: HeardAnswer,
     pub due: u64,
 }
 
 // The answer, and the router list after the advertisement.
-#[derive(Drop)]
+#[derive(Clone, Copy)]
 pub struct Heard {
     pub answer: HeardAnswer,
     pub routers: RouterList,

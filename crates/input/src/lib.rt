@@ -1,4 +1,6 @@
 // The program's input: sections of locators, prefixes, routers and datagrams, each after its two-byte count.
+#![tactic(auto)]
+
 pub mod recording;
 pub mod section;
 

@@ -1,4 +1,6 @@
 // Writing into a lent slice.
+#![tactic(auto)]
+
 ghost use Rattle.std.specs.Prelude.{◌≡◌, ◌≤◌, length};
 ghost use Rattle.lent.specs.Written.{written, written_at};
 
@@ -43,14 +45,11 @@ fn write_blocks(src: &[u8], dst: &mut [u8])
     }
 }
 
-// Writes src, one block at most, over the front of dst. It goes by way of an array, which neither slice overlaps: so the compiler sees that
-// both loops are moves of memory, and makes one of them.
+// Writes src, one block at most, over the front of dst.
 fn write_block(src: &[u8], dst: &mut [u8])
     requires src_len_bound { length src.now ≤ 65536 }
     requires src_in_bounds { length src.now ≤ length dst.old }
     ensures { dst.new ≡ written src.now dst.old }
 {
-    let mut block = [0; BLOCK];
-    let n = bytes::copy(src, &mut block);
-    bytes::copy(&block[..n], dst);
+    dst[..src.len()].copy_from_slice(src);
 }

@@ -1,4 +1,6 @@
 // Definitions and laws of lists that several crates cite, and the lesser of two counts.
+#![tactic(auto)]
+
 ghost use Rattle.std.specs.Prelude.{◌≡◌, min};
 
 // The lesser of two counts.

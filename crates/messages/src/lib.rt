@@ -1,4 +1,6 @@
 // The ICMPv6 messages that we write: Packet Too Big and the router solicitation; and the headers of any.
+#![tactic(auto)]
+
 ghost use Rattle.std.specs.Prelude.{◌≡◌, ◌&&◌, [], ◌∷◌, ◌++◌, ◌≤◌, length, take, leb};
 ghost use Rattle.checksum.specs.Folding.{word_sum};
 ghost use Rattle.header.specs.Numbers.{inner_header};

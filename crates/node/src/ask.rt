@@ -7,7 +7,7 @@ use super::{Node, Service, ServiceName, later};
 use asking::AskAnswer;
 use refusals::Refusal;
 
-#[derive(Drop)]
+#[derive(Clone, Copy)]
 pub struct Asked {
     pub answer: AskAnswer,
     pub node: Node,

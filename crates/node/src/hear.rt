@@ -7,7 +7,7 @@ use super::{Node, Service, ServiceName, later};
 use hearing::{HeardAnswer, Judged};
 use refusals::Refusal;
 
-#[derive(Drop)]
+#[derive(Clone, Copy)]
 pub struct Heard {
     pub answer: HeardAnswer,
     pub node: Node,

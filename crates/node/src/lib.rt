@@ -1,5 +1,7 @@
 // A node: one tunnel end, or two in one box, each a service of it; what it keeps, and the calls on it. A call takes the node and hands
 // back the next one.
+#![tactic(auto)]
+
 pub mod advertise;
 pub mod ask;
 pub mod hear;
@@ -21,7 +23,7 @@ use settings::locators::Locator;
 
 // What one service of a node owns.
 #[repr(C)]
-#[derive(Drop)]
+#[derive(Clone, Copy)]
 pub struct Service {
     pub settings: Settings,
     pub routers: RouterList,
@@ -33,7 +35,7 @@ pub struct Service {
 
 // What the services share stands beside them.
 #[repr(C)]
-#[derive(Drop)]
+#[derive(Clone, Copy)]
 pub struct Node {
     pub first: Service,
     // Of empty settings where the node has one service.
@@ -46,19 +48,19 @@ pub struct Node {
 }
 
 // The service that a call names.
-#[derive(Drop)]
+#[derive(Clone, Copy)]
 pub enum ServiceName {
     First,
     Second,
 }
 
-#[derive(Drop)]
+#[derive(Clone, Copy)]
 pub enum SetupAnswer {
     Made,
     Refused(Refusal),
 }
 
-#[derive(Drop)]
+#[derive(Clone, Copy)]
 pub struct Setup {
     pub answer: SetupAnswer,
     pub node: Node,

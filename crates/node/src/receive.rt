@@ -6,7 +6,7 @@ use super::{Node, ServiceName, later};
 use receiving::{Received, collect, judging};
 use refusals::Refusal;
 
-#[derive(Drop)]
+#[derive(Clone, Copy)]
 pub struct Receipt {
     pub answer: Received,
     pub node: Node,

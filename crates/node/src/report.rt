@@ -8,14 +8,14 @@ use header::outer;
 use paths::PathTable;
 use reports::{Judged, ReportAnswer};
 
-#[derive(Drop)]
+#[derive(Clone, Copy)]
 pub struct Reported {
     pub answer: ReportAnswer,
     pub node: Node,
 }
 
 // The answer to a report, and the path table afterwards.
-#[derive(Drop)]
+#[derive(Clone, Copy)]
 pub struct ReportStep {
     pub answer: ReportAnswer,
     pub paths: PathTable,

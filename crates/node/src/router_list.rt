@@ -6,13 +6,13 @@ use super::{Node, Service, ServiceName, later};
 use refusals::Refusal;
 use routers::RouterList;
 
-#[derive(Drop)]
+#[derive(Clone, Copy)]
 pub enum ListAnswer {
     Replaced,
     Refused(Refusal),
 }
 
-#[derive(Drop)]
+#[derive(Clone, Copy)]
 pub struct Replaced {
     pub answer: ListAnswer,
     pub node: Node,
@@ -42,7 +42,7 @@ fn list_refusal(there: bool) -> Refusal
 }
 
 // The answer to a new list, and the list in force afterwards.
-#[derive(Drop)]
+#[derive(Clone, Copy)]
 pub struct ListStep {
     pub answer: ListAnswer,
     pub routers: RouterList,

@@ -6,7 +6,7 @@ use super::{Node, Service, ServiceName, later};
 use refusals::Refusal;
 use sending::SendAnswer;
 
-#[derive(Drop)]
+#[derive(Clone, Copy)]
 pub struct Sent {
     pub answer: SendAnswer,
     pub node: Node,

@@ -5,7 +5,7 @@ ghost use Rattle.node.specs.Size.{size_given, path_size_of};
 use super::{Node, ServiceName};
 use refusals::Refusal;
 
-#[derive(Drop)]
+#[derive(Clone, Copy)]
 pub enum SizeAnswer {
     Size(u16),
     Refused(Refusal),

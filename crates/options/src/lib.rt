@@ -1,5 +1,7 @@
 // The options of a neighbour discovery message: whether they are whole, whether one is a source link-layer address, the smallest lifetime
 // that counts, and when the router that advertised them is due again. Any bytes and any numbers are taken.
+#![tactic(auto)]
+
 ghost use Rattle.std.specs.Prelude.{◌≡◌, ◌||◌, ◌≤◌, max, min, length};
 ghost use Rattle.options.specs.Options.{option_size, are_options_whole};
 ghost use Rattle.options.specs.Lifetimes.{is_prefix, is_route, lifetime_of, is_counted, options_read_of, delay_of, due_after};
@@ -31,14 +33,14 @@ const WITHOUT_LIFETIME: u32 = 3600;
 const MOST: usize = 12;
 
 // The smallest of the lifetimes that count.
-#[derive(Drop)]
+#[derive(Clone, Copy)]
 pub enum Smallest {
     Seconds(u32),
     NoneCounts,
 }
 
 // What the options say: whether they are walked to the exact end, none of length 0, and the smallest lifetime up to there.
-#[derive(Drop)]
+#[derive(Clone, Copy)]
 pub struct Options {
     pub whole: bool,
     pub smallest: Smallest,
@@ -110,7 +112,7 @@ fn shorter(smallest: Smallest, lifetime: u32) -> Smallest
 }
 
 // What is found up to an option: the smallest lifetime, and whether there was a source link-layer address.
-#[derive(Drop)]
+#[derive(Clone, Copy)]
 struct Found {
     smallest: Smallest,
     source_link_layer: bool,
@@ -129,7 +131,7 @@ fn with_option(found: Found, rest: &[u8]) -> Found
 }
 
 // What one walk leaves: how many bytes are left, and what is found up to there.
-#[derive(Drop)]
+#[derive(Clone, Copy)]
 struct Walked {
     left: usize,
     found: Found,

@@ -1,4 +1,6 @@
 // The path sizes that a tunnel end keeps: at most 64 neighbours, the newest accepted report first.
+#![tactic(auto)]
+
 pub mod packets;
 pub mod reported;
 pub mod rows;
@@ -22,7 +24,7 @@ const LIFETIME: u64 = 600;
 // Accepted reports, the newest first, at most one of each neighbour: row by row whose it is, its size and its time.
 // The first `count` rows are in use.
 #[repr(C)]
-#[derive(Drop)]
+#[derive(Clone, Copy)]
 pub struct PathTable {
     pub neighbours: [u32; NEIGHBOURS],
     pub sizes: [u16; NEIGHBOURS],
@@ -31,7 +33,7 @@ pub struct PathTable {
 }
 
 // The size that is kept toward a neighbour, if there is one.
-#[derive(Drop)]
+#[derive(Clone, Copy)]
 pub enum Kept {
     Size(u16),
     Nothing,
@@ -39,7 +41,7 @@ pub enum Kept {
 
 // What the rows of a table say of a neighbour: the size in force toward it; the row that makes room for an accepted report of it, and how many
 // rows are in use then.
-#[derive(Drop)]
+#[derive(Clone, Copy)]
 pub struct Look {
     pub in_force: u16,
     pub row: usize,
@@ -47,7 +49,7 @@ pub struct Look {
 }
 
 // The size that a report asks for, if it can be used.
-#[derive(Drop)]
+#[derive(Clone, Copy)]
 pub enum Candidate {
     Size(u16),
     Unusable,

@@ -2,7 +2,7 @@
 use Prim.Native.Nat.{ℕ, ◌*◌, ◌≤◌, ◌<◌, max}
 use mathlib.Core.Path.{◌≡◌, refl, sym, ◌∙◌}
 use mathlib.Core.Logic.{◌⊎◌, ⊎_elim, inl, inr}
-use mathlib.Core.Bool.{Bool, true, false, cond, not, ◌&&◌, ◌||◌, true≢false, and_false}
+use mathlib.Core.Bool.{Bool, true, false, cond, not, ◌&&◌, ◌||◌, true≢false, and-false}
 use mathlib.Core.List.{List, [], ◌∷◌}
 use native.Mathlib.Omega.{arith}
 use native.Mathlib.Nat.{add-zero, zero-add}
@@ -73,7 +73,7 @@ module _ (ps : List Part) (payload : List ℕ) (cut : Fitted ps payload) where
       where
         go : (b : Bool) → p.more ≡ b → cond b (not (eqb d.end 0) && leb d.end (end_of p)) ((not (eqb d.end 0) && not (eqb d.end (end_of p))) || leb (end_of p) d.reach) ≡ false
         go true e =
-            ⊎_elim (λ z. rw z) (λ z. rw (lt-leb d.end (end_of p) (omega (arith, (lying p i).inner e))) (and_false (not (eqb d.end 0)))) end_known
+            ⊎_elim (λ z. rw z) (λ z. rw (lt-leb d.end (end_of p) (omega (arith, (lying p i).inner e))) (and-false (not (eqb d.end 0)))) end_known
         go false e =
             let last = (lying p i).last e in
             rw (lt-leb (end_of p) d.reach (omega (arith, c.reach)))

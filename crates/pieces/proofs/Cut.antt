@@ -2,7 +2,7 @@
 use Prim.Native.Nat.{ℕ, ◌+◌, ◌*◌, ◌≤◌, ◌<◌}
 use mathlib.Core.Path.{◌≡◌, refl, sym, ap, ◌∙◌}
 use mathlib.Core.Logic.{◌⊎◌, ⊎_elim, inl, inr}
-use mathlib.Core.Bool.{Bool, true, false, ◌&&◌, true≢false, and-true, and_false}
+use mathlib.Core.Bool.{Bool, true, false, ◌&&◌, true≢false, and-true, and-false}
 use mathlib.Core.List.{List, [], ◌∷◌, ◌++◌, append-nil}
 use native.Mathlib.Omega.{arith}
 use borrow.Author.Tests.{eqb-false, ltb-false}
@@ -151,7 +151,7 @@ pub one-missing : (come ps : List Part) (p : Part) → In p ps → has_come come
 one-missing come [] p i h = absurd i
 one-missing come (q ∷ ps) p i h =
     ⊎_elim (λ (e : p ≡ q). let z : has_come come q ≡ false = rw e at h in rw z)
-    (λ j. rw (one-missing come ps p j h) (and_false (has_come come q))) i
+    (λ j. rw (one-missing come ps p j h) (and-false (has_come come q))) i
 
 -- none is missing
 pub each_come : (come ps : List Part) → have_come come ps ≡ true → (p : Part) → In p ps → has_come come p ≡ true

@@ -3,7 +3,7 @@ use Prim.Native.Nat.{ℕ}
 use mathlib.Core.Path.{◌≡◌, refl, sym, ◌∙◌}
 use mathlib.Core.Bool.{true, ◌&&◌, true≢false}
 use mathlib.Core.List.{List, [], ◌∷◌}
-use borrow.Author.Tests.{eq-eqb, eqb-true, not_true}
+use borrow.Author.Tests.{eq-eqb, eqb-true, not-true}
 use lib.Dec.{eqb}
 use Rattle.lists.proofs.Tests.{and_left, and_right}
 use Rattle.pieces.specs.declared.Key.{Key}
@@ -40,7 +40,7 @@ of-key key now d h = same_key key d.key (and_right (is_live now d) (is_same key 
 
 pub not_free : (now : ℕ) (d : Place) → is_free now d ≡ true → is_live now d ≡ true → ⊥
 unfolding is_free
-not_free now d h l = true≢false (sym l ∙ not_true (is_live now d) h)
+not_free now d h l = true≢false (sym l ∙ not-true (is_live now d) h)
 
 pub equal-same : (xs : List ℕ) → is_equal xs xs ≡ true
 equal-same [] = refl

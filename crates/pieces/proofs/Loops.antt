@@ -1,7 +1,7 @@
 -- What the loops of the code ask: one more turn. Assumes nothing.
 use Prim.Native.Nat.{ℕ, zero, suc, ◌+◌, ◌≤◌, ◌<◌}
 use mathlib.Core.Path.{◌≡◌, refl}
-use mathlib.Core.Bool.{Bool, true, false, ◌&&◌, and_false}
+use mathlib.Core.Bool.{Bool, true, false, ◌&&◌, and-false}
 use mathlib.Core.List.{List, [], ◌∷◌}
 use native.Mathlib.Numerals.{add-one}
 use native.Mathlib.Omega.{arith}
@@ -54,4 +54,4 @@ pub equal-length : (a b : List ℕ) → (length a ≡ length b → ⊥) → is_e
 equal-length [] [] n = absurd (n (omega arith))
 equal-length [] (y ∷ ys) n = refl
 equal-length (x ∷ xs) [] n = refl
-equal-length (x ∷ xs) (y ∷ ys) n = rw (equal-length xs ys (λ e. n (omega arith))) (and_false (eqb x y))
+equal-length (x ∷ xs) (y ∷ ys) n = rw (equal-length xs ys (λ e. n (omega arith))) (and-false (eqb x y))

@@ -1,7 +1,7 @@
 -- What a step under another key leaves alone: the datagram of a key, and its bytes. Assumes nothing.
 use Prim.Native.Nat.{ℕ, ◌<◌}
 use mathlib.Core.Path.{◌≡◌, refl, sym, ◌∙◌}
-use mathlib.Core.Bool.{true, false, ◌&&◌, true≢false, and_false}
+use mathlib.Core.Bool.{true, false, ◌&&◌, true≢false, and-false}
 use mathlib.Core.List.{List}
 use native.Mathlib.Omega.{arith}
 use borrow.Author.Tests.{ltb-true}
@@ -35,7 +35,7 @@ module _ (key : Key) (now k : ℕ) where
 
     other_key : (d : Place) → is_same key d.key ≡ false → is_of key now (extended p d) ≡ false
     unfolding is_of extended_to
-    other_key d h = rw h (and_false (is_live now (extended p d)))
+    other_key d h = rw h (and-false (is_live now (extended p d)))
 
     kept_by : (plan : Plan) (time : ℕ) (other : Key) → Away plan other
         → Kept key now k (record { collection = c; memory = memory }) (record { collection = (taken_by plan time other p c).collection; memory = memory_by plan p memory })

@@ -1,4 +1,6 @@
 // The pieces of cut datagrams: up to eight are collected at once, in memory that the caller lends.
+#![tactic(auto)]
+
 mod holding;
 mod judging;
 mod places;
@@ -25,7 +27,7 @@ pub const MEMORY: usize = 16384;
 
 // What the pieces of one datagram have in common.
 #[repr(C)]
-#[derive(Drop)]
+#[derive(Clone, Copy)]
 pub struct Key {
     pub source: u32,
     pub destination: u32,
@@ -36,7 +38,7 @@ pub struct Key {
 // A datagram that is collected: the latest time at its first piece, its end, 0 while that is not known, how far its pieces with
 // more-fragments set reach, and which of its units are held. `used` is 0 where there is none: a byte, for a C caller may hand in any.
 #[repr(C)]
-#[derive(Drop)]
+#[derive(Clone, Copy)]
 pub struct Place {
     pub held: Held,
     pub key: Key,
@@ -47,14 +49,14 @@ pub struct Place {
 }
 
 #[repr(C)]
-#[derive(Drop)]
+#[derive(Clone, Copy)]
 pub struct Collection {
     pub places: [Place; PLACES],
 }
 
 // A piece, its payload aside: the offset counts units of eight bytes.
 #[repr(C)]
-#[derive(Drop)]
+#[derive(Clone, Copy)]
 pub struct Piece {
     pub key: Key,
     pub offset: u16,
@@ -62,7 +64,7 @@ pub struct Piece {
 }
 
 // What is to be done with a piece; a number is that of a place.
-#[derive(Drop)]
+#[derive(Clone, Copy)]
 pub enum Plan {
     Unfit,
     Full,
@@ -73,14 +75,14 @@ pub enum Plan {
 }
 
 // What comes of a piece: the datagram that it completes, by its place and the length of its payload, or the number.
-#[derive(Drop)]
+#[derive(Clone, Copy)]
 pub enum Answer {
     Joined { place: usize, length: usize },
     Refused(Refusal),
 }
 
 // The answer to a piece, and what then stands in the place `at`: where nothing changes, what stands in the first.
-#[derive(Drop)]
+#[derive(Clone, Copy)]
 pub struct Change {
     pub answer: Answer,
     pub at: usize,

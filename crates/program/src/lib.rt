@@ -1,4 +1,6 @@
 // The program (R17): from the bytes of its input to the bytes of its output.
+#![tactic(auto)]
+
 mod lines;
 
 ghost use Rattle.std.specs.Prelude.{◌≡◌, ◌+◌, ◌≤◌, length, replicate};

@@ -6,7 +6,7 @@ ghost use Rattle.text.specs.Text.{behind};
 ghost use Rattle.program.specs.Lines.{longest_line, entry_of, bad_input, count_line, line_of};
 
 // What the program says of a datagram: the length that is delivered, or the number of the refusal.
-#[derive(Drop)]
+#[derive(Clone, Copy)]
 pub enum Line {
     Deliver(usize),
     Refuse(u8),

@@ -14,7 +14,7 @@ use refusals::Refusal;
 use settings::Settings;
 
 // What is read of the inner packet, or the number; and whether a piece came to the collection, and what then stands in the place `at`.
-#[derive(Drop)]
+#[derive(Clone, Copy)]
 pub struct Gathered {
     pub stage: Stage,
     pub piece: bool,

@@ -20,7 +20,7 @@ use settings::Settings;
 
 // What 8 to 10 are asked of: whether it was joined in the memory, and where it stands there or in the datagram; the outer source and the
 // payload's length; and of the inner header the version, the packet's length and the source address.
-#[derive(Drop)]
+#[derive(Clone, Copy)]
 pub struct Opening {
     pub joined: bool,
     pub offset: usize,
@@ -32,7 +32,7 @@ pub struct Opening {
 }
 
 // Where an inner packet stands, and its length.
-#[derive(Drop)]
+#[derive(Clone, Copy)]
 pub struct Standing {
     pub joined: bool,
     pub offset: usize,
@@ -40,7 +40,7 @@ pub struct Standing {
 }
 
 // What is to be judged; or where the packet stands, if 8 to 10 let it pass whatever settings and routers there are; or the number.
-#[derive(Drop)]
+#[derive(Clone, Copy)]
 pub enum Stage {
     Open(Opening),
     Passed(Standing),

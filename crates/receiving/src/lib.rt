@@ -1,4 +1,6 @@
 // Receiving: whether a datagram is delivered, and which part of it. Here a datagram is judged by itself; `collect` joins pieces.
+#![tactic(auto)]
+
 pub mod collect;
 pub mod judging;
 
@@ -16,7 +18,7 @@ use routers::RouterList;
 use settings::Settings;
 
 // The place of the inner packet in the datagram, or in the memory where its pieces were joined, or the number.
-#[derive(Drop)]
+#[derive(Clone, Copy)]
 pub enum Received {
     Delivered { offset: usize, length: usize },
     Joined { offset: usize, length: usize },

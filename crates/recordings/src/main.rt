@@ -1,5 +1,7 @@
 // Compares two recordings (R27) that stand in standard input, and writes what comes of it: docs/REPLAY.md has the format. Where a read or a
 // write fails it says so on standard error; input that was not read to its end gets no answer.
+#![tactic(auto)]
+
 mod given;
 mod lines;
 

@@ -1,9 +1,11 @@
 // The numbers given back: a name for each refusal of R4, and the first of several tests that refuses.
+#![tactic(auto)]
+
 ghost use Rattle.std.specs.Prelude.{◌≡◌};
 ghost use Rattle.refusals.specs.Refusals.{number_of};
 
 // Number 14, Too Big, carries values and stands in the answer of sending.
-#[derive(Drop)]
+#[derive(Clone, Copy)]
 pub enum Refusal {
     Settings,
     OuterMalformed,
@@ -38,7 +40,7 @@ pub enum Refusal {
 }
 
 // What a row of tests says: nothing against the input, or the first refusal.
-#[derive(Drop)]
+#[derive(Clone, Copy)]
 pub enum Check {
     Pass,
     Stop(Refusal),

@@ -22,7 +22,7 @@ const PREFIXES: usize = 8;
 const LIST: usize = 210;
 
 // The index of each list and of the packet's length, and what is held of the input once they are known.
-#[derive(Drop)]
+#[derive(Clone, Copy)]
 struct Places {
     prefixes: usize,
     routes: usize,
@@ -31,21 +31,21 @@ struct Places {
 }
 
 // Whether the preferences are ones that there are.
-#[derive(Drop)]
+#[derive(Clone, Copy)]
 struct Seen {
     known: bool,
     held: Held,
 }
 
 // The bytes of a call, 0 where a preference is unknown.
-#[derive(Drop)]
+#[derive(Clone, Copy)]
 pub(crate) struct Sized {
     pub(crate) size: usize,
     pub(crate) held: Held,
 }
 
 // The numbers that stand first.
-#[derive(Drop)]
+#[derive(Clone, Copy)]
 struct Numbers {
     service: u8,
     locator: usize,
@@ -56,7 +56,7 @@ struct Numbers {
 }
 
 // The first entries of each list, and how many it says to have.
-#[derive(Drop)]
+#[derive(Clone, Copy)]
 struct Lists {
     prefixes: [Prefix; 8],
     prefix_count: usize,
@@ -65,7 +65,7 @@ struct Lists {
     held: Held,
 }
 
-#[derive(Drop)]
+#[derive(Clone, Copy)]
 pub(crate) struct Answering {
     pub(crate) service: u8,
     pub(crate) locator: usize,

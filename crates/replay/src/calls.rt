@@ -51,7 +51,7 @@ pub(crate) type Memories = [u8; MEMORIES];
 pub(crate) type Space = [u8; 65536];
 
 // The index behind a call's line, and the next node.
-#[derive(Drop)]
+#[derive(Clone, Copy)]
 pub(crate) struct Made {
     pub(crate) end: usize,
     pub(crate) node: Node,

@@ -1,5 +1,7 @@
 // Reads the settings of one node's services and a list of calls from standard input, makes each call and writes a line for each: docs/REPLAY.md has
 // the format. Where a read or a write fails it stops and says so on standard error; input that was not read to its end gets no answer.
+#![tactic(auto)]
+
 mod answering;
 mod answers;
 mod calls;

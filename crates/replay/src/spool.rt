@@ -7,7 +7,7 @@ use streams::Reading;
 pub(crate) const LIMIT: usize = 1048576;
 
 // The file, and how many bytes it has. What failed has been said.
-#[derive(Drop)]
+#[derive(Clone, Copy)]
 pub(crate) struct Spool {
     pub(crate) file: i32,
     pub(crate) size: usize,

@@ -9,7 +9,7 @@ use settings::Settings;
 const HEAD: usize = 66;
 
 // The first bytes of a section, and the index behind the whole of it.
-#[derive(Drop)]
+#[derive(Clone, Copy)]
 struct Section {
     bytes: [u8; HEAD],
     behind: usize,
@@ -17,7 +17,7 @@ struct Section {
 }
 
 // The settings of one service, and the index behind them.
-#[derive(Drop)]
+#[derive(Clone, Copy)]
 struct Part {
     settings: Settings,
     // Whether the reporting flag is 0 or 1.
@@ -26,7 +26,7 @@ struct Part {
     failed: bool,
 }
 
-#[derive(Drop)]
+#[derive(Clone, Copy)]
 pub(crate) struct Start {
     pub(crate) first: Settings,
     // The first's where there is one service.

@@ -9,14 +9,14 @@ use crate::{answering, calls, line, lines, outputs, window};
 use node::Node;
 
 // The calls of a spool from an index on, and the node that they are made on.
-#[derive(Drop)]
+#[derive(Clone, Copy)]
 pub(crate) struct Task {
     pub(crate) node: Node,
     pub(crate) first: usize,
     pub(crate) spool: Spool,
 }
 
-#[derive(Drop)]
+#[derive(Clone, Copy)]
 pub(crate) struct Walk {
     // The index of a call, and of what stands behind it: the same one where it is unknown or cut off, or a read or a write failed.
     pub(crate) at: usize,

@@ -9,7 +9,7 @@ pub(crate) const LENGTH: usize = calls::LONGEST + 8192;
 
 pub(crate) type Window = [u8; LENGTH];
 
-#[derive(Drop)]
+#[derive(Clone, Copy)]
 pub(crate) struct Held {
     // The index of the first byte that is held, and how many are.
     pub(crate) from: usize,

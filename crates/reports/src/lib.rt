@@ -1,4 +1,6 @@
 // Size reports: judged by the settings and their bytes alone, and then by the size in force.
+#![tactic(auto)]
+
 pub mod reading;
 
 ghost use Rattle.std.specs.Prelude.{◌≡◌};
@@ -12,13 +14,13 @@ use refusals::{Check, Refusal};
 use settings::Settings;
 
 // What a report asks for by its bytes and the settings: a size toward a neighbour, if it is not refused.
-#[derive(Drop)]
+#[derive(Clone, Copy)]
 pub enum Judged {
     Report { neighbour: u32, size: u16 },
     Refused(Refusal),
 }
 
-#[derive(Drop)]
+#[derive(Clone, Copy)]
 pub enum ReportAnswer {
     Accepted { neighbour: u32, size: u16 },
     Refused(Refusal),

@@ -11,7 +11,7 @@ use refusals::Refusal;
 use settings::Settings;
 
 // The source and the neighbour that it quotes, and the size that it asks for, unless its bytes refuse it.
-#[derive(Drop)]
+#[derive(Clone, Copy)]
 pub enum Reading {
     Quote {
         source: u32,
@@ -22,7 +22,7 @@ pub enum Reading {
 }
 
 // The service that has the quoted source among its locator addresses.
-#[derive(Drop)]
+#[derive(Clone, Copy)]
 pub enum Origin {
     First,
     Second,
@@ -30,7 +30,7 @@ pub enum Origin {
 }
 
 // What a report asks for, and the size of the link of the service that it belongs to.
-#[derive(Drop)]
+#[derive(Clone, Copy)]
 pub enum JudgedOver {
     Report {
         neighbour: u32,

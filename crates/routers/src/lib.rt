@@ -1,5 +1,7 @@
 // The router list: which addresses are listed, which router is asked next, and when each is due again.
 // Every list is taken: what counts are the first `count` of its 16 places. A search runs over lent rows; a list by value lends its own.
+#![tactic(auto)]
+
 ghost use Rattle.std.specs.Prelude.{◌≡◌, cond, take, drop};
 ghost use Rattle.routers.specs.Routers.{held_in, live, listed, earlier_of, if_due, next_of, due_or, dues_after, rescheduled_of, replaced_of, new_of, among, are_distinct};
 
@@ -7,7 +9,7 @@ ghost use Rattle.routers.specs.Routers.{held_in, live, listed, earlier_of, if_du
 pub const PLACES: usize = 16;
 
 // A router and its due time: an exact second, which may lie past the last one of 32 bits.
-#[derive(Drop)]
+#[derive(Clone, Copy)]
 pub struct Router {
     pub address: u32,
     pub due: u64,
@@ -15,7 +17,7 @@ pub struct Router {
 
 // Place by place the address of a router and its due time.
 #[repr(C)]
-#[derive(Drop)]
+#[derive(Clone, Copy)]
 pub struct RouterList {
     pub addresses: [u32; PLACES],
     pub dues: [u64; PLACES],
@@ -23,7 +25,7 @@ pub struct RouterList {
 }
 
 // The router to be asked, by its address.
-#[derive(Drop)]
+#[derive(Clone, Copy)]
 pub enum Next {
     Due(u32),
     NoneDue,

@@ -11,7 +11,7 @@ use refusals::{Check, Refusal};
 use settings::{Settings, locators};
 
 // Room and total length are the writer's to judge, which refuses by 23 and 15 itself.
-#[derive(Drop)]
+#[derive(Clone, Copy)]
 pub enum Plan {
     // The packet is wrapped, from the locator's address.
     Wrap(u32),

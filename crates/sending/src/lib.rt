@@ -1,4 +1,6 @@
 // Sending: what it comes to is judged first, as a plan, before a byte is written; then the plan is carried out.
+#![tactic(auto)]
+
 mod judging;
 
 ghost use Rattle.std.specs.Prelude.{◌≡◌, length};
@@ -11,7 +13,7 @@ use paths::packets;
 use refusals::Refusal;
 use settings::Settings;
 
-#[derive(Drop)]
+#[derive(Clone, Copy)]
 pub enum SendAnswer {
     // The length written.
     Wrapped(usize),
@@ -21,7 +23,7 @@ pub enum SendAnswer {
 }
 
 // The answer to a sending, and the next identification.
-#[derive(Drop)]
+#[derive(Clone, Copy)]
 pub struct Sent {
     pub answer: SendAnswer,
     pub identification: u16,
@@ -104,7 +106,7 @@ fn identification_after(answer: SendAnswer, identification: u16) -> u16
     ensures { result ≡ identification_after answer identification }
 {
     match answer {
-        SendAnswer::Wrapped(_) => std::num::wrapping_add_u16(identification, 1),
+        SendAnswer::Wrapped(_) => identification.wrapping_add(1),
         SendAnswer::TooBig { size, written } => identification,
         SendAnswer::Refused(_) => identification,
     }

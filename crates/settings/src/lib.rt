@@ -1,4 +1,6 @@
 // The settings of a tunnel end, their defaults and their rules.
+#![tactic(auto)]
+
 pub mod locators;
 
 ghost use Rattle.std.specs.Prelude.{◌≡◌, take};
@@ -9,7 +11,7 @@ use locators::{Found, Locator};
 
 // Laid out as in C, as all that a node holds is.
 #[repr(C)]
-#[derive(Drop)]
+#[derive(Clone, Copy)]
 pub struct Settings {
     pub locators: [Locator; 8],
     pub locator_count: usize,

@@ -4,13 +4,13 @@ ghost use Rattle.lists.specs.Any.{any_of, twice};
 ghost use Rattle.settings.specs.Locators.{is_at, is_locator, same_locator, locator_found, address_of, is_no_locator};
 
 #[repr(C)]
-#[derive(Drop)]
+#[derive(Clone, Copy)]
 pub struct Locator {
     pub address: u32,
     pub interface: u8,
 }
 
-#[derive(Drop)]
+#[derive(Clone, Copy)]
 pub enum Found {
     Address(u32),
     Nothing,

@@ -1,11 +1,13 @@
 // Reading where a failed read is told apart from the end of the input.
+#![tactic(auto)]
+
 pub mod waiting;
 
 ghost use Rattle.std.specs.Prelude.{◌≡◌, length};
 ghost use Rattle.io.specs.Counts.{IsPrefixLen};
 
 // How many bytes were read, and whether a read failed behind them.
-#[derive(Drop)]
+#[derive(Clone, Copy)]
 pub struct Reading {
     pub count: usize,
     pub failed: bool,

@@ -2,7 +2,7 @@
 ghost use Rattle.std.specs.Prelude.{◌≤◌};
 
 // The index behind the lines that wait.
-#[derive(Drop)]
+#[derive(Clone, Copy)]
 pub struct Ready {
     pub end: usize,
     // Whether a write failed, which was said.

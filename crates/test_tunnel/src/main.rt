@@ -1,6 +1,8 @@
 // Runs the program (R17) on the inputs in data/: for each its name, and then the output. The inputs and what is expected come
 // from tests/program_cases.py.
 // Writes the output for what stands in the file.
+#![tactic(auto)]
+
 fn answer(file: i32) {
     let mut bytes = program::input_room();
     let n = io::read_full(file, &mut bytes);

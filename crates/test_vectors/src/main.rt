@@ -3,6 +3,8 @@
 //
 // A case is its kind 1, the length of its name 2, one less than its own length 2, its name; then how a number is written 1,
 // four numbers n 2, m 2, x 4 and y 4, and the bytes that it is about. A byte past the end reads as 0.
+#![tactic(auto)]
+
 mod answers;
 mod operator;
 mod rules;

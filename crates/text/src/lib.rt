@@ -1,5 +1,7 @@
 // Text written into a lent slice: each function writes from the index at on and gives the index behind what it wrote;
 // where it does not fit, nothing is written and at is given back.
+#![tactic(auto)]
+
 pub mod digests;
 
 ghost use Rattle.std.specs.Prelude.{◌≡◌, ◌+◌, ◌<◌, length, drop};
@@ -30,7 +32,7 @@ pub fn put(word: &[u8], out: &mut [u8], at: usize) -> usize
 }
 
 // The last bytes of twenty, from the index start on.
-#[derive(Drop)]
+#[derive(Clone, Copy)]
 struct Digits {
     bytes: [u8; 20],
     start: usize,

@@ -1,5 +1,7 @@
 // The program (R17): reads settings and datagrams from standard input, and writes what receiving answers to each. Where a read or
 // a write fails it says so on standard error; input that was not read to its end gets no answer.
+#![tactic(auto)]
+
 fn main() {
     let mut bytes = program::input_room();
     let read = streams::read_all(0, &mut bytes);

@@ -1,4 +1,6 @@
 // Which units of eight bytes of a datagram's payload are held: a bit for each.
+#![tactic(auto)]
+
 ghost use Rattle.std.specs.Prelude.{◌≡◌, ◌-◌, ◌%◌, ◌^◌, min};
 ghost use Rattle.std.specs.Int.Bits.{bit_or};
 ghost use Rattle.units.specs.Held.{none_held, range_of, meets, covers, united};
@@ -11,7 +13,7 @@ const WORD: usize = 64;
 
 // Unit u is bit u % 64 of word u / 64.
 #[repr(C)]
-#[derive(Drop)]
+#[derive(Clone, Copy)]
 pub struct Held {
     pub words: [u64; 4],
 }

@@ -1,7 +1,7 @@
 -- `messages::enclose` meets its contract: the IPv6 header, the front of the message and the checksum are written one after another. Assumes nothing.
 use native.Mathlib.Omega.{arith}
 use Rattle.messages.proofs.EnclosedLaws.{fits, enclosed-not, enclosed_by}
-use borrow.Author.Tests.{not_true, not-false}
+use borrow.Author.Tests.{not-true, not-false}
 use mathlib.Core.Path.{◌∙◌, sym}
 use lib.ListN.{length}
 use Rattle.messages.proofs.enclose.Statement.{statement}
@@ -10,7 +10,7 @@ use Rattle.messages.proofs.enclose.Tie as tie
 returns : tie.Need-returns
 returns c =
     let a = c.before.before.before.args in
-    sym (enclosed-not a.hop a.from a.to a.kind a.t5 a.n a.out.now (sym c.before.packet-fits.ensures ∙ not_true _ c.if1.true))
+    sym (enclosed-not a.hop a.from a.to a.kind a.t5 a.n a.out.now (sym c.before.packet-fits.ensures ∙ not-true _ c.if1.true))
 
 sub-write-ipv6-header : tie.Need-overflow-sub-write-ipv6-header
 sub-write-ipv6-header c = let f = fits c.before.before.before.args.n (length c.before.before.before.args.out.now) c.before.packet-fits.ensures (not-false _ c.if1.false) in omega arith

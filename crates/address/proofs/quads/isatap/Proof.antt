@@ -1,7 +1,7 @@
 -- `address::quads::isatap` meets its contract: both tests decide, and the address is read out. Assumes nothing.
 use borrow.Author.Rules.{rules}
 use native.Mathlib.Omega.{arith}
-use mathlib.Core.Bool.{and_false}
+use mathlib.Core.Bool.{and-false}
 use Rattle.address.specs.Address.{embedded_in}
 use Rattle.address.proofs.Bytes.{last-number}
 use Rattle.address.proofs.quads.isatap.Statement.{statement}
@@ -20,7 +20,7 @@ returns-2 c = simp (← c.before.on-link.ensures, c.if2.false)
 
 returns-3 : tie.Need-returns-3
 unfolding embedded_in
-returns-3 c = simp (← c.before.identifier.ensures, c.if1.false, and_false)
+returns-3 c = simp (← c.before.identifier.ensures, c.if1.false, and-false)
 
 pub isatap-spec : {M : Type 1} → statement M
 isatap-spec =

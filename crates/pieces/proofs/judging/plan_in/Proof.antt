@@ -1,6 +1,6 @@
 use native.Mathlib.Omega.{arith}
 use mathlib.Core.Path.{sym, ◌∙◌}
-use borrow.Author.Tests.{not_true, not-false}
+use borrow.Author.Tests.{not-true, not-false}
 use Rattle.pieces.specs.Places.{part_of}
 use Rattle.pieces.proofs.Judged.{ends_differ, held_none, held-some, held_same, held-other}
 use Rattle.pieces.proofs.judging.plan_in.Statement.{statement}
@@ -19,7 +19,7 @@ returns-2 c =
     let b = e.before.before.before.before.before in
     let a = b.args in
     held_none a.k (part_of a.piece a.payload.now) a.d a.memory.now (sym e.ends-apart.ensures ∙ c.before.if1.false) a.range b.requires.1.1
-    (sym s.any.ensures ∙ not_true s.any.result c.if2.true)
+    (sym s.any.ensures ∙ not-true s.any.result c.if2.true)
 
 returns-3 : tie.Need-returns-3
 returns-3 c =
@@ -29,7 +29,7 @@ returns-3 c =
     let b = e.before.before.before.before.before in
     let a = b.args in
     held-some a.k (part_of a.piece a.payload.now) a.d a.memory.now (sym e.ends-apart.ensures ∙ l.before.before.if1.false) a.range b.requires.1.1
-    (sym s.any.ensures ∙ not-false s.any.result l.before.if2.false) (sym l.all.ensures ∙ not_true l.all.result c.if3.true)
+    (sym s.any.ensures ∙ not-false s.any.result l.before.if2.false) (sym l.all.ensures ∙ not-true l.all.result c.if3.true)
 
 returns-4 : tie.Need-returns-4
 returns-4 c =

@@ -1,6 +1,6 @@
 -- `reports::reading::origin_of` meets its contract: by the tests that led to each return. Assumes nothing.
 use native.Mathlib.Omega.{arith}
-use borrow.Author.Tests.{not_true, not-false}
+use borrow.Author.Tests.{not-true, not-false}
 use Rattle.reports.specs.Reading.{origin_of}
 use Rattle.reports.proofs.reading.origin_of.Statement.{statement}
 use Rattle.reports.proofs.reading.origin_of.Tie as tie
@@ -11,7 +11,7 @@ returns c = simp (← c.before.ours.ensures, c.if1.true)
 
 returns-2 : tie.Need-returns-2
 unfolding origin_of
-returns-2 c = simp (← c.before.before.ours.ensures, c.before.if1.false, not_true c.before.before.before.args.two c.if2.true)
+returns-2 c = simp (← c.before.before.ours.ensures, c.before.if1.false, not-true c.before.before.before.args.two c.if2.true)
 
 returns-3 : tie.Need-returns-3
 unfolding origin_of
