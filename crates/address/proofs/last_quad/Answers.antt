@@ -1,0 +1,9 @@
+-- `address::last_quad` meets its contract: the last four bytes are put together.
+use borrow.Author.Rules.{rules}
+use native.Mathlib.Omega.{arith}
+use Rattle.address.specs.Address.{last_quad}
+use Rattle.address.proofs.last_quad.Goals as goal
+
+pub returns : goal.returns
+unfolding last_quad
+returns c = c.quad.ensures

@@ -1,0 +1,6 @@
+-- `address::multicast_or_unspecified` meets its contract: the four numbers have the address's bytes.
+use borrow.Author.Rules.{rules}
+use Rattle.address.proofs.multicast_or_unspecified.Goals as goal
+
+pub returns : goal.returns
+returns c = rw (c.multicast_or_unspecified.ensures, c.numbers.ensures.result_value)

@@ -1,0 +1,6 @@
+-- `address::on_link` meets its contract: the four numbers have the address's bytes.
+use borrow.Author.Rules.{rules}
+use Rattle.address.proofs.on_link.Goals as goal
+
+pub returns : goal.returns
+returns c = rw (c.on_link.ensures, c.numbers.ensures.result_value)
