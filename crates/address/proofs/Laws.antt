@@ -1,4 +1,4 @@
--- What we form, we read; and what an ISATAP address with the link_local_lem prefix embeds. Assumes nothing.
+-- What we form, we read; and what an ISATAP address with the link-local prefix embeds. Assumes nothing.
 use Prim.Native.Nat.{ℕ, ◌<◌}
 use mathlib.Core.Path.{◌≡◌, ap}
 use mathlib.Core.Bool.{true}
@@ -12,7 +12,7 @@ pub formed-embeds : (ps : List (List ℕ)) (count a : ℕ) → a < 4294967296 �
 unfolding embedded_in link_local_of is_on_link is_under is_identifier last_quad
 formed-embeds ps count a h = ap Ipv4 (omega arith)
 
--- an ISATAP address with the link_local_lem prefix embeds its last 32 bits, whatever prefixes are on-link
+-- an ISATAP address with the link-local prefix embeds its last 32 bits, whatever prefixes are on-link
 pub link_local_embeds : (ps : List (List ℕ)) (count : ℕ) (a : List ℕ) → is_link_local a ≡ true → is_identifier a ≡ true → embedded_in ps count a ≡ Ipv4 (last_quad a)
 unfolding embedded_in is_on_link
 link_local_embeds ps count a h k = rw (h, k)

@@ -37,7 +37,7 @@ is_under a p = agree 8 p a
 abbrev pub link_local_prefix : List ℕ
 link_local_prefix = 0xFE ∷ 0x80 ∷ 0 ∷ 0 ∷ 0 ∷ 0 ∷ 0 ∷ 0 ∷ []
 
--- R15.3: link_local_lem (fe80::/64)
+-- R15.3: link-local (fe80::/64)
 abbrev pub is_link_local : List ℕ → Bool
 is_link_local a = is_under a link_local_prefix
 
@@ -58,7 +58,7 @@ embedded_in prefixes count a = cond (is_on_link prefixes count a && is_identifie
 abbrev pub first_identifier_byte : ℕ
 first_identifier_byte = 0
 
--- the link_local_lem ISATAP address that we form: fe80::5efe:a
+-- the link-local ISATAP address that we form: fe80::5efe:a
 unfoldable pub link_local_of : ℕ → List ℕ
 link_local_of a =
     0xFE ∷ 0x80 ∷ 0 ∷ 0 ∷ 0 ∷ 0 ∷ 0 ∷ 0 ∷ first_identifier_byte ∷ 0x00 ∷ 0x5E ∷ 0xFE

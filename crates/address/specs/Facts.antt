@@ -20,7 +20,7 @@ Forbidden a =
 unfoldable pub Under : List ℕ → List ℕ → Type 0
 Under a prefix = (i : ℕ) → i < 8 → get_or a i 0 ≡ get_or prefix i 0
 
--- R15.3: link_local_lem (fe80::/64)
+-- R15.3: link-local (fe80::/64)
 abbrev pub LinkLocal : List ℕ → Type 0
 LinkLocal a = Under a link_local_prefix
 
@@ -43,7 +43,7 @@ pub record Isatap (prefixes : List (List ℕ)) (count : ℕ) (a : List ℕ) (v :
   pub identifier : Identifier a
   pub embedded : EndsWith a v
 
--- the link_local_lem ISATAP address that we form of an IPv4 address: fe80::/64, then 00, 00, 5E, FE, then its four bytes
+-- the link-local ISATAP address that we form of an IPv4 address: fe80::/64, then 00, 00, 5E, FE, then its four bytes
 abbrev pub formed : ℕ → List ℕ
 formed a =
     0xFE ∷ (0x80 ∷ (0 ∷ (0 ∷ (0 ∷ (0 ∷ (0 ∷ (0 ∷ (0x00 ∷ (0x00 ∷ (0x5E ∷ (0xFE

@@ -87,7 +87,7 @@ pub fn isatap(prefixes: [[u8; 8]; 8], count: usize, a: [u8; 16]) -> Embedded
     quads::isatap(prefixes, count, quads::numbers(a))
 }
 
-// The link_local_lem ISATAP address of an IPv4 address.
+// The link-local ISATAP address of an IPv4 address.
 pub fn link_local(a: u32) -> [u8; 16]
     ensures { result ≡ link_local_of a }
 {

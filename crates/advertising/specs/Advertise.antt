@@ -19,11 +19,11 @@ use Rattle.advertisements.specs.declared.Advertisement.{Advertisement}
 abbrev pub asker_of : List ℕ → List ℕ
 asker_of p = address_at p 8
 
--- a link_local_lem ISATAP address, whatever IPv4 address it embeds
+-- a link-local ISATAP address, whatever IPv4 address it embeds
 unfoldable pub is_asker_right : List ℕ → Bool
 is_asker_right a = is_link_local a && is_identifier a
 
--- 8 as in receiving; 11: no locator of that number; 24: no valid solicitation; 25: the asker's address is not link_local_lem ISATAP
+-- 8 as in receiving; 11: no locator of that number; 24: no valid solicitation; 25: the asker's address is not link-local ISATAP
 abbrev pub asker_rows : Found → List ℕ → List (Bool × Refusal)
 asker_rows found p =
     (is_inner_malformed (length p) (inner_of p), refusal.InnerMalformed)
@@ -40,7 +40,7 @@ asker_check found p = first_of (asker_rows found p)
 unfoldable pub advertised_of : Found → List ℕ → Advertisement → ℕ → Written
 advertised_of found p a room = stop_or Refused (asker_check found p) (advertisement_answer a room)
 
--- what stands in the output afterwards: the advertisement from the locator's link_local_lem address back to the asker
+-- what stands in the output afterwards: the advertisement from the locator's link-local address back to the asker
 unfoldable pub advertised_output : Found → List ℕ → Advertisement → List ℕ → List ℕ
 advertised_output found p a out =
     stop_or (λ r. out) (asker_check found p) (advertisement_output (link_local_of (address_of found)) (asker_of p) a out)

@@ -26,7 +26,7 @@ pub record MayAdvertise (s : Settings) (packet : List ℕ) (k : ℕ) (a : Advert
   pub locator : LocatorAt s k from
   -- RFC 4861, 6.1.1: a valid router solicitation
   pub solicitation : ValidSolicitation packet
-  -- the asker's address is link_local_lem ISATAP
+  -- the asker's address is link-local ISATAP
   pub asker : LinkLocalIsatap (fields_of packet).source
   -- not too many prefixes and routes, and none too long
   pub options : BadOptions a → ⊥
@@ -50,7 +50,7 @@ pub record AdvertisedExactly (s : Settings) (packet : List ℕ) (k : ℕ) (a : A
   pub answers : AnswersFirst Refused (advertise_facts s packet k a size (length out)) (Length size) answer
   -- a length is answered only when the rules hold, and it is that of an advertisement that fits
   pub only_if : (n : ℕ) → answer ≡ Length n → (n ≡ size) × (size ≤ length out) × ((from : ℕ) × MayAdvertise s packet k a from)
-  -- whenever the rules hold there is an advertisement from the locator's link_local_lem address to the asker's address as it stands, of that length;
+  -- whenever the rules hold there is an advertisement from the locator's link-local address to the asker's address as it stands, of that length;
   -- if it fits, it is written, and what stood behind it stays
   pub whenever : (from : ℕ) → MayAdvertise s packet k a from
       → (p : List ℕ)

@@ -12,7 +12,7 @@ use refusals::{Check, Refusal};
 use settings::locators;
 use settings::locators::Found;
 
-// Whether an address is link_local_lem ISATAP, whatever IPv4 address it embeds.
+// Whether an address is link-local ISATAP, whatever IPv4 address it embeds.
 fn asker_right(asker: [u8; 16]) -> bool
     ensures { result ≡ is_asker_right asker }
 {

@@ -43,7 +43,7 @@ answered_with (Refused refusal) due routers = record { answer = Refused refusal;
 abbrev pub carried_out : Plan → ℕ → RouterList → Asked
 carried_out p due routers = answered_with (answer_of p) due routers
 
--- the output gets a solicitation: our link_local_lem address to the router's
+-- the output gets a solicitation: our link-local address to the router's
 abbrev pub planned_output : Plan → List ℕ → List ℕ
 planned_output (Ask from router) out = written (solicitation_of (link_local_of from) (link_local_of router)) out
 planned_output (Refuse refusal) out = out

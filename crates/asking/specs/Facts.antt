@@ -32,7 +32,7 @@ solicitation_sum from router =
     (ones_sum
     ((formed from ++ formed router) ++ (0 ∷ (0 ∷ (0 ∷ (8 ∷ (0 ∷ (0 ∷ (0 ∷ (58 ∷ solicitation_message 0))))))))))
 
--- the 48 bytes of a solicitation: payload length 8, next header 58, hop limit 255, our link_local_lem address to the router's
+-- the 48 bytes of a solicitation: payload length 8, next header 58, hop limit 255, our link-local address to the router's
 abbrev pub solicitation_bytes : ℕ → ℕ → List ℕ
 solicitation_bytes from router =
     (0x60 ∷ (0 ∷ (0 ∷ (0 ∷ (0 ∷ (8 ∷ (58 ∷ (255 ∷ []))))))))

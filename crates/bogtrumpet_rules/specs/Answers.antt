@@ -39,6 +39,6 @@ plain_embedded Nothing = record { found = false; address = 0 }
 unfoldable pub isatap_in : Prefixes → Address → Embedded
 isatap_in prefixes a = plain_embedded (embedded_in (rows_of prefixes.bytes) prefixes.count a.bytes)
 
--- the link_local_lem ISATAP address of an IPv4 address, with 00 (R6.3)
+-- the link-local ISATAP address of an IPv4 address, with 00 (R6.3)
 unfoldable pub link_local_in : ℕ → Address
 link_local_in a = record { bytes = link_local_of a }

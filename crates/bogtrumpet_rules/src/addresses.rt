@@ -61,7 +61,7 @@ pub extern "C" fn bogtrumpet_isatap(on_link: Prefixes, a: Address) -> Embedded
     plain_embedded(address::isatap(prefixes::rows(flat), on_link.count, bytes))
 }
 
-// The link_local_lem ISATAP address of an IPv4 address: address::link_local.
+// The link-local ISATAP address of an IPv4 address: address::link_local.
 #[unsafe(no_mangle)]
 pub extern "C" fn bogtrumpet_link_local(a: u32) -> Address
     ensures { result ≡ link_local_in a }

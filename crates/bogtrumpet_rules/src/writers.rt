@@ -80,7 +80,7 @@ pub extern "C" fn bogtrumpet_too_big(
     plain_written(messages::too_big(bytes, size, packet, out))
 }
 
-// Writes a router solicitation between two link_local_lem addresses, refused by 15: messages::solicitation.
+// Writes a router solicitation between two link-local addresses, refused by 15: messages::solicitation.
 #[unsafe(no_mangle)]
 pub extern "C" fn bogtrumpet_solicitation(locator: u32, router: u32, out: &mut [u8]) -> Written
     ensures value { result ≡ plain_written (solicitation_answer (length out.old)) }

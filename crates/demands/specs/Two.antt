@@ -156,7 +156,7 @@ pub record SetsPair (a b : Settings) : Type 0 where
   pub both : RightPair a b → Has (setup_pair_of a b).node Second
 
 -- settings of which locators, prefixes and routers alone are named have L 1,500, TTL 64, interval 120, identification 1, and for a reporting
--- address the link_local_lem address of locator 0
+-- address the link-local address of locator 0
 pub record Defaults (s : Settings) (first : Locator) : Type 0 where
   pub link_size : s.link_size ≡ 1500
   pub ttl : s.ttl ≡ 64

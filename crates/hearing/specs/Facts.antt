@@ -51,7 +51,7 @@ pub record ValidMessage (kind least : ℕ) (i : Inner) (p : List ℕ) (os : List
 pub record IsAdvertisement (i : Inner) (p : List ℕ) (os : List (List ℕ)) : Type 0 where
   -- RFC 4861, 6.1.2: type 134, ICMPv6 length at least 16
   pub message : ValidMessage 134 16 i p os
-  -- RFC 4861, 6.1.2: "IP Source Address is a link_local_lem address"
+  -- RFC 4861, 6.1.2: "IP Source Address is a link-local address"
   pub link_local : LinkLocal i.source
 
 -- a valid router solicitation in the packet p, whose header has the fields i: os are its options

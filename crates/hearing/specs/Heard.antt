@@ -28,7 +28,7 @@ use Rattle.hearing.specs.declared.Heard.{Heard}
 abbrev pub options_start : ℕ
 options_start = 16
 
--- an advertisement, its options aside: a link_local_lem source, the fields of a message of type 134, checksum right
+-- an advertisement, its options aside: a link-local source, the fields of a message of type 134, checksum right
 unfoldable pub is_advertisement : Inner → List ℕ → Bool
 is_advertisement i p = is_link_local i.source && has_fields advertisement_type options_start i p && is_sum_right p
 
@@ -36,7 +36,7 @@ is_advertisement i p = is_link_local i.source && has_fields advertisement_type o
 abbrev pub options_in : List ℕ → Options
 options_in p = options_read_of (word_at (message_of p) 6) (drop options_start (message_of p))
 
--- valid: a link_local_lem source, and the rules of a message of type 134
+-- valid: a link-local source, and the rules of a message of type 134
 abbrev pub is_valid_advertisement : Inner → List ℕ → Bool
 is_valid_advertisement i p = is_link_local i.source && is_valid_message advertisement_type options_start i p
 

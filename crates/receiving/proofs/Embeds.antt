@@ -51,7 +51,7 @@ embeds-quads s q v h =
     let a : List ℕ = bytes_in q in
     rw (last-number q h) (by_tests (is_on_link (rows_of s.prefixes) s.prefix_count a) (is_identifier a) q.last v)
 
--- a link_local_lem address begins with fe, so it is no bad source, whatever is forbidden
+-- a link-local address begins with fe, so it is no bad source, whatever is forbidden
 link_local_good : (forbidden : Bool) (a : List ℕ) → is_link_local a ≡ true → is_bad_source_with forbidden a ≡ false
 unfolding is_under is_bad_source_with is_multicast_or_unspecified
 link_local_good forbidden a h = rw (first 7 h)

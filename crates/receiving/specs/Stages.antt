@@ -55,7 +55,7 @@ arrival_of s interface lent d = read_with (first_of (arrival_rows s interface le
 abbrev pub inner_in : Opening → Inner
 inner_in x = record { version = x.version; length = x.packet; next = 0; hop = 0; source = bytes_in x.address }
 
--- whether 8 to 10 let it pass whatever settings and routers there are: a whole packet from a link_local_lem ISATAP address that embeds the outer source
+-- whether 8 to 10 let it pass whatever settings and routers there are: a whole packet from a link-local ISATAP address that embeds the outer source
 unfoldable pub passes_anyhow : Opening → Bool
 passes_anyhow x =
     let source : List ℕ = bytes_in x.address in

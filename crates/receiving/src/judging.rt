@@ -47,7 +47,7 @@ pub enum Stage {
     Refused(Refusal),
 }
 
-// Whether 8 to 10 let it pass whatever settings and routers there are: a whole packet from a link_local_lem ISATAP address that embeds the outer
+// Whether 8 to 10 let it pass whatever settings and routers there are: a whole packet from a link-local ISATAP address that embeds the outer
 // source. Such an address is on-link everywhere, and no bad one.
 fn passes_anyhow(x: Opening) -> bool
     ensures { result ≡ passes_anyhow x }
@@ -93,7 +93,7 @@ fn source_bad(settings: Settings, q: Quads) -> bool
     quads::bad_source_with(forbidden, q)
 }
 
-// Whether the address is an ISATAP address that embeds v. Most have the link_local_lem prefix: then the settings' are not read.
+// Whether the address is an ISATAP address that embeds v. Most have the link-local prefix: then the settings' are not read.
 fn embeds_it(settings: Settings, q: Quads, v: u32) -> bool
     ensures { result ≡ embeds settings (bytes_in q) v }
 {

@@ -42,7 +42,7 @@ fn not_isatap(embedded: Embedded) -> bool
     }
 }
 
-// Number 12. A link_local_lem ISATAP address is one whatever prefixes there are.
+// Number 12. A link-local ISATAP address is one whatever prefixes there are.
 fn next_hop_not_isatap(settings: Settings, next_hop: [u8; 16]) -> bool
     ensures { result ≡ is_not_isatap (embedded_to settings next_hop) }
 {

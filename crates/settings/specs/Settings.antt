@@ -10,7 +10,7 @@ use Rattle.settings.specs.declared.locators.Locator.{Locator}
 use Rattle.settings.specs.declared.locators.Found.{Found}
 use Rattle.settings.specs.declared.Settings.{Settings}
 
--- the defaults: L 1,500, TTL 64, interval 120, identification 1, reporting address the link_local_lem address of locator 0
+-- the defaults: L 1,500, TTL 64, interval 120, identification 1, reporting address the link-local address of locator 0
 unfoldable pub defaults_for : List Locator → ℕ → List ℕ → ℕ → List ℕ → ℕ → Settings
 defaults_for locators locatorCount prefixes prefixCount routers routerCount = record {
   locators = locators;

@@ -39,7 +39,7 @@ impl Settings {
     pub const IDENTIFICATION: u16 = 1;
 
     // The settings with these locators, prefixes and routers, and defaults for the rest: the reporting address is the
-    // link_local_lem address of locator 0.
+    // link-local address of locator 0.
     pub fn new(
         locators: [Locator; 8],
         locator_count: usize,
