@@ -1,6 +1,6 @@
 # libbogtrumpet.a: the node's calls and the rules without state as two objects of one archive, so that a program that calls only a rule
-# links none of the node. `rt staticlib` proves a crate once more before it compiles it: the archive is made anew only where a source is newer.
-# It writes the node's object alone under the archive's name, so that file goes before the rules are proved: what fails leaves no archive.
+# links none of the node. `rt lib` proves a crate before it compiles it: the archive is made anew only where a source is newer, and what fails
+# leaves no archive.
 PREFIX = /usr/local
 DESTDIR =
 AR = ar
@@ -19,23 +19,31 @@ HOST_FLAGS = -std=c11 -D_GNU_SOURCE -Iinclude -O2 -g -fPIE -pie -fstack-protecto
 VERSION = $(shell sed -n 's/^.define BOGTRUMPET_VERSION "\(.*\)"$$/\1/p' $(HEADER))
 
 # the crates that the two are made of: what crates.txt names for them, and so on down
-CRATES = $(shell sed -n 's/^\([a-z_]*\):\(.*\)/\1 \2/p' crates.txt | awk \
+CRATES = $(shell sed -n 's/^\([a-z_]*\)\( staticlib\)\{0,1\}:\(.*\)/\1 \3/p' crates.txt | awk \
     '{ for (i = 2; i <= NF; i++) needs[$$1] = needs[$$1] " " $$i } \
      function take(c,   n, parts, i) { if (c in taken) return; taken[c] = 1; n = split(needs[c], parts, " "); for (i = 1; i <= n; i++) take(parts[i]) } \
      END { take("bogtrumpet"); take("bogtrumpet_rules"); for (c in taken) print c }')
-SOURCES = crates.txt $(shell find $(wildcard $(CRATES:%=crates/%)) -name '*.rt' -o -name '*.antt')
+SOURCES = crates.txt $(shell find $(wildcard $(CRATES:%=crates/%)) -name out -prune -o \( -name '*.rt' -o -name '*.antt' \) -print)
+ALL_SOURCES = crates.txt $(shell find crates -name out -prune -o \( -name '*.rt' -o -name '*.antt' \) -print)
+PROGRAMS = tunnel replay recordings
 
 all: $(LIBRARY)
 
 $(LIBRARY): $(SOURCES)
 	rm -rf $(OBJECTS) && mkdir -p $(OBJECTS)/node $(OBJECTS)/rules
-	rt staticlib bogtrumpet
-	cd $(OBJECTS)/node && $(AR) x ../../libbogtrumpet.a
-	rm $@
-	rt staticlib bogtrumpet_rules
-	cd $(OBJECTS)/rules && $(AR) x ../../libbogtrumpet_rules.a
-	rm target/staticlib/libbogtrumpet_rules.a
+	cd crates/bogtrumpet && rt lib
+	cd $(OBJECTS)/node && $(AR) x ../../../../crates/bogtrumpet/out/libbogtrumpet.a
+	cd crates/bogtrumpet_rules && rt lib
+	cd $(OBJECTS)/rules && $(AR) x ../../../../crates/bogtrumpet_rules/out/libbogtrumpet_rules.a
 	$(AR) rcsD $@ $(OBJECTS)/node/*.o $(OBJECTS)/rules/*.o
+
+# The programs: `rt run` proves one before it builds it and runs it.
+$(PROGRAMS:%=target/bin/%): target/bin/%: $(ALL_SOURCES)
+	mkdir -p target/bin
+	cd crates/$* && rt run < stdin > /dev/null
+	cp crates/$*/out/$* $@
+
+programs: $(PROGRAMS:%=target/bin/%)
 
 # the archive as one shared object, for bogtrumpet-tool
 $(SHARED): $(LIBRARY)
@@ -77,7 +85,7 @@ install: $(LIBRARY) $(SHARED) $(HOST) bogtrumpet.pc
 	sed 's|/usr/sbin/|$(PREFIX)/sbin/|' host/bogtrumpetd.service > $(DESTDIR)$(PREFIX)/lib/systemd/system/bogtrumpetd.service
 
 clean:
-	rm -rf target/staticlib target/host target/bogtrumpet.pc
+	rm -rf target/staticlib target/bin target/host target/bogtrumpet.pc
 
 .DELETE_ON_ERROR:
-.PHONY: all host host-checked install clean bogtrumpet.pc
+.PHONY: all programs host host-checked install clean bogtrumpet.pc
