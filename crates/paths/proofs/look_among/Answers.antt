@@ -1,0 +1,20 @@
+use mathlib.Core.Path.{ap, ◌∙◌}
+use Prim.Native.Nat.{ℕ, ◌+◌, min, max}
+use native.Mathlib.Numerals.{add-one}
+use lib.ListN.{length, get_or}
+use Rattle.paths.specs.Kept.{while_young, in_force}
+use Rattle.paths.specs.Look.{last_row}
+use Rattle.paths.proofs.Arrays.{scanned_all, read_in_use, looked-at}
+use Rattle.paths.proofs.look_among.Goals as goal
+
+pub returns : goal.returns
+returns c = let a = c.args in
+    let r : ℕ = c.row_in_lent-p.result in
+    let m : ℕ = c.least-rows.result in
+    let q : ℕ = c.least-row.result in
+    looked-at
+    (scanned_all a.neighbours.now a.sizes.now a.times.now a.count a.neighbour r m c.row_in_lent-p.ensures (c.least-rows.ensures ∙ ap (λ (k : ℕ). min k (length a.times.now)) c.least.ensures))
+    a.time a.link q c.most.result c.size_at-in_force.result
+    (c.size_at-in_force.ensures ∙ read_in_use (λ p. in_force a.link (while_young (get_or a.sizes.now p 0) (get_or a.times.now p 0) a.time)) r (min a.count m) a.link)
+    (c.least-row.ensures ∙ ap (λ (k : ℕ). min k last_row) (c.least-2.ensures ∙ ap (min r) c.least-used.ensures))
+    (rw (← add-one q) (c.most.ensures ∙ ap (λ (k : ℕ). max k (q + 1)) c.least-used.ensures))
