@@ -139,6 +139,6 @@ fn short_address(t: &[u8]) -> [u8; 16]
     ensures { result ≡ bytes_from 16 0 t.now }
 {
     let mut padded = [0; 16];
-    bytes::copy(t, &mut padded);
+    padded[..t.len()].copy_from_slice(t);
     full_address(&padded)
 }

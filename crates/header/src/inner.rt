@@ -48,7 +48,7 @@ fn short_header(p: &[u8]) -> Inner
     ensures { result ≡ inner_of p.now }
 {
     let mut padded = [0; INNER_HEADER];
-    bytes::copy(p, &mut padded);
+    padded[..p.len()].copy_from_slice(p);
     full_header(&padded)
 }
 

@@ -80,7 +80,7 @@ fn short_header(d: &[u8]) -> Outer
     ensures { result ≡ outer_of d.now }
 {
     let mut padded = [0; OUTER_HEADER];
-    bytes::copy(d, &mut padded);
+    padded[..d.len()].copy_from_slice(d);
     full_header(&padded)
 }
 
