@@ -49,6 +49,7 @@ inputs_first (suc full) result s h = refl
 
 inputs_next : (full result : ℕ) (s : List ℕ) (i : ℕ) → length s / chunk ≡ full → i < full
     → get_or (inputs_after full result s) (suc i) 0 ≡ folded (get_or (inputs_after full result s) i 0) + word_sum (take chunk (drop (chunk * suc i) s))
+inputs_next zero result s i h k = elim k [ ]
 inputs_next (suc full) result s zero h k =
     inputs_first full (folded (result + word_sum (take chunk s))) (drop chunk s) (omega (arith, length-drop chunk s))
 inputs_next (suc full) result s (suc i) h k =
