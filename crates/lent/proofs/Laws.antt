@@ -6,7 +6,7 @@ use native.Mathlib.Omega.{arith}
 use native.Mathlib.Nat.{zero-add}
 use borrow.Author.Tests.{lt-ltb, le-ltb}
 use lib.ListN.{length, take, drop, length-take, length-drop, length-append, drop_of_length-le}
-use lib.Seq.{take-append_seam, drop-append_seam, take-append-le, drop-append-le, drop-append-add, drop-drop, take_all, take-add, take-length, length-take-le}
+use lib.Seq.{take-append_seam, drop-append_seam, take-append-le, drop-append-le, drop-append-add, drop-drop, take_all, take-add, length-take-le}
 use Rattle.lent.specs.Written.{written, over, written_at}
 
 -- what fits is written
@@ -63,13 +63,6 @@ part-over at p d h =
     let t : take (length d - at) (drop at d) ≡ drop at d = take_all (length d - at) (drop at d) (omega (arith, length-drop at d)) in
     let e : drop (length d - at) (drop at d) ≡ [] = drop_of_length-le (drop at d) {i = length d - at} (omega (arith, length-drop at d)) in
     simp (t, e, append-nil, drop-drop)
-
--- what was written over b and is read from there is written over d
-pub by_way_of : (p b b₁ d : List ℕ) (n : ℕ) {d₁ : List ℕ} → n ≡ length p → b₁ ≡ take (length p) p ++ drop (length p) b
-    → d₁ ≡ take (length (take n b₁)) (take n b₁) ++ drop (length (take n b₁)) d → d₁ ≡ written p d
-by_way_of p b b₁ d n e f g =
-    let same : take n b₁ ≡ p = rw (f, e, take-length p) (take-append_seam p (drop (length p) b)) in
-    g ∙ rw (same, take-length p)
 
 -- a block of p, written right behind what p has before it
 pub written-block : (i e : ℕ) (p d : List ℕ) {d₁ d₂ : List ℕ} → i ≤ e → e ≤ length p → length p ≤ length d → d₁ ≡ written (take i p) d
