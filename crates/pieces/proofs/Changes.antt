@@ -19,7 +19,7 @@ use Rattle.pieces.specs.declared.Answer.{Answer}
 use Rattle.pieces.specs.declared.Answer.TheVariants.{Joined, Refused}
 use Rattle.pieces.specs.Places.{Part, places, room, end_of, is_whole, byte_at, no_place, begun, extended, freed}
 use Rattle.pieces.specs.Take.{Taken, place_at, with_place, settled, plan_of, taken_by, memory_by, taken_of, memory_of}
-use Rattle.pieces.proofs.Joining.{Step, State, Sized, answer, after, OnlyPlace, Changes, StepChanges}
+use Rattle.pieces.proofs.Joining.{Step, State, Sized, after, OnlyPlace, Changes, StepChanges}
 use Rattle.pieces.proofs.Kept.{writes}
 use Rattle.pieces.specs.Change.{Placed}
 use Rattle.pieces.proofs.Planned.{plan_placed}
