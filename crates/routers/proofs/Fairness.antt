@@ -52,7 +52,7 @@ module _ (q : ℕ → Bool) (a d : ℕ) (out : q d ≡ false) where
   no_more (r ∷ rs) = omega (arith, not_made r, no_more rs)
 
   -- a new due time takes one away from the count if a router of the address was of the kind
-  one_fewer : {rs : List Router} (e : Router) → e.address ≡ a → q e.due ≡ true → Memᴰ e rs → count q (rescheduled a d rs) < count q rs
+  one_fewer : (e : Router) {rs : List Router} → e.address ≡ a → q e.due ≡ true → Memᴰ e rs → count q (rescheduled a d rs) < count q rs
   unfolding count one due_if
   one_fewer e is was (Memᴰ.head {x} {xs} h) =
       let here : x.address ≡ a = rw h at is in
