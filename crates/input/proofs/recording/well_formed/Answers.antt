@@ -1,0 +1,19 @@
+-- `input::recording::well_formed` meets its contract: what is left to see is in the bytes that are left.
+use Prim.Native.Nat.{◌-◌}
+use mathlib.Core.Path.{◌≡◌, ◌∙◌}
+use native.Mathlib.Omega.{arith}
+use Rattle.input.specs.Recording.{is_recording}
+use Rattle.input.proofs.Laws.{there_turn}
+use Rattle.input.proofs.recording.well_formed.Goals as goal
+
+pub loop-i-init : goal.loop-i-init
+unfolding is_recording
+loop-i-init c = let e : c.count-n.result - 0 ≡ c.count-n.result = omega arith in
+    (omega arith, rw (e, c.count-n.ensures, c.first-rest.ensures))
+
+pub loop-i-preserved : goal.loop-i-preserved
+loop-i-preserved c = (omega arith, rw (c.there-good.ensures, c.next-after.ensures) (there_turn c.count-n.result c.loop-i.i c.loop-i.good c.loop-i.rest.now (omega arith) ∙ c.loop-i.invariant.1))
+
+pub returns : goal.returns
+returns c = let e : c.count-n.result - c.loop-i.i ≡ 0 = omega arith in
+    rw e at c.loop-i.invariant.1
