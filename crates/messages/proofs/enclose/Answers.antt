@@ -1,0 +1,29 @@
+-- `messages::enclose` meets its contract: the IPv6 header, the front of the message and the checksum are written one after another.
+use native.Mathlib.Omega.{arith}
+use Rattle.messages.proofs.EnclosedLaws.{fits, enclosed-not, enclosed_by}
+use mathlib.Core.Path.{◌∙◌, sym}
+use lib.ListN.{length}
+use Rattle.messages.proofs.enclose.Goals as goal
+
+pub returns-then-not-packet_fits : goal.returns-then-not-packet_fits
+returns-then-not-packet_fits c = let a = c.args in
+    sym (enclosed-not a.hop a.from a.to a.kind a.four a.n a.out.now (sym c.packet_fits.ensures ∙ c.if-not-packet_fits.true))
+
+pub overflow_sub-n : goal.overflow_sub-n
+overflow_sub-n c = let f = fits c.args.n (length c.args.out.now) c.packet_fits.ensures c.if-not-packet_fits.false in omega arith
+
+pub overflow_cast-n : goal.overflow_cast-n
+overflow_cast-n c = let f = fits c.args.n (length c.args.out.now) c.packet_fits.ensures c.if-not-packet_fits.false in omega arith
+
+pub write_ipv6_header-requires : goal.write_ipv6_header-requires
+write_ipv6_header-requires c = let f = fits c.args.n (length c.args.out.now) c.packet_fits.ensures c.if-not-packet_fits.false in omega arith
+
+pub seal-requires : goal.seal-requires
+seal-requires c = let f = fits c.args.n (length c.args.out.now) c.packet_fits.ensures c.if-not-packet_fits.false in (omega arith, omega arith, omega arith)
+
+pub returns : goal.returns
+returns c = let a = c.args in
+    let out = a.out.now in
+    let f = fits a.n (length out) c.packet_fits.ensures c.if-not-packet_fits.false in
+    enclosed_by a.hop a.from a.to a.kind a.four a.n out (omega arith) (omega arith) (omega arith) f
+    c.write_ipv6_header.ensures c.write_at.ensures c.seal.ensures
