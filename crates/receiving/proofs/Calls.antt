@@ -19,7 +19,6 @@ use Rattle.routers.specs.Routers.{listed}
 use Rattle.routers.specs.declared.Router.{Router}
 use Rattle.pieces.specs.Places.{Part, part_of}
 use Rattle.pieces.specs.Take.{taken_of, memory_of}
-use Rattle.pieces.specs.declared.Answer.TheVariants as taken
 use Rattle.pieces.specs.declared.Collection.{Collection}
 use Rattle.pieces.specs.declared.Key.{Key}
 use Rattle.pieces.specs.declared.Piece.{Piece}

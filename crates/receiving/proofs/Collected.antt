@@ -13,7 +13,6 @@ use Rattle.header.specs.Inner.{inner_of}
 use Rattle.settings.specs.declared.Settings.{Settings}
 use Rattle.routers.specs.declared.Router.{Router}
 use Rattle.pieces.specs.Take.{Taken, taken_of, memory_of}
-use Rattle.pieces.specs.declared.Answer.TheVariants as taken
 use Rattle.pieces.specs.declared.Collection.{Collection}
 use Rattle.receiving.specs.Collect.{Collected, whole_of, joined_by}
 use Rattle.receiving.specs.Facts.{header_length, encapsulated, inner_length, Unfragmented, inner_facts}

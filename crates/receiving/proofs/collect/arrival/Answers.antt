@@ -1,0 +1,14 @@
+-- `receiving::collect::arrival` meets its contract: by what is lent, and then by its stages.
+use borrow.Author.Tests.{lt-ltb, le-ltb}
+use Rattle.pieces.specs.Places.{memory_room}
+use Rattle.receiving.specs.Stages.{arrival_of}
+use Rattle.receiving.proofs.Stages.{arrival_stages}
+use Rattle.receiving.proofs.collect.arrival.Goals as goal
+
+pub returns-then-lent-lt-MEMORY : goal.returns-then-lent-lt-MEMORY
+unfolding arrival_of
+returns-then-lent-lt-MEMORY c = rw (lt-ltb _ memory_room c.if-lent-lt-MEMORY.true)
+
+pub returns : goal.returns
+returns c = let a = c.args in
+    rw (c.arrive.ensures, c.read_header-read.ensures, arrival_stages a.settings a.interface a.d.now a.lent (le-ltb a.lent memory_room c.if-lent-lt-MEMORY.false))

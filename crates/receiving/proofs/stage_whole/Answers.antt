@@ -1,0 +1,11 @@
+-- `receiving::stage_whole` meets its contract: by cases on what has arrived.
+use Rattle.receiving.specs.Stages.{delivered_of, judged_of}
+use Rattle.receiving.proofs.stage_whole.Goals as goal
+
+pub returns-in-Header : goal.returns-in-Header
+unfolding delivered_of
+returns-in-Header c s routers = rw (c.in-Header.is, c.read_whole.ensures)
+
+pub returns-in-Refused : goal.returns-in-Refused
+unfolding delivered_of judged_of
+returns-in-Refused c s routers = rw c.in-Refused.is
