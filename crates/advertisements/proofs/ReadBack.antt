@@ -1,8 +1,8 @@
 -- What a reader finds in an advertisement that we write: whole options, bytes, and the lifetimes that the operator set. Assumes nothing.
-use Prim.Native.Nat.{ℕ, suc}
+use Prim.Native.Nat.{ℕ, zero, suc}
 use mathlib.Core.Logic.{⊎_elim}
 use mathlib.Core.List.Memᴰ
-use mathlib.Core.List.{List, ◌∷◌, ◌++◌, map, flatten, Memᴰ}
+use mathlib.Core.List.{List, [], ◌∷◌, ◌++◌, map, flatten, Memᴰ}
 use native.Mathlib.Omega.{arith}
 use lib.ListN.{take}
 use Rattle.lists.specs.Any.{Some}
@@ -22,6 +22,8 @@ use Rattle.advertisements.proofs.OptionLaws.{flags-byte, bytes-prefix_option, pr
 
 -- what is among the first of a list is in it
 pub among_first : {A : Type 0} (n : ℕ) (xs : List A) {x : A} → Memᴰ x (take n xs) → Memᴰ x xs
+among_first zero xs m = elim m [ ]
+among_first (suc n) [] m = elim m [ ]
 among_first (suc n) (y ∷ xs) (Memᴰ.head e) = Memᴰ.head e
 among_first (suc n) (y ∷ xs) (Memᴰ.tail m) = Memᴰ.tail (among_first n xs m)
 
