@@ -1,0 +1,15 @@
+-- `put_taken` meets its contract: by cases on what setup answers.
+use Rattle.program.specs.Program.{taken_text}
+use Rattle.program.proofs.put_taken.Goals as goal
+
+pub put_text-requires : goal.put_text-requires
+unfolding taken_text
+put_text-requires c = rw (← c.settings.ensures, ← c.new-setup.ensures, ← c.behind_settings.ensures, c.in-Made.is) at c.requires
+
+pub returns-in-Made : goal.returns-in-Made
+unfolding taken_text
+returns-in-Made c = rw (← c.settings.ensures, ← c.new-setup.ensures, ← c.behind_settings.ensures, c.in-Made.is) c.put_text.ensures
+
+pub returns-in-Refused : goal.returns-in-Refused
+unfolding taken_text
+returns-in-Refused c = rw (← c.settings.ensures, ← c.new-setup.ensures, c.in-Refused.is) c.put_bad_input.ensures
