@@ -29,7 +29,6 @@ use Rattle.settings.specs.Facts.{LocatorAt}
 use Rattle.settings.proofs.Facts.{locator-found, locator-there, decides_no_locator}
 use Rattle.settings.specs.declared.Settings.{Settings}
 use Rattle.settings.specs.declared.locators.Found.{Found}
-use Rattle.settings.specs.declared.locators.Found.TheVariants as found
 use Rattle.hearing.specs.Facts.{fields_of}
 use Rattle.hearing.proofs.SolicitationLaws.{decides_solicitation}
 use Rattle.advertisements.specs.Advertisement.{are_options_bad, advertisement_of, advertisement_length, advertisement_check, advertisement_answer, advertisement_output}
