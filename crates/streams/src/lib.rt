@@ -4,7 +4,9 @@
 pub mod waiting;
 
 ghost use Rattle.std.specs.Prelude.{◌≡◌, length};
-ghost use Rattle.io.specs.Counts.{IsPrefixLen};
+ghost use Rattle.streams.specs.Counts.{IsPrefixLen};
+
+use std::io::Read;
 
 // How many bytes were read, and whether a read failed behind them.
 #[derive(Clone, Copy)]
@@ -14,24 +16,29 @@ pub struct Reading {
 }
 
 // One read. No bytes and no failure are the end of the input.
-pub fn read_some(fd: i32, buf: &mut [u8]) -> Reading
+pub fn read_some<R: Read>(from: &mut R, buf: &mut [u8]) -> Reading
     ensures prefix_len { IsPrefixLen result.count buf.new }
     ensures buf_len_unchanged { length buf.new ≡ length buf.old }
 {
-    let got = libc::read(fd, buf);
-    Reading {
-        count: io::count(got, buf),
-        failed: got < 0,
+    match from.read(buf) {
+        Ok(count) => Reading {
+            count,
+            failed: false,
+        },
+        Err(_) => Reading {
+            count: 0,
+            failed: true,
+        },
     }
 }
 
 // Reads until the buffer is full, the input ends or a read fails.
-pub fn read_all(fd: i32, buf: &mut [u8]) -> Reading
+pub fn read_all<R: Read>(from: &mut R, buf: &mut [u8]) -> Reading
     ensures { IsPrefixLen result.count buf.new }
 {
     let mut done: usize = 0;
     while done < buf.len() {
-        let more = read_some(fd, &mut buf[done..]);
+        let more = read_some(from, &mut buf[done..]);
         if more.count == 0 {
             return Reading {
                 count: done,

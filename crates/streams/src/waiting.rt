@@ -10,7 +10,13 @@ pub struct Ready {
 }
 
 // With room for so many bytes behind an index: where there is none, the lines that wait are written.
-pub fn with_room(program: &[u8], longest: usize, end: usize, text: &[u8]) -> Ready
+pub fn with_room(
+    rt: &(impl Print + Eprint),
+    program: &str,
+    longest: usize,
+    end: usize,
+    text: &[u8],
+) -> Ready
     ensures { result.end ≤ end }
 {
     if end <= text.len() {
@@ -20,24 +26,23 @@ pub fn with_room(program: &[u8], longest: usize, end: usize, text: &[u8]) -> Rea
     }
     Ready {
         end: 0,
-        failed: !written(program, end, text),
+        failed: !written(rt, program, end, text),
     }
 }
 
 // Writes the lines that wait, up to an index.
-pub fn written(program: &[u8], end: usize, text: &[u8]) -> bool {
+pub fn written(rt: &(impl Print + Eprint), program: &str, end: usize, text: &[u8]) -> bool {
     if end < text.len() {
-        return write(program, &text[..end]);
+        return write(rt, program, &text[..end]);
     }
-    write(program, text)
+    write(rt, program, text)
 }
 
 // Writes to standard output.
-pub fn write(program: &[u8], bytes: &[u8]) -> bool {
-    let done = io::write_all(1, bytes);
+pub fn write(rt: &(impl Print + Eprint), program: &str, bytes: &[u8]) -> bool {
+    let done = rt.write_all(bytes).is_ok();
     if !done {
-        io::write_all(2, program);
-        io::write_all(2, b": standard output could not be written\n");
+        let _ = eprintln!(rt; "{program}: standard output could not be written");
     }
     done
 }

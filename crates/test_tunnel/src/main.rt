@@ -3,75 +3,74 @@
 // Writes the output for what stands in the file.
 #![tactic(auto)]
 
-fn answer(file: i32) {
+use std::fs::File;
+use std::io;
+
+fn answer(rt: &HostRuntime, mut file: File) -> io::Result<()> {
     let mut bytes = program::input_room();
-    let n = io::read_full(file, &mut bytes);
+    let n = streams::read_all(&mut file, &mut bytes).count;
     let mut text = program::output_room();
     let k = program::output(&bytes[..n], &mut text);
-    io::write_all(1, &text[..k]);
+    rt.write_all(&text[..k])
 }
 
-fn run(name: &[u8]) {
-    io::write_all(1, name);
-    io::write_all(1, b"\n");
-    let file = os::open_read(name);
-    if file < 0 {
-        io::write_all(1, b"no such file\n");
-        return;
+fn run(rt: &HostRuntime, name: &str) -> io::Result<()> {
+    println!(rt; "{name}")?;
+    match File::open(rt, name) {
+        Ok(file) => answer(rt, file),
+        Err(_) => println!(rt; "no such file"),
     }
-    answer(file);
-    libc::close(file);
 }
 
 // What receiving answers.
-fn received() {
-    run(b"empty");
-    run(b"no_datagram");
-    run(b"refused");
-    run(b"edges");
-    run(b"delivered");
-    run(b"pieces");
-    run(b"pieces_refused");
-    run(b"pieces_of_ten_keys");
-    run(b"most_settings");
+fn received(rt: &HostRuntime) -> io::Result<()> {
+    run(rt, "empty")?;
+    run(rt, "no_datagram")?;
+    run(rt, "refused")?;
+    run(rt, "edges")?;
+    run(rt, "delivered")?;
+    run(rt, "pieces")?;
+    run(rt, "pieces_refused")?;
+    run(rt, "pieces_of_ten_keys")?;
+    run(rt, "most_settings")
 }
 
 // Cut off in each section.
-fn cut() {
-    run(b"cut_count");
-    run(b"cut_locators");
-    run(b"cut_prefixes");
-    run(b"cut_routers");
-    run(b"cut_datagram_count");
-    run(b"cut_datagram_length");
-    run(b"cut_datagram");
-    run(b"fewer_datagrams");
+fn cut(rt: &HostRuntime) -> io::Result<()> {
+    run(rt, "cut_count")?;
+    run(rt, "cut_locators")?;
+    run(rt, "cut_prefixes")?;
+    run(rt, "cut_routers")?;
+    run(rt, "cut_datagram_count")?;
+    run(rt, "cut_datagram_length")?;
+    run(rt, "cut_datagram")?;
+    run(rt, "fewer_datagrams")
 }
 
 // Too long, and just not.
-fn long() {
-    run(b"trailing_byte");
-    run(b"of_65536_bytes");
-    run(b"of_65537_bytes");
+fn long(rt: &HostRuntime) -> io::Result<()> {
+    run(rt, "trailing_byte")?;
+    run(rt, "of_65536_bytes")?;
+    run(rt, "of_65537_bytes")
 }
 
 // Refused settings, and some that look like them.
-fn settings() {
-    run(b"no_locator");
-    run(b"nine_locators");
-    run(b"locator_twice");
-    run(b"address_on_two_interfaces");
-    run(b"forbidden_locator");
-    run(b"nine_prefixes");
-    run(b"seventeen_routers");
-    run(b"router_twice");
-    run(b"forbidden_router");
-    run(b"router_of_our_own");
+fn settings(rt: &HostRuntime) -> io::Result<()> {
+    run(rt, "no_locator")?;
+    run(rt, "nine_locators")?;
+    run(rt, "locator_twice")?;
+    run(rt, "address_on_two_interfaces")?;
+    run(rt, "forbidden_locator")?;
+    run(rt, "nine_prefixes")?;
+    run(rt, "seventeen_routers")?;
+    run(rt, "router_twice")?;
+    run(rt, "forbidden_router")?;
+    run(rt, "router_of_our_own")
 }
 
-fn main() {
-    received();
-    cut();
-    long();
-    settings();
+fn main(rt: HostRuntime) -> io::Result<()> {
+    received(&rt)?;
+    cut(&rt)?;
+    long(&rt)?;
+    settings(&rt)
 }

@@ -2,17 +2,17 @@
 // a write fails it says so on standard error; input that was not read to its end gets no answer.
 #![tactic(auto)]
 
-fn main() {
+fn main(rt: HostRuntime) {
     let mut bytes = program::input_room();
-    let read = streams::read_all(0, &mut bytes);
+    let read = streams::read_all(&mut rt.stdin(), &mut bytes);
     if read.failed {
-        io::write_all(2, b"tunnel: standard input could not be read\n");
+        let _ = eprintln!(rt; "tunnel: standard input could not be read");
         return;
     }
     let n = read.count;
     let mut text = program::output_room();
     let k = program::output(&bytes[..n], &mut text);
-    if !io::write_all(1, &text[..k]) {
-        io::write_all(2, b"tunnel: standard output could not be written\n");
+    if rt.write_all(&text[..k]).is_err() {
+        let _ = eprintln!(rt; "tunnel: standard output could not be written");
     }
 }
