@@ -1,5 +1,4 @@
 -- `checksum::words::run` meets its contract: of at most 256 words the high bytes have a sum below 65,536, so the modulus loses nothing of it.
---
 use Rattle.std.proofs.Common.{◌+◌, ◌*◌, ◌/◌, ◌%◌, arith}
 use Rattle.checksum.specs.Words.{high_sum}
 use Rattle.checksum.proofs.Blocks.{block_none, block_more, block-all, high_sum_step, high_sum-none}

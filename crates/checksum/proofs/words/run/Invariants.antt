@@ -1,5 +1,4 @@
 -- `checksum::words::run` meets its contract: of at most 256 words the high bytes have a sum below 65,536, so the modulus loses nothing of it.
---
 use Rattle.std.proofs.Common.{◌+◌, ◌*◌, ◌^◌, ◌<◌, ◌≤◌}
 use Rattle.checksum.specs.Words.{BlockSum, high_sum}
 use Rattle.checksum.proofs.words.run.Given as goal
