@@ -1,10 +1,7 @@
--- `node::Node::receive` meets its contract: what is gathered is judged, and the one place that it changes is stored; or 11. Assumes nothing.
+-- `node::Node::receive` meets its contract: what is gathered is judged, and the one place that it changes is stored; or 11.
 use Prim.Native.Nat.{ℕ, max}
-use borrow.Author.Rules.{rules}
-use native.Mathlib.Omega.{arith}
 use mathlib.Core.Bool.{Bool, true, false}
 use mathlib.Core.List.{List}
-use mathlib.Core.Logic.{⊎_elim}
 use mathlib.Core.Path.{◌≡◌}
 use Rattle.pieces.specs.Take.{with_place}
 use Rattle.receiving.specs.Collect.{Collected, collected_of, collected_memory}
@@ -20,8 +17,8 @@ use Rattle.node.specs.declared.Node.{Node}
 use Rattle.node.specs.declared.Service.{Service}
 use Rattle.node.specs.declared.ServiceName.{ServiceName}
 use Rattle.node.specs.declared.receive.Receipt.{Receipt}
-use Rattle.node.proofs.Node.receive.Statement.{statement}
-use Rattle.node.proofs.Node.receive.Tie as tie
+use Rattle.node.proofs.Node.receive.Goals as goal
+use Rattle.node.proofs.Node.receive.Goals.{then-gathered, else-gathered}
 
 -- the service where a place is stored, and where none is
 stored : (s s' : Service) (g : Gathered) → g.piece ≡ true → s' ≡ with_pieces s (with_place g.at g.place s.pieces) → s' ≡ with_pieces s (collected_after g s.pieces)
@@ -50,39 +47,27 @@ module _ (n : Node) (name : ServiceName) (d : List ℕ) (interface time : ℕ) (
   unfolding receive_memory collected_through
   absent-memory none = rw (← is, none)
 
-returns : tie.Need-returns
-returns c =
-    let j = c.before in
-    let g = j.before.before.before.before in
-    let t = g.before.before.before.before.before in
-    let s = t.before.before.service in
-    let l = t.before.before.before in
-    let a = l.before.before.before.args in
-    let service =
-    ⊎_elim
-    (λ t. stored s.result j.if2.service g.gather.result t.0.taken t.2)
-    (λ e. left s.result j.if2.service g.gather.result e.0.left e.1)
-    j.if2.branch in
-    let told = rw l.later.ensures at (g.gather.ensures.0.0 (live s.result.routers)) in
-    let has = t.before.has in (
-      rw c.put_back.ensures.0
-          (present a.self a.name a.d.now a.interface a.time a.memory.now has.result s.result has.ensures s.ensures t.if1.true j.before.judge.result j.if2.service service j.before.judge.ensures told),
-      rw (g.gather.ensures.1, l.later.ensures)
-          (present-memory a.self a.name a.d.now a.interface a.time a.memory.now has.result s.result has.ensures s.ensures t.if1.true),
-    )
+pub returns-then-has : goal.returns-then-has
+returns-then-has c = let s = c.service-service in
+    let a = c.args in
+    let service : c.if-gathered.service ≡ with_pieces s.result (collected_after c.gather-gathered.result s.result.pieces) =
+    elim c.if-gathered.branch [
+      | then-gathered w ↦ stored s.result c.if-gathered.service c.gather-gathered.result w.if-gathered.true w.service-is
+      | else-gathered w ↦ left s.result c.if-gathered.service c.gather-gathered.result w.if-gathered.false w.service-is
+    ] in
+    let told = rw c.later-now.ensures at (c.gather-gathered.ensures.at_lt_places.0 (live s.result.routers)) in
+    let has = c.has in record {
+      value = rw c.put_back-node.ensures.value
+          (present a.self a.name a.d.now a.interface a.time a.memory.now has.result s.result has.ensures s.ensures c.if-has.true c.judge-answer.result c.if-gathered.service service c.judge-answer.ensures told);
+      memory_after = rw (c.gather-gathered.ensures.memory_after, c.later-now.ensures)
+          (present-memory a.self a.name a.d.now a.interface a.time a.memory.now has.result s.result has.ensures s.ensures c.if-has.true);
+    }
 
-returns-2 : tie.Need-returns-2
-returns-2 c =
-    let t = c.before in
-    let s = t.before.before.service in
-    let a = t.before.before.before.before.before.before.args in
-    let has = t.before.has in (
-      rw c.put-back2.ensures.0
-          (absent a.self a.name a.d.now a.interface a.time a.memory.now has.result s.result has.ensures s.ensures t.if1.false),
-      absent-memory a.self a.name a.d.now a.interface a.time a.memory.now has.result s.result has.ensures s.ensures t.if1.false,
-    )
-
-pub receive-spec : {M : Type 1} → statement M
-receive-spec =
-    tie.close
-    (tie.spec (omega arith) (omega arith) (omega arith) (omega arith) (omega arith) (search rules) (search rules) (search rules) (search rules) returns (omega arith) returns-2)
+pub returns : goal.returns
+returns c = let s = c.service-service in
+    let a = c.args in
+    let has = c.has in record {
+      value = rw c.put_back-node-2.ensures.value
+          (absent a.self a.name a.d.now a.interface a.time a.memory.now has.result s.result has.ensures s.ensures c.if-has.false);
+      memory_after = absent-memory a.self a.name a.d.now a.interface a.time a.memory.now has.result s.result has.ensures s.ensures c.if-has.false;
+    }

@@ -1,0 +1,8 @@
+-- `node::Node::has` meets its contract: by cases on the name.
+use Rattle.node.proofs.Node.has.Goals as goal
+
+pub returns-in-First : goal.returns-in-First
+returns-in-First c = rw c.in-First.is
+
+pub returns-in-Second : goal.returns-in-Second
+returns-in-Second c = rw c.in-Second.is
