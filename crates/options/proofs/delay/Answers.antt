@@ -1,5 +1,4 @@
 -- `options::delay`: by cases of the smallest lifetime.
---
 use Rattle.options.specs.Lifetimes.{delay_of}
 use Rattle.options.proofs.delay.Goals as goal
 

@@ -1,5 +1,4 @@
 -- `options::option_lifetime`: by what `has_lifetime` answers.
---
 use mathlib.Core.Path.{sym}
 use Rattle.options.specs.Lifetimes.{lifetime_of}
 use Rattle.options.proofs.option_lifetime.Goals as goal

@@ -1,5 +1,4 @@
 -- `options::option_size`: by its tests.
---
 use borrow.Author.Tests.{le-leb, lt-leb}
 use native.Mathlib.Omega.{arith}
 use Prim.Native.Nat.{◌*◌}

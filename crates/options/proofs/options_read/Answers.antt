@@ -1,5 +1,4 @@
 -- `options::options_read`: the router's lifetime goes first into the smallest so far.
---
 use mathlib.Core.Path.{◌∙◌}
 use mathlib.Core.List.{map}
 use Rattle.options.specs.declared.Smallest.TheVariants.{NoneCounts}

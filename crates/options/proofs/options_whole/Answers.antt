@@ -1,5 +1,4 @@
 -- `options::options_whole`: what reading all of them finds.
---
 use mathlib.Core.Path.{ap}
 use Rattle.options.specs.declared.Options.{Options}
 use Rattle.options.proofs.options_whole.Goals as goal

@@ -1,6 +1,5 @@
 -- `options::read`: all options say what those from `at` on say, with what is found up to there. A turn's walk takes some of the
 -- bytes, since there is an option.
---
 use Prim.Native.Nat.{◌-◌, ◌≤◌}
 use mathlib.Core.Path.{◌≡◌}
 use lib.ListN.{length, drop}

@@ -1,5 +1,4 @@
 -- `options::shorter`: by what `counts` answers and the smallest so far.
---
 use mathlib.Core.Path.{sym, ◌∙◌}
 use Rattle.options.proofs.Steps.{shorter-kept, shorter-first, shorter-more}
 use Rattle.options.proofs.shorter.Goals as goal

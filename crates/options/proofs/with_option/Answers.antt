@@ -1,5 +1,4 @@
 -- `options::with_option`: what its calls answer.
---
 use Rattle.options.specs.SoFar.{found_with}
 use Rattle.options.proofs.with_option.Goals as goal
 

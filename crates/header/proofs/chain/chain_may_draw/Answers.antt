@@ -1,6 +1,5 @@
 -- `header::chain::chain_may_draw`: the chain draws what its rest from `at` on draws. A turn's walk takes some of the bytes, since there is a
 -- header to pass.
---
 use native.Mathlib.Omega.{arith}
 use Prim.Native.Nat.{ℕ, suc, ◌-◌, ◌≤◌, ◌<◌}
 use mathlib.Core.List.{List}

@@ -1,6 +1,5 @@
 -- `header::chain::chain_may_draw`: the chain draws what its rest from `at` on draws. A turn's walk takes some of the bytes, since there is a
 -- header to pass.
---
 use Prim.Native.Nat.{◌-◌, ◌≤◌}
 use mathlib.Core.Path.{◌≡◌}
 use lib.ListN.{length, drop}

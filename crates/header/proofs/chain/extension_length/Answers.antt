@@ -1,5 +1,4 @@
 -- `header::chain::extension_length`: by its test.
---
 use borrow.Author.Tests.{eq-eqb, ne_eqb}
 use native.Mathlib.Omega.{arith}
 use Rattle.header.specs.Chain.{fragment}

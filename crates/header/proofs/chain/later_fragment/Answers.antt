@@ -1,5 +1,4 @@
 -- `header::chain::later_fragment`: its tests are those of the definition.
---
 use Rattle.header.specs.Fields.{word_at}
 use Rattle.header.proofs.chain.later_fragment.Goals as goal
 

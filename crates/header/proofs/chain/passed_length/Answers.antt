@@ -1,5 +1,4 @@
 -- `header::chain::passed_length`: its tests are those of the definition, and fewer than 8 bytes are no header.
---
 use mathlib.Core.Path.{sym}
 use Rattle.header.specs.Walks.{passed_length}
 use Rattle.header.proofs.ChainLaws.{passed-short}

@@ -1,5 +1,4 @@
 -- `header::chain::quiet`: what its calls answer.
---
 use Rattle.header.proofs.chain.quiet.Goals as goal
 
 pub returns : goal.returns
