@@ -1,35 +1,34 @@
 // How an answer is written.
-use header::fields;
+use std::io;
 
 // A number that stands for no answer.
 pub(crate) const NONE: u64 = 18446744073709551615;
 
 // A number in so many hexadecimal digits, or with 0 in decimal.
-pub(crate) fn number(form: u8, n: u64) {
-    io::write_all(1, b" ");
+pub(crate) fn number(rt: &impl Print, form: u8, n: u64) -> io::Result<()> {
     if n == NONE {
-        io::write_all(1, b"none");
+        print!(rt; " none")
     } else if form == 0 {
-        io::print_decimal(1, n);
+        print!(rt; " {n}")
     } else {
-        io::print_hex(1, n, form as usize);
+        let width = form.min(16) as usize;
+        print!(rt; " {n:0width$x}")
     }
 }
 
-pub(crate) fn truth(yes: bool) {
+pub(crate) fn truth(rt: &impl Print, yes: bool) -> io::Result<()> {
     if yes {
-        io::write_all(1, b" yes");
+        print!(rt; " yes")
     } else {
-        io::write_all(1, b" no");
+        print!(rt; " no")
     }
 }
 
 // Two digits a byte.
-pub(crate) fn bytes(s: &[u8]) {
-    io::write_all(1, b" ");
-    let mut i = 0;
-    while i < s.len() {
-        io::print_hex(1, fields::byte(s, i) as u64, 2);
-        i += 1;
+pub(crate) fn bytes(rt: &impl Print, s: &[u8]) -> io::Result<()> {
+    print!(rt; " ")?;
+    for byte in s {
+        print!(rt; "{byte:02x}")?;
     }
+    Ok(())
 }

@@ -16,6 +16,7 @@ ghost use Rattle.std.specs.Prelude.{◌≡◌, length};
 use header::fields;
 use input::section;
 use routers::RouterList;
+use std::io;
 
 // The bytes of a case before its name.
 const HEAD: usize = 5;
@@ -29,35 +30,36 @@ fn space() -> [u8; LIMIT]
     [0; LIMIT]
 }
 
-fn main() {
+fn main(rt: HostRuntime) -> io::Result<()> {
     let mut space = space();
-    let n = io::read_full(0, &mut space);
-    run(&space[..n]);
+    let n = streams::read_all(&mut rt.stdin(), &mut space).count;
+    run(&rt, &space[..n])
 }
 
 // One case after another, on the router list that the last one left.
-fn run(cases: &[u8]) {
+fn run(rt: &impl Print, cases: &[u8]) -> io::Result<()> {
     let mut rest = cases;
     let mut list = RouterList::new([0; 16], 0);
     while 0 < rest.len() {
         let kind = fields::byte(rest, 0);
-        let d = named(rest);
+        let d = named(rt, rest)?;
         if kind < 50 {
-            rules::answer(kind, d);
+            rules::answer(rt, kind, d)?;
         } else {
-            let next = tables::routers(list, kind, d);
+            let next = tables::routers(rt, list, kind, d)?;
             list = next;
         }
-        io::write_all(1, b"\n");
+        println!(rt; "")?;
         let after = fields::tail(rest, 1 + fields::word(rest, 3) as usize);
         rest = after;
     }
+    Ok(())
 }
 
 // Begins the line of the first case with its name, and hands over what stands behind that.
-fn named(c: &[u8]) -> &[u8] {
+fn named<'a>(rt: &impl Print, c: &'a [u8]) -> io::Result<&'a [u8]> {
     let name = fields::word(c, 1) as usize;
-    io::write_all(1, section::front(fields::tail(c, HEAD), name));
+    rt.write_all(section::front(fields::tail(c, HEAD), name))?;
     let whole = section::front(c, 1 + fields::word(c, 3) as usize);
-    fields::tail(whole, HEAD + name)
+    Ok(fields::tail(whole, HEAD + name))
 }

@@ -7,18 +7,19 @@ use hearing::solicitation;
 use input::section;
 use options::Smallest;
 use paths::Candidate;
+use std::io;
 
-pub(crate) fn answer(kind: u8, c: &[u8]) {
+pub(crate) fn answer(rt: &impl Print, kind: u8, c: &[u8]) -> io::Result<()> {
     let n = fields::word(c, 1);
     let m = fields::word(c, 3);
     let x = fields::quad(c, 5);
     let d = fields::tail(c, 13);
     if kind < 20 {
-        answers::truth(test(kind, n, x, d));
+        answers::truth(rt, test(kind, n, x, d))
     } else if kind < 40 {
-        answers::number(fields::byte(c, 0), number(kind, n, m, x, d));
+        answers::number(rt, fields::byte(c, 0), number(kind, n, m, x, d))
     } else {
-        writers::answer(kind, c);
+        writers::answer(rt, kind, c)
     }
 }
 

@@ -6,12 +6,13 @@ use crate::{answers, operator};
 use header::wrap::{OuterFields, Written};
 use header::{fields, inner, outer, wrap};
 use input::section;
+use std::io;
 
-pub(crate) fn answer(kind: u8, c: &[u8]) {
+pub(crate) fn answer(rt: &impl Print, kind: u8, c: &[u8]) -> io::Result<()> {
     match kind {
-        40 => answers::bytes(&address::link_local(fields::quad(c, 5))),
-        41 => answers::bytes(received(fields::tail(c, 13))),
-        _ => written(kind, c),
+        40 => answers::bytes(rt, &address::link_local(fields::quad(c, 5))),
+        41 => answers::bytes(rt, received(fields::tail(c, 13))),
+        _ => written(rt, kind, c),
     }
 }
 
@@ -28,19 +29,19 @@ fn blank() -> [u8; 65536]
 }
 
 // A writer lent an output of n bytes.
-fn written(kind: u8, c: &[u8]) {
+fn written(rt: &impl Print, kind: u8, c: &[u8]) -> io::Result<()> {
     let mut space = blank();
     let room = fields::word(c, 1) as usize;
-    written_into(kind, c, &mut space[..room]);
+    written_into(rt, kind, c, &mut space[..room])
 }
 
 // The number given, the length written, and of the output y bytes from the index x on.
-fn written_into(kind: u8, c: &[u8], out: &mut [u8]) {
+fn written_into(rt: &impl Print, kind: u8, c: &[u8], out: &mut [u8]) -> io::Result<()> {
     let answer = write(kind, c, out);
-    answers::number(0, answer.number() as u64);
-    answers::number(0, length(answer));
+    answers::number(rt, 0, answer.number() as u64)?;
+    answers::number(rt, 0, length(answer))?;
     let from = fields::tail(out, fields::quad(c, 5) as usize);
-    answers::bytes(section::front(from, fields::quad(c, 9) as usize));
+    answers::bytes(rt, section::front(from, fields::quad(c, 9) as usize))
 }
 
 fn length(answer: Written) -> u64 {
@@ -69,7 +70,7 @@ fn advertisement(d: &[u8], out: &mut [u8]) -> Written {
 
 // A packet of m zeros wrapped.
 fn wrap_zeros(m: u16, d: &[u8], out: &mut [u8]) -> Written {
-    let zeros = io::large_buffer();
+    let zeros = [0u8; 65536];
     wrap::wrap(outer_fields(d), section::front(&zeros, m as usize), out)
 }
 
