@@ -16,16 +16,16 @@ const LONGEST: usize = 64;
 const RUN: usize = 6;
 
 // Writes the lines of an answer, which left the output so.
-pub(crate) fn write(answer: Compared, out: &[u8]) {
+pub(crate) fn write(rt: &HostRuntime, answer: Compared, out: &[u8]) {
     let mut text = [0; ROOM];
     match answer {
         Compared::Report { length, more } => {
             let end = put_compared(length, more, out, &mut text);
-            write_runs(section::front(out, length), end, &mut text);
+            write_runs(rt, section::front(out, length), end, &mut text);
         }
         Compared::Refused(refusal) => {
             let end = put_refused(refusal, out, &mut text);
-            waiting::written(b"recordings", end, &text);
+            waiting::written(rt, "recordings", end, &text);
         }
     }
 }
@@ -63,11 +63,11 @@ fn put_digest(out: &[u8], text: &mut [u8], at: usize) -> usize {
 }
 
 // Writes a line for each run of a report, behind those that wait.
-fn write_runs(report: &[u8], end: usize, text: &mut [u8]) {
+fn write_runs(rt: &HostRuntime, report: &[u8], end: usize, text: &mut [u8]) {
     let mut rest = report;
     let mut at = end;
     while RUN <= rest.len() {
-        let ready = waiting::with_room(b"recordings", LONGEST, at, text);
+        let ready = waiting::with_room(rt, "recordings", LONGEST, at, text);
         if ready.failed {
             return;
         }
@@ -75,7 +75,7 @@ fn write_runs(report: &[u8], end: usize, text: &mut [u8]) {
         let next = fields::tail(rest, RUN);
         rest = next;
     }
-    waiting::written(b"recordings", at, text);
+    waiting::written(rt, "recordings", at, text);
 }
 
 // Puts a line for the first run of a report.

@@ -9,38 +9,38 @@ use given::{Input, Space};
 use input::section;
 use streams::waiting;
 
-fn main() {
+fn main(rt: HostRuntime) {
     let mut bytes = [0; given::LIMIT + 1];
     let mut space = [given::BLANK; given::LIMIT];
-    run(&mut bytes, &mut space);
+    run(&rt, &mut bytes, &mut space);
 }
 
 // Here the two are so many bytes, whatever they hold: to a proof about main they are a list of them all.
-fn run(bytes: &mut Input, space: &mut Space) {
-    let read = streams::read_all(0, bytes);
+fn run(rt: &HostRuntime, bytes: &mut Input, space: &mut Space) {
+    let read = streams::read_all(&mut rt.stdin(), bytes);
     if read.failed {
-        io::write_all(2, b"recordings: standard input could not be read\n");
+        let _ = eprintln!(rt; "recordings: standard input could not be read");
         return;
     }
-    answer(section::front(bytes, read.count), space);
+    answer(rt, section::front(bytes, read.count), space);
 }
 
 // Compares the recordings of an input, with as much of the space for an output as it says.
-fn answer(input: &[u8], space: &mut [u8]) {
+fn answer(rt: &HostRuntime, input: &[u8], space: &mut [u8]) {
     if !given::good(input) {
-        waiting::write(b"recordings", b"bad input\n");
+        waiting::write(rt, "recordings", b"bad input\n");
         return;
     }
     let room = lists::least(given::room(input), space.len());
-    compare(input, &mut space[..room]);
+    compare(rt, input, &mut space[..room]);
 }
 
-fn compare(input: &[u8], out: &mut [u8]) {
+fn compare(rt: &HostRuntime, input: &[u8], out: &mut [u8]) {
     let answer = comparing::compare(
         given::masked(input),
         given::first(input),
         given::second(input),
         out,
     );
-    lines::write(answer, out);
+    lines::write(rt, answer, out);
 }

@@ -77,7 +77,7 @@ pub(crate) struct Answering {
 }
 
 // The places of the call at an index.
-fn places_of(start: Held, at: usize, spool: Spool, window: &mut Window) -> Places
+fn places_of(start: Held, at: usize, spool: &Spool, window: &mut Window) -> Places
     ensures { result.packet ≤ 4194304 }
 {
     let prefixes = spool::inside(at) + PREFIXES;
@@ -95,7 +95,7 @@ fn places_of(start: Held, at: usize, spool: Spool, window: &mut Window) -> Place
 }
 
 // The bytes of the call at an index.
-pub(crate) fn size_at(start: Held, at: usize, spool: Spool, window: &mut Window) -> Sized {
+pub(crate) fn size_at(start: Held, at: usize, spool: &Spool, window: &mut Window) -> Sized {
     let places = places_of(start, at, spool, window);
     let packet = places.packet;
     let found = places.held;
@@ -112,7 +112,13 @@ pub(crate) fn size_at(start: Held, at: usize, spool: Spool, window: &mut Window)
 }
 
 // Reads the preferences of the routes of the list at an index, behind which the packet's length stands.
-fn preferences(start: Held, routes: usize, packet: usize, spool: Spool, window: &mut Window) -> Seen
+fn preferences(
+    start: Held,
+    routes: usize,
+    packet: usize,
+    spool: &Spool,
+    window: &mut Window,
+) -> Seen
     requires { packet ≤ 4194304 }
 {
     let mut held = start;
@@ -128,7 +134,7 @@ fn preferences(start: Held, routes: usize, packet: usize, spool: Spool, window: 
 }
 
 // The call at an index, whose numbers are held, and all of which is there.
-pub(crate) fn read(start: Held, at: usize, spool: Spool, window: &mut Window) -> Answering {
+pub(crate) fn read(start: Held, at: usize, spool: &Spool, window: &mut Window) -> Answering {
     let numbers = numbers_of(start.bytes(at, window));
     let places = places_of(start, at, spool, window);
     let lists = lists_at(places, spool, window);
@@ -159,7 +165,7 @@ fn numbers_of(head: &[u8]) -> Numbers {
 }
 
 // The lists at their places.
-fn lists_at(places: Places, spool: Spool, window: &mut Window) -> Lists {
+fn lists_at(places: Places, spool: &Spool, window: &mut Window) -> Lists {
     let start = places.held;
     let first = start.reaching(places.prefixes, LIST, spool, window);
     let prefix_count = fields::word(first.bytes(places.prefixes, window), 0) as usize;

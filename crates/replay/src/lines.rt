@@ -13,16 +13,16 @@ pub(crate) fn room() -> Text {
 }
 
 // With room for a line behind an index: where there may be none, the lines that wait are written.
-pub(crate) fn with_room(end: usize, text: &Text) -> Ready {
-    waiting::with_room(b"replay", line::LONGEST, end, text)
+pub(crate) fn with_room(rt: &HostRuntime, end: usize, text: &Text) -> Ready {
+    waiting::with_room(rt, "replay", line::LONGEST, end, text)
 }
 
 // Writes the lines that wait, up to an index.
-pub(crate) fn written(end: usize, text: &Text) -> bool {
-    waiting::written(b"replay", end, text)
+pub(crate) fn written(rt: &HostRuntime, end: usize, text: &Text) -> bool {
+    waiting::written(rt, "replay", end, text)
 }
 
 // Writes to standard output.
-pub(crate) fn write(bytes: &[u8]) -> bool {
-    waiting::write(b"replay", bytes)
+pub(crate) fn write(rt: &HostRuntime, bytes: &[u8]) -> bool {
+    waiting::write(rt, "replay", bytes)
 }

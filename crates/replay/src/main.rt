@@ -19,16 +19,15 @@ use spool::Spool;
 use start::Start;
 use walk::Task;
 
-fn main() {
-    let spool = spool::input();
-    if spool.failed {
-        return;
+fn main(rt: HostRuntime) {
+    if let Some(spool) = spool::input(&rt) {
+        let start = start::read(&spool);
+        if start.failed {
+            spool::unread(&rt);
+            return;
+        }
+        run(&rt, &spool, start);
     }
-    let start = start::read(spool);
-    if start.failed {
-        return;
-    }
-    run(spool, start);
 }
 
 // The node of the start.
@@ -43,16 +42,17 @@ fn setup(start: Start) -> Setup {
 }
 
 // Reads all calls through, and then makes them.
-fn run(spool: Spool, start: Start) {
+fn run(rt: &HostRuntime, spool: &Spool, start: Start) {
     let setup = setup(start);
     let mut window = [0; window::LENGTH];
     let read = walk::checked(start.calls, spool, &mut window);
     let held = read.held;
     if held.failed {
+        spool::unread(rt);
         return;
     }
     if !start.known | (spool::LIMIT < spool.size) | (read.next != spool.size) {
-        lines::write(b"bad input\n");
+        lines::write(rt, b"bad input\n");
         return;
     }
     let answer = setup.answer;
@@ -64,18 +64,18 @@ fn run(spool: Spool, start: Start) {
                 first: start.calls,
                 spool,
             };
-            walk::make(task, &mut window);
+            walk::make(rt, task, &mut window);
         }
         SetupAnswer::Refused(refusal) => {
-            refused(refusal);
+            refused(rt, refusal);
         }
     }
 }
 
 // Says that the settings are refused.
-fn refused(refusal: Refusal) {
+fn refused(rt: &HostRuntime, refusal: Refusal) {
     let mut text = lines::room();
     let end = answers::settings(refusal, 0, &mut text);
     let n = line::end(end, &mut text);
-    lines::written(n, &text);
+    lines::written(rt, n, &text);
 }

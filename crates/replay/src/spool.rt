@@ -1,83 +1,113 @@
 // Standard input, kept in a file without a name: it is read twice, is longer than a small stack has room for, and may be a pipe.
 ghost use Rattle.std.specs.Prelude.{◌≤◌};
 
+use header::fields;
+use std::fs::{File, OpenOptions};
+use std::io::{ErrorKind, Write};
+use std::os::fd::AsRawFd;
+use std::os::unix::fs::{FileExt, OpenOptionsExt};
+use std::random::RandomSource;
+use std::{fs, io};
 use streams::Reading;
 
 // The most bytes that are taken. One more is read, which shows that the input is longer.
 pub(crate) const LIMIT: usize = 1048576;
 
-// The file, and how many bytes it has. What failed has been said.
-#[derive(Clone, Copy)]
+// How many names are tried for the file.
+const TRIES: u32 = 1024;
+
+// Where the number stands in the file's name.
+const NUMBER: usize = 12;
+
+// The file, and how many bytes it has.
+#[derive(Drop)]
 pub(crate) struct Spool {
-    pub(crate) file: i32,
+    file: File,
     pub(crate) size: usize,
-    pub(crate) failed: bool,
 }
 
-// All of standard input.
-pub(crate) fn input() -> Spool {
-    let file = unnamed();
-    if file < 0 {
-        io::write_all(2, b"replay: no file could be made in /tmp\n");
-    } else if file < 2 {
-        // The file was given the number of a stream that is closed.
-        io::write_all(2, b"replay: standard input or output is closed\n");
-    } else {
-        return copied(file);
-    }
-    Spool {
-        file,
-        size: 0,
-        failed: true,
+// All of standard input; none where something failed, which has been said.
+pub(crate) fn input(rt: &HostRuntime) -> Option<Spool> {
+    match unnamed(rt) {
+        Ok(file) => {
+            if file.as_raw_fd() < 2 {
+                // The file was given the number of a stream that is closed.
+                let _ = eprintln!(rt; "replay: standard input or output is closed");
+                return None;
+            }
+            copied(rt, file)
+        }
+        Err(_) => {
+            let _ = eprintln!(rt; "replay: no file could be made in /tmp");
+            None
+        }
     }
 }
 
-fn unnamed() -> i32 {
-    let mut name = *b"/tmp/replay-XXXXXX";
-    let file = os::create_temp(&mut name);
-    if 0 <= file {
-        os::unlink(&name);
+// A file that is made anew, under a name that no file has.
+fn unnamed(rt: &HostRuntime) -> io::Result<File> {
+    for _ in 0..TRIES {
+        match made(rt) {
+            Err(e) if e.kind() == ErrorKind::AlreadyExists => {}
+            file => return file,
+        }
     }
-    file
+    Err(io::Error::from(ErrorKind::AlreadyExists))
+}
+
+// A file of a random name, which is taken away at once.
+fn made(rt: &HostRuntime) -> io::Result<File> {
+    let mut number = [0u8; 4];
+    rt.fill_bytes(&mut number)?;
+    let mut bytes = *b"/tmp/replay-00000000";
+    text::put_hexadecimal(fields::quad(&number, 0), &mut bytes, NUMBER);
+    match str::from_utf8(&bytes) {
+        Ok(name) => {
+            let file = OpenOptions::new()
+                .read(true)
+                .write(true)
+                .create_new(true)
+                .mode(0o600)
+                .open(rt, name)?;
+            let _ = fs::remove_file(rt, name);
+            Ok(file)
+        }
+        Err(_) => Err(io::Error::from(ErrorKind::InvalidInput)),
+    }
 }
 
 // Copies standard input, block by block.
-fn copied(file: i32) -> Spool {
+fn copied(rt: &HostRuntime, mut file: File) -> Option<Spool> {
     let mut size: usize = 0;
     while size <= LIMIT {
-        let block = copy_block(file);
+        let block = copy_block(rt, &mut file);
+        if block.failed {
+            return None;
+        }
         if block.count == 0 {
-            return Spool {
-                file,
-                size,
-                failed: block.failed,
-            };
+            break;
         }
         size += block.count;
     }
-    Spool {
-        file,
-        size,
-        failed: false,
-    }
+    Some(Spool { file, size })
 }
 
 // Copies what one read gives: no bytes where the input ends, or where reading or writing fails, which is said.
-fn copy_block(file: i32) -> Reading
+fn copy_block(rt: &HostRuntime, file: &mut File) -> Reading
     ensures { result.count ≤ 65536 }
 {
-    let mut bytes = io::large_buffer();
-    let read = streams::read_some(0, &mut bytes);
+    let mut bytes = [0u8; 65536];
+    let read = streams::read_some(&mut rt.stdin(), &mut bytes);
     let n = read.count;
     if read.failed {
-        io::write_all(2, b"replay: standard input could not be read\n");
+        let _ = eprintln!(rt; "replay: standard input could not be read");
         return Reading {
             count: 0,
             failed: true,
         };
     }
-    if !io::write_all(file, &bytes[..n]) {
-        io::write_all(2, b"replay: the file in /tmp could not be written\n");
+    if file.write_all(&bytes[..n]).is_err() {
+        let _ = eprintln!(rt; "replay: the file in /tmp could not be written");
         return Reading {
             count: 0,
             failed: true,
@@ -87,6 +117,11 @@ fn copy_block(file: i32) -> Reading
         count: n,
         failed: false,
     }
+}
+
+// Says that the file could not be read.
+pub(crate) fn unread(rt: &HostRuntime) {
+    let _ = eprintln!(rt; "replay: the file in /tmp could not be read");
 }
 
 // How far a is above b.
@@ -108,19 +143,17 @@ pub(crate) fn inside(at: usize) -> usize
 
 impl Spool {
     // The bytes from an index on, as many as fit or there are.
-    pub(crate) fn read(self, at: usize, buf: &mut [u8]) -> Reading {
+    pub(crate) fn read(&self, at: usize, buf: &mut [u8]) -> Reading {
         if LIMIT < at {
             return Reading {
                 count: 0,
                 failed: false,
             };
         }
-        let got = libc::pread(self.file, buf, at as i64);
-        let n = io::count(got, buf);
-        let failed = n < lists::least(buf.len(), above(self.size, at));
-        if failed {
-            io::write_all(2, b"replay: the file in /tmp could not be read\n");
+        let count = self.file.read_at(buf, at as u64).unwrap_or(0);
+        Reading {
+            count,
+            failed: count < lists::least(buf.len(), above(self.size, at)),
         }
-        Reading { count: n, failed }
     }
 }

@@ -39,7 +39,7 @@ pub(crate) struct Start {
     pub(crate) failed: bool,
 }
 
-pub(crate) fn read(spool: Spool) -> Start {
+pub(crate) fn read(spool: &Spool) -> Start {
     let head = section_at(spool, 0, 0);
     let bytes = head.bytes;
     let services = fields::byte(&bytes, 0);
@@ -63,7 +63,7 @@ pub(crate) fn read(spool: Spool) -> Start {
 }
 
 // The settings at an index.
-fn part_at(spool: Spool, at: usize) -> Part {
+fn part_at(spool: &Spool, at: usize) -> Part {
     let locators = section_at(spool, at, section::LOCATOR);
     let prefixes = section_at(spool, locators.behind, section::PREFIX);
     let routers = section_at(spool, prefixes.behind, section::ROUTER);
@@ -81,7 +81,7 @@ fn part_at(spool: Spool, at: usize) -> Part {
 }
 
 // The section at an index, whose records have so many bytes.
-fn section_at(spool: Spool, at: usize, record: u8) -> Section {
+fn section_at(spool: &Spool, at: usize, record: u8) -> Section {
     let mut bytes = [0; HEAD];
     let read = spool.read(at, &mut bytes);
     let records = fields::word(&bytes, 0) as usize * record as usize;

@@ -5,15 +5,15 @@ use crate::calls::{Memories, Space};
 use crate::lines::Text;
 use crate::spool::{Spool, above};
 use crate::window::{Held, Window};
-use crate::{answering, calls, line, lines, outputs, window};
+use crate::{answering, calls, line, lines, outputs, spool, window};
 use node::Node;
 
 // The calls of a spool from an index on, and the node that they are made on.
 #[derive(Clone, Copy)]
-pub(crate) struct Task {
+pub(crate) struct Task<'a> {
     pub(crate) node: Node,
     pub(crate) first: usize,
-    pub(crate) spool: Spool,
+    pub(crate) spool: &'a Spool,
 }
 
 #[derive(Clone, Copy)]
@@ -39,7 +39,7 @@ fn start(at: usize) -> Walk {
 }
 
 // Goes through the calls from an index on, to the end of the input, or to one that it cannot pass.
-pub(crate) fn checked(first: usize, spool: Spool, window: &mut Window) -> Walk {
+pub(crate) fn checked(first: usize, spool: &Spool, window: &mut Window) -> Walk {
     let mut walk = start(first).past(first, spool, window);
     while (walk.at < walk.next) & (walk.at < spool.size) {
         walk = walk.past(walk.next, spool, window);
@@ -48,18 +48,25 @@ pub(crate) fn checked(first: usize, spool: Spool, window: &mut Window) -> Walk {
 }
 
 // Makes the calls, which are whole, up to where a read or a write fails.
-pub(crate) fn make(task: Task, window: &mut Window) {
-    let mut out = io::large_buffer();
+pub(crate) fn make(rt: &HostRuntime, task: Task<'_>, window: &mut Window) {
+    let mut out = [0u8; 65536];
     let mut memory = [outputs::BLANK; calls::MEMORIES];
     let mut text = lines::room();
-    made(task, window, &mut out, &mut memory, &mut text);
+    made(rt, task, window, &mut out, &mut memory, &mut text);
 }
 
 // A call is made here, and not in a function between, to which the node would be copied, and back. One that does not change it comes
 // last, but for the shortest.
-fn made(task: Task, window: &mut Window, out: &mut Space, memory: &mut Memories, text: &mut Text) {
+fn made(
+    rt: &HostRuntime,
+    task: Task<'_>,
+    window: &mut Window,
+    out: &mut Space,
+    memory: &mut Memories,
+    text: &mut Text,
+) {
     let mut node = task.node;
-    let mut walk = start(task.first).on(task.first, task.spool, window, text);
+    let mut walk = start(task.first).on(rt, task.first, task.spool, window, text);
     while (walk.at < walk.next) & (walk.at < task.spool.size) {
         let next = walk.next;
         let c = walk.call(window);
@@ -93,14 +100,18 @@ fn made(task: Task, window: &mut Window, out: &mut Space, memory: &mut Memories,
         } else {
             walk = walk.told(node, task.spool, window, out, memory, text);
         }
-        walk = walk.ended(text).on(next, task.spool, window, text);
+        walk = walk.ended(text).on(rt, next, task.spool, window, text);
     }
-    lines::written(walk.end, text);
+    let held = walk.held;
+    if held.failed {
+        spool::unread(rt);
+    }
+    lines::written(rt, walk.end, text);
 }
 
 impl Walk {
     // At the call at an index.
-    fn past(self, at: usize, spool: Spool, window: &mut Window) -> Walk
+    fn past(self, at: usize, spool: &Spool, window: &mut Window) -> Walk
         ensures { result.at ≡ at }
     {
         let start = self.held;
@@ -128,14 +139,21 @@ impl Walk {
     }
 
     // At the call at an index, which is held, or as much of it as is read at once, with room for its line.
-    fn on(self, at: usize, spool: Spool, window: &mut Window, text: &Text) -> Walk
+    fn on(
+        self,
+        rt: &HostRuntime,
+        at: usize,
+        spool: &Spool,
+        window: &mut Window,
+        text: &Text,
+    ) -> Walk
         ensures { result.at ≡ at }
     {
         let past = self.past(at, spool, window);
         let start = past.held;
         let size = lists::least(above(past.next, at), calls::LONGEST);
         let held = start.reaching(at, size, spool, window);
-        let ready = lines::with_room(self.end, text);
+        let ready = lines::with_room(rt, self.end, text);
         let whole = !held.failed & !ready.failed;
         Walk {
             at,
@@ -165,7 +183,7 @@ impl Walk {
     fn told(
         self,
         node: Node,
-        spool: Spool,
+        spool: &Spool,
         window: &mut Window,
         out: &mut Space,
         memory: &Memories,

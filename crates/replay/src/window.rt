@@ -14,7 +14,7 @@ pub(crate) struct Held {
     // The index of the first byte that is held, and how many are.
     pub(crate) from: usize,
     pub(crate) count: usize,
-    // Whether a read failed, which was said.
+    // Whether a read failed.
     pub(crate) failed: bool,
 }
 
@@ -29,7 +29,7 @@ pub(crate) fn nothing() -> Held {
 
 impl Held {
     // With so many bytes from an index on, or as many as the window has room for or as there are. Nothing is read behind a read that failed.
-    pub(crate) fn reaching(self, at: usize, n: usize, spool: Spool, window: &mut Window) -> Held {
+    pub(crate) fn reaching(self, at: usize, n: usize, spool: &Spool, window: &mut Window) -> Held {
         let ahead = above(self.count, self.place(at));
         if self.failed | (n <= ahead) | (above(spool.size, at) <= ahead) {
             return self;
@@ -43,7 +43,7 @@ impl Held {
     }
 
     // With all of the bytes behind their two-byte length, which stands at an index.
-    pub(crate) fn reaching_all(self, at: usize, spool: Spool, window: &mut Window) -> Held {
+    pub(crate) fn reaching_all(self, at: usize, spool: &Spool, window: &mut Window) -> Held {
         let near = self.reaching(at, 2, spool, window);
         let length = fields::word(near.bytes(at, window), 0);
         near.reaching(at, 2 + length as usize, spool, window)
