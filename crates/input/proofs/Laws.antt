@@ -74,7 +74,7 @@ behind-settings-short : (s : List ℕ) → length (behind_settings s) ≤ length
 unfolding prefix_section router_section behind_settings
 behind-settings-short s = simp length-drop (omega arith)
 
--- the datagrams of a well_formed input stand in it
+-- the datagrams of a well-formed input stand in it
 pub well_formed-inside : (s : List ℕ) → is_well_formed s ≡ true → 2 + taken_by (datagrams_of (behind_settings s)) ≤ input_limit
 unfolding is_well_formed
 well_formed-inside s h =

@@ -114,7 +114,7 @@ module _ {s : List ℕ} {ls ps rs : List (List ℕ)} {ds : List Datagram} (i : I
     rw datagrams_at (recording_back ds).0,
   )
 
-  -- what has the form and is not too long is well_formed
+  -- what has the form and is not too long is well-formed
   pub form-taken : length s ≤ input_limit → is_well_formed s ≡ true
   unfolding encoded are_sections_whole is_well_formed
   form-taken h =

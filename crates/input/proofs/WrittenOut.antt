@@ -1,4 +1,4 @@
--- A well_formed input is what R17.2 describes: its sections written out, and nothing else. Assumes nothing.
+-- A well-formed input is what R17.2 describes: its sections written out, and nothing else. Assumes nothing.
 use Prim.Native.Nat.{ℕ, zero, suc, ◌+◌, ◌*◌, ◌/◌, ◌%◌, ◌≤◌, ◌<◌}
 use mathlib.Core.Path.{◌≡◌, refl, sym, ap, ◌∙◌}
 use mathlib.Core.Bool.{true, ◌&&◌}
@@ -89,7 +89,7 @@ recording_written r b h =
     count-written r b (leb-true 2 (length r) g.0)
     ∙ rw n (ap (λ (l : List ℕ). two_bytes (count_of r) ++ l) (datagrams_written (count_of r) (first_datagram r) (bytes_drop 2 r b) g.1))
 
--- a well_formed input has the form that R17.2 describes, with what is read from it
+-- a well-formed input has the form that R17.2 describes, with what is read from it
 pub taken-form : (s : List ℕ) → Bytes s → is_well_formed s ≡ true
     → IsInput s (records_of locator_bytes s) (records_of prefix_bytes (prefix_section s)) (records_of router_bytes (router_section s)) (datagrams_of (behind_settings s))
 unfolding is_well_formed are_sections_whole prefix_section router_section behind_settings encoded

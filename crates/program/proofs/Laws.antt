@@ -25,7 +25,7 @@ use Rattle.program.specs.Lines.{bad_input}
 use Rattle.program.specs.Program.{line_with, receipt_of, memory_after, lines_for, lines_of, taken_text, text_for, output_room, IsFront, count_given, bytes_left}
 use Rattle.program.proofs.Lengths.{many_lines, text_short}
 
--- refused settings, and an input that is not well_formed, get the one line
+-- refused settings, and an input that is not well-formed, get the one line
 pub text_refused : (s : List ℕ) → is_accepted (settings_of s) ≡ false → text_for s ≡ bad_input
 unfolding text_for taken_text setup_of
 text_refused s a = rw a (same (is_well_formed s))

@@ -130,7 +130,7 @@ lines_fit k node memory (d ∷ ds) h =
     let f = collected-fits k (omega arith) service.settings (live service.routers) d.bytes d.interface service.pieces (max node.latest 0) memory in
     simp length-append (omega (arith, f, lines_fit (suc k) (receipt_of node memory d).node (memory_after node memory d) ds (omega arith)))
 
--- the output for a section of a well_formed input has room
+-- the output for a section of a well-formed input has room
 section-short : (node : Node) (memory s : List ℕ) → is_well_formed s ≡ true → length (text_of (lines_of node memory (behind_settings s))) ≤ output_room
 unfolding text_of lines_of
 section-short node memory s h =

@@ -51,7 +51,7 @@ abbrev pub setup_text : SetupAnswer → Node → List ℕ → List ℕ
 setup_text setup.Made node r = text_of (lines_of node own_memory r)
 setup_text (setup.Refused refusal) node r = bad_input
 
--- the output for a well_formed input
+-- the output for a well-formed input
 unfoldable pub taken_text : List ℕ → List ℕ
 taken_text s = setup_text (setup_of (settings_of s)).answer (setup_of (settings_of s)).node (behind_settings s)
 

@@ -97,7 +97,7 @@ fn put_text(node: Node, r: &[u8], out: &mut [u8]) -> usize
     put_lines(node, r, &mut memory, out, at)
 }
 
-// Writes the output for a well_formed input.
+// Writes the output for a well-formed input.
 fn put_taken(s: &[u8], out: &mut [u8]) -> usize
     requires { length (taken_text s.now) ≤ length out.old }
     ensures value { result ≡ behind 0 (taken_text s.now) out.old }

@@ -1,4 +1,4 @@
--- `output` meets its contract: by whether there is room, and whether the input is well_formed.
+-- `output` meets its contract: by whether there is room, and whether the input is well-formed.
 use mathlib.Core.Path.{sym, ◌∙◌}
 use native.Mathlib.Omega.{arith}
 use Rattle.program.specs.Program.{text_for}
