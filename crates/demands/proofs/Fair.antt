@@ -13,7 +13,7 @@ use Rattle.settings.specs.Settings.{are_locators_right, are_routers_right, are_n
 use Rattle.settings.specs.declared.Settings.{Settings}
 use Rattle.address.specs.Address.{is_multicast_or_unspecified}
 use Rattle.options.specs.Lifetimes.{without_lifetime}
-use Rattle.routers.specs.Routers.{live, next_of, rescheduled, rescheduled_of}
+use Rattle.routers.specs.Routers.{live, next_of, rescheduled_of}
 use Rattle.refusals.specs.Given.{Given}
 use Rattle.routers.specs.declared.RouterList.{RouterList}
 use Rattle.routers.specs.declared.Router.{Router}

@@ -24,13 +24,11 @@ use Rattle.header.specs.Outer.{outer_of}
 use Rattle.header.specs.Inner.{inner_of}
 use Rattle.routers.specs.Routers.{live}
 use Rattle.settings.specs.declared.Settings.{Settings}
-use Rattle.pieces.specs.Places.{Part, places, room, is_of, is_live}
+use Rattle.pieces.specs.Places.{Part, room, is_of, is_live}
 use Rattle.pieces.specs.declared.Collection.{Collection}
 use Rattle.pieces.specs.declared.Key.{Key}
 use Rattle.pieces.specs.declared.Place.{Place}
-use Rattle.pieces.specs.declared.Plan.TheVariants as plan
 use Rattle.pieces.specs.declared.Answer.{Answer}
-use Rattle.pieces.specs.declared.Answer.TheVariants as taken
 use Rattle.pieces.proofs.Joining as pieces
 use Rattle.pieces.proofs.Joining.{Step, State, answer, after, after_all, In, under}
 use Rattle.pieces.proofs.Holds.{pieces_join}

@@ -9,7 +9,7 @@ use lib.Dec.{ltb}
 use Rattle.refusals.specs.Given.{Given}
 use Rattle.header.specs.Outer.{outer_of, quote_of}
 use Rattle.header.specs.declared.outer.Outer.{Outer}
-use Rattle.settings.specs.Settings.{locators_of, forbidden_to, is_ours, is_bad_end}
+use Rattle.settings.specs.Settings.{forbidden_to, is_ours, is_bad_end}
 use Rattle.settings.specs.declared.Settings.{Settings}
 use Rattle.paths.specs.Table.{no_reports}
 use Rattle.reports.specs.Report.{is_quote_foreign, report_check, judged_of, neighbour_in, answer_at, report_given}
@@ -142,7 +142,7 @@ module _ (s t : Settings) (a : SeenAlike s t) where
 
 -- the same settings are seen alike
 seen_same : (s t : Settings) → s ≡ t → SeenAlike s t
-seen_same s t e = record { locators = ap locators_of e; link_size = ap (λ (q : Settings). q.link_size) e }
+seen_same s t e = subst (λ (q : Settings). SeenAlike s q) e (record { locators = refl; link_size = refl })
 
 module _ (x : ServiceName) (n m : Node) (a : Alike x n m) where
   -- both services are seen alike, and are there in both
