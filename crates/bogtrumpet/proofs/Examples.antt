@@ -4,8 +4,6 @@ use mathlib.Core.Bool.{true, false}
 use mathlib.Core.List.{◌∷◌}
 use Prim.Native.Nat.{ℕ}
 use lib.ListN.{replicate}
-use Rattle.advertisements.specs.declared.prefix.Prefix as told
-use Rattle.advertisements.specs.declared.route.Route as told-route
 use Rattle.advertisements.specs.declared.route.Preference.TheVariants.{Medium, High, Low}
 use Rattle.bogtrumpet.specs.Plain.{prefix_from, preference_from, route_from, no_prefix, no_route, first_from, advertisement_from}
 use Rattle.bogtrumpet.specs.declared.plain.Prefix.{Prefix}

@@ -51,35 +51,41 @@ table_left t look = cond look.accepted (record {
 abbrev Same : PathTable → ReportLook → ReportAnswer → ℕ → Type 0
 Same t look a now = (look.answer ≡ plain_reported a) × (table_left t look ≡ paths_after a t now) × (look.latest ≡ now)
 
-module _ (t : PathTable) (full : Full t) (now : ℕ) where
+module _ (t : PathTable) (now : ℕ) where
   abbrev look_at : ℕ → ℕ → Look
   look_at link v = look_among link t.neighbours t.sizes t.times t.count v now
 
   -- an accepted report
-  table_left_lem : (link v c : ℕ) → table_left t (accepted_look v c (look_at link v) now) ≡ table_after t v c now
+  table_left_lem : Full t → (link v c : ℕ) → table_left t (accepted_look v c (look_at link v) now) ≡ table_after t v c now
   unfolding look_among table_after
-  table_left_lem link v c =
+  table_left_lem full link v c =
       let p : ℕ = row_for t.neighbours t.sizes t.times t.count v in
       let there : p < most_neighbours = omega arith in
       rw (pushed-there v p t.neighbours (rw full.0 there), pushed-there c p t.sizes (rw full.1 there), pushed-there now p t.times (rw full.2 there))
 
-  by_below : (link v c : ℕ) (below : Bool) → Same t (cond below (accepted_look v c (look_at link v) now) (refused_look SizeNotBelow now)) (cond below (Accepted v c) (Refused SizeNotBelow)) now
-  by_below link v c true = (refl, table_left_lem link v c, refl)
-  by_below link v c false = (refl, refl, refl)
+  by_below : (link v c : ℕ) (below : Bool)
+      → ((cond below (accepted_look v c (look_at link v) now) (refused_look SizeNotBelow now)).accepted ≡ true → Full t)
+      → Same t (cond below (accepted_look v c (look_at link v) now) (refused_look SizeNotBelow now)) (cond below (Accepted v c) (Refused SizeNotBelow)) now
+  by_below link v c true full = (refl, table_left_lem (full refl) link v c, refl)
+  by_below link v c false full = (refl, refl, refl)
 
-  by_judged : (link : ℕ) (j : Judged) → Same t (looked_over (over_with link j) t.neighbours t.sizes t.times t.count now) (answer_at j (in_force link (kept_in t (neighbour_in j) now))) now
+  by_judged : (link : ℕ) (j : Judged)
+      → ((looked_over (over_with link j) t.neighbours t.sizes t.times t.count now).accepted ≡ true → Full t)
+      → Same t (looked_over (over_with link j) t.neighbours t.sizes t.times t.count now) (answer_at j (in_force link (kept_in t (neighbour_in j) now))) now
   unfolding looked_below accepted_below look_among kept_in
-  by_judged link (judged.Report v c) = by_below link v c (is_below c (in_force link (kept_in t v now)))
-  by_judged link (judged.Refused refusal) = (refl, refl, refl)
+  by_judged link (judged.Report v c) full = by_below link v c (is_below c (in_force link (kept_in t v now))) full
+  by_judged link (judged.Refused refusal) full = (refl, refl, refl)
 
 -- the settings of the service that a report belongs to
 chosen : (h : Node) (t : Bool) → (service_of h (cond t Second First)).settings ≡ cond t h.second.settings h.first.settings
 chosen h true = refl
 chosen h false = refl
 
-pub look_same : (h : Node) (m : List ℕ) (time : ℕ) → Full h.paths
+-- of a table that is asked for its places only where the report is accepted
+pub look_same : (h : Node) (m : List ℕ) (time : ℕ)
     → let z : ReportLook = looked_in h (reading_of m) time in
-    (z.answer ≡ plain_reported (report_of h m time).answer) × (at-time (with_paths h (table_left h.paths z)) z.latest ≡ (report_of h m time).node)
+    (z.accepted ≡ true → Full h.paths)
+    → (z.answer ≡ plain_reported (report_of h m time).answer) × (at-time (with_paths h (table_left h.paths z)) z.latest ≡ (report_of h m time).node)
 unfolding report_of report_answer_of reported_to quotes_other path_size_at looked_among
 look_same h m time full =
     let now : ℕ = max h.latest time in
@@ -89,6 +95,8 @@ look_same h m time full =
     let s : Settings = (service_of h (cond t Second First)).settings in
     let j : Judged = judged_of s m in
     let over = over-same a b m (ltb 0 h.both) in
-    let same : Same h.paths (looked_in h (reading_of m) time) (answer_at j (in_force s.link_size (kept_in h.paths (neighbour_in j) now))) now =
-    rw (over, ← chosen h t) (by_judged h.paths full now s.link_size j) in
+    let z : ReportLook = looked_in h (reading_of m) time in
+    let by_table : (z.accepted ≡ true → Full h.paths) → Same h.paths z (answer_at j (in_force s.link_size (kept_in h.paths (neighbour_in j) now))) now =
+    rw (over, ← chosen h t) (by_judged h.paths now s.link_size j) in
+    let same = by_table full in
     (same.0, ap (λ (p : PathTable). at-time (with_paths h p) (looked_in h (reading_of m) time).latest) same.1 ∙ ap (λ (l : ℕ). at-time (with_paths h (report_of h m time).node.paths) l) same.2)

@@ -1,33 +1,25 @@
 -- What the calls on a node are, as those over a pointer make them: the one place that looks into the node's own definitions. Assumes nothing.
---     by_number_lem        of a service's number.        there-second, there-both, there-first     whether its service is there
---     size_is, size_now, size_toward_lem     a size over the table's rows is the node's
+--     by_number_lem        of a service's number.
+--     size_is, size_now     a size over the table's rows is the node's
 --     gathered-same, absent-same     what receiving gathers changes one place, or none.        received-same     with the latest time it is the node's
 --     sent-same        a sending over a path of the size toward the tunnel end is the node's
 --     asked-same, heard-same, replaced-same     these change the router list of their service and the latest time alone.        advertised-same     advertising
---     plain_asked-list, plain_heard-list     what a step says of the router list is what the answer leaves
 use mathlib.Core.Path.{◌≡◌, refl, ap, ◌∙◌}
-use Prim.Native.Nat.{ℕ, max, ◌<◌, ◌≤◌}
-use mathlib.Core.Bool.{Bool, true, false, cond, ◌&&◌}
+use Prim.Native.Nat.{ℕ, max, ◌<◌}
+use mathlib.Core.Bool.{Bool, true, false, cond}
 use mathlib.Core.List.{List}
-use lib.Dec.{eqb, ltb, leb}
+use lib.Dec.{eqb, ltb}
 use lib.ListN.{length}
 use native.Mathlib.Omega.{arith}
-use borrow.Author.Tests.{eqb-true, eqb-false, ne_eqb, lt-ltb, le-ltb, le-leb, lt-leb}
-use Rattle.address.specs.Address.{last_quad}
 use Rattle.advertisements.specs.declared.Advertisement.{Advertisement}
-use Rattle.asking.specs.Ask.{answered_with}
-use Rattle.asking.specs.declared.AskAnswer.{AskAnswer}
 use Rattle.asking.specs.declared.AskAnswer.TheVariants as asked
 use Rattle.asking.specs.declared.Asked as asking
 use Rattle.header.specs.declared.wrap.Written.TheVariants as written
-use Rattle.hearing.specs.Heard.{heard_as}
 use Rattle.hearing.specs.declared.Heard as hearing
-use Rattle.hearing.specs.declared.HeardAnswer.{HeardAnswer}
 use Rattle.hearing.specs.declared.HeardAnswer.TheVariants as heard
 use Rattle.paths.specs.Kept.{in_force}
 use Rattle.paths.specs.Table.{kept_among, kept_in}
 use Rattle.refusals.specs.declared.Refusal.TheVariants.{NoLocator}
-use Rattle.refusals.proofs.Numbers.{never_zero}
 use Rattle.routers.specs.Routers.{live}
 use Rattle.routers.specs.declared.Router.{Router}
 use Rattle.routers.specs.declared.RouterList.{RouterList}
@@ -65,7 +57,8 @@ use Rattle.bogtrumpet.specs.declared.steps.GatheredStep.{GatheredStep}
 use Rattle.bogtrumpet.specs.declared.steps.HeardStep.{HeardStep}
 use Rattle.bogtrumpet.specs.declared.steps.ReplacedStep.{ReplacedStep}
 use Rattle.bogtrumpet.specs.declared.steps.SentStep.{SentStep}
-use Rattle.bogtrumpet.proofs.Changed.{at-time, with-service}
+use Rattle.bogtrumpet.specs.Lending.{with_service}
+use Rattle.bogtrumpet.proofs.Changed.{at-time}
 
 -- a call on the service of a number, as what it is for the first, for the second, and for no service
 by_number_lem : {A : Type 0} (f : Bool → ServiceName → A) (call : ServiceName → A) (none : A) (both k : ℕ) → f true First ≡ call First → f (ltb 0 both) Second ≡ call Second → f false Second ≡ none
@@ -77,31 +70,6 @@ by_number_lem f call none both k at_first at_second at_none = go (eqb k 0) (eqb 
     go false true = at_second
     go false false = at_none
 
--- whether a service other than the first is there
-pub there-second : (k both : ℕ) → (k ≡ 0 → ⊥) → (eqb k 1 && ltb 0 both) ≡ is_there both k
-there-second k both other = rw (ne_eqb k 0 other) (joined (eqb k 1) (ltb 0 both))
-  where
-    joined : (a b : Bool) → (a && b) ≡ cond a b false
-    joined true b = refl
-    joined false b = refl
-
--- a service is there: by the greatest number that is
-pub there-both : (k both : ℕ) → 0 < both → leb k 1 ≡ is_there both k
-there-both k both b = go (eqb k 0) (eqb k 1) refl refl
-  where
-    go : (a b : Bool) → eqb k 0 ≡ a → eqb k 1 ≡ b → leb k 1 ≡ cond a true (cond b (ltb 0 both) false)
-    go true b' ea eb = let e : k ≡ 0 = eqb-true k 0 ea in le-leb k 1 (omega (arith, e))
-    go false true ea eb = let e : k ≡ 1 = eqb-true k 1 eb in rw (lt-ltb 0 both b) (le-leb k 1 (omega (arith, e)))
-    go false false ea eb = let not0 : k ≡ 0 → ⊥ = eqb-false k 0 ea in let not1 : k ≡ 1 → ⊥ = eqb-false k 1 eb in lt-leb k 1 (omega (arith, not0, not1))
-
-pub there-first : (k both : ℕ) → both ≤ 0 → leb k 0 ≡ is_there both k
-there-first k both b = go (eqb k 0) (eqb k 1) refl refl
-  where
-    go : (a b : Bool) → eqb k 0 ≡ a → eqb k 1 ≡ b → leb k 0 ≡ cond a true (cond b (ltb 0 both) false)
-    go true b' ea eb = let e : k ≡ 0 = eqb-true k 0 ea in le-leb k 0 (omega (arith, e))
-    go false true ea eb = let e : k ≡ 1 = eqb-true k 1 eb in rw (le-ltb 0 both b) (lt-leb k 0 (omega (arith, e)))
-    go false false ea eb = let not0 : k ≡ 0 → ⊥ = eqb-false k 0 ea in lt-leb k 0 (omega (arith, not0))
-
 abbrev pub size-among : Node → ServiceName → ℕ → ℕ → ℕ
 size-among h w v t = in_force (service_of h w).settings.link_size (kept_among h.paths.neighbours h.paths.sizes h.paths.times h.paths.count v t)
 
@@ -112,9 +80,6 @@ size_is h w v t = refl
 pub size_now : (h : Node) (k v : ℕ) → sized_step h.both k (path_size_at h (name_of k) v h.latest) ≡ by_number k (λ w. plain_sized (path_size_of h w v)) (plain_sized (sized.Refused NoLocator))
 unfolding sized_step path_size_of
 size_now h k v = by_number_lem (λ there w. plain_sized (cond there (sized.Size (path_size_at h w v h.latest)) (sized.Refused NoLocator))) (λ w. plain_sized (path_size_of h w v)) (plain_sized (sized.Refused NoLocator)) h.both k refl refl refl
-
-pub size_toward_lem : (h : Node) (w : ServiceName) (hop : List ℕ) (t : ℕ) → path_size_at h w (last_quad hop) (max h.latest t) ≡ path_size_toward h w hop t
-size_toward_lem h w hop t = refl
 
 module _ (h : Node) (k : ℕ) (p hop : List ℕ) (locator t : ℕ) (out : List ℕ) where
   -- over a path of that size
@@ -207,7 +172,7 @@ module _ (h : Node) (k : ℕ) (d : List ℕ) (i t : ℕ) (memory : List ℕ) whe
 
 -- the node whose service has that router list, at that time
 abbrev pub routed : Node → ServiceName → RouterList → ℕ → Node
-routed h w routers t = at-time (with-service h w (with_routers (service_of h w) routers)) t
+routed h w routers t = at-time (with_service h w (with_routers (service_of h w) routers)) t
 
 pub asked-same : (h : Node) (k locator t : ℕ) (out : List ℕ) (z : AskedStep) → AskedAs (is_there h.both k) (service_of h (name_of k)) h.latest locator t (length out) z
     → (z.answer ≡ by_number k (λ w. plain_asked (ask_of h w locator t (length out)).answer) (plain_asked (asked.Refused NoLocator)))
@@ -230,17 +195,6 @@ heard-same h k p t z so =
       so.answer ∙ by_number_lem (λ there w. plain_heard (step there w).answer) (λ w. plain_heard (hear_of h w p t).answer) (plain_heard (heard.Refused NoLocator)) h.both k refl refl refl,
       rw (so.list, so.at-time) (by_number_lem (λ there w. routed h w (step there w).routers (max h.latest t)) (λ w. (hear_of h w p t).node) (raised_to h t) h.both k refl refl refl),
     )
-
--- what a service answers, and the router list that this leaves, in plain
-pub plain_asked-list : (given : AskAnswer) (due : ℕ) (l : RouterList) (asked : asking.Asked) → answered_with given due l ≡ asked
-    → (plain_asked given ≡ plain_asked asked.answer) × (list_after (eqb (plain_asked given).number 0) (plain_asked given).router due l ≡ asked.routers)
-plain_asked-list (asked.Router a) due l x e = (ap (λ (y : asking.Asked). plain_asked y.answer) e, ap (λ (y : asking.Asked). y.routers) e)
-plain_asked-list (asked.Refused r) due l x e = (ap (λ (y : asking.Asked). plain_asked y.answer) e, rw (never_zero r) (ap (λ (y : asking.Asked). y.routers) e))
-
-pub plain_heard-list : (given : HeardAnswer) (due : ℕ) (l : RouterList) (heard : hearing.Heard) → heard_as given due l ≡ heard
-    → (plain_heard given ≡ plain_heard heard.answer) × (list_after (eqb (plain_heard given).number 0) (plain_heard given).router due l ≡ heard.routers)
-plain_heard-list (heard.Router a) due l x e = (ap (λ (y : hearing.Heard). plain_heard y.answer) e, ap (λ (y : hearing.Heard). y.routers) e)
-plain_heard-list (heard.Refused r) due l x e = (ap (λ (y : hearing.Heard). plain_heard y.answer) e, rw (never_zero r) (ap (λ (y : hearing.Heard). y.routers) e))
 
 pub replaced-same : (h : Node) (k : ℕ) (l : List ℕ) (n t : ℕ)
     → let step : ReplacedStep = replaced_step (is_there h.both k) (service_of h (name_of k)) h.latest l n t in

@@ -12,6 +12,7 @@ mod sizes;
 pub mod steps;
 
 ghost use Rattle.std.specs.Prelude.{◌≡◌, length};
+ghost use Rattle.std.specs.Borrow.{sem};
 ghost use Rattle.asking.specs.declared.AskAnswer.TheVariants as asked;
 ghost use Rattle.header.specs.declared.wrap.Written.TheVariants as written;
 ghost use Rattle.hearing.specs.declared.HeardAnswer.TheVariants as heard;
@@ -30,13 +31,14 @@ ghost use Rattle.node.specs.Size.{path_size_of};
 ghost use Rattle.node.specs.declared.router_list.ListAnswer.TheVariants as replaced;
 ghost use Rattle.node.specs.declared.size.SizeAnswer.TheVariants as sized;
 ghost use Rattle.bogtrumpet.specs.Answers.{defaults_of, plain_received, plain_sized, plain_sent, plain_reported, plain_asked, plain_heard, plain_advertised};
+ghost use Rattle.bogtrumpet.specs.Lending.{LendsService};
 ghost use Rattle.bogtrumpet.specs.Numbered.{by_number, name_of, is_there};
 ghost use Rattle.bogtrumpet.specs.Plain.{bytes_of, advertisement_from};
 ghost use Rattle.bogtrumpet.specs.Reporting.{looked_in};
 ghost use Rattle.bogtrumpet.specs.Steps.{sent_step, sent_after};
 
 use answers::{Advertised, Asked, Heard, Received, Reported, Sent, Sized};
-use node::Node;
+use node::{Node, Service};
 use paths::rows;
 use plain::Advertisement;
 use reporting::ReportLook;
@@ -63,6 +65,7 @@ pub struct Addresses {
 }
 
 // The settings with the same locators, prefixes and routers, and defaults for the rest: Settings::new.
+#[tactic(auto, unfolding(crate::specs::Answers::defaults_of))]
 #[unsafe(no_mangle)]
 pub extern "C" fn bogtrumpet_defaults(settings: Settings) -> Settings
     ensures { result ≡ defaults_of settings }
@@ -82,6 +85,7 @@ pub extern "C" fn bogtrumpet_defaults(settings: Settings) -> Settings
 
 // A node of one service, with these settings, whatever stood there: Node::new. The answer is the number.
 #[unsafe(no_mangle)]
+#[tactic(auto, unfolding(crate::specs::Steps::made_step))]
 pub extern "C" fn bogtrumpet_new(node: &mut Node, settings: Settings) -> u8
     ensures { (result ≡ (setup_given (setup_of settings).answer).number)
         × (node.new ≡ (setup_of settings).node) }
@@ -93,6 +97,7 @@ pub extern "C" fn bogtrumpet_new(node: &mut Node, settings: Settings) -> u8
 
 // A node of two services, with the settings of each: Node::new_pair. The answer is the number.
 #[unsafe(no_mangle)]
+#[tactic(auto, unfolding(crate::specs::Steps::made_step))]
 pub extern "C" fn bogtrumpet_new_pair(node: &mut Node, first: Settings, second: Settings) -> u8
     ensures { (result ≡ (setup_given (setup_pair_of first second).answer).number)
         × (node.new ≡ (setup_pair_of first second).node) }
@@ -100,6 +105,18 @@ pub extern "C" fn bogtrumpet_new_pair(node: &mut Node, first: Settings, second: 
     let step = steps::made_pair(*node, first, second);
     *node = step.node;
     step.answer
+}
+
+// The service of a number, to be changed. A number above 1 reads as the second, and is then not there.
+fn named(node: &mut Node, service: u8) -> &mut Service
+    ensures* lends { sem 𝓛 (LendsService node.entry service result) }
+    ensures value { result.now ≡ service_of node.old (name_of service) }
+{
+    if service == 0 {
+        &mut node.first
+    } else {
+        &mut node.second
+    }
 }
 
 // Where the inner packet stands, in the datagram or in the memory: Node::receive. Of the node the latest time is written, and one place where a
@@ -118,26 +135,18 @@ pub extern "C" fn bogtrumpet_receive(
         × (node.new ≡ by_number service (λ w. (receive_of node.old w datagram.now interface time memory.old).node) (raised_to node.old time))
         × (memory.new ≡ by_number service (λ w. receive_memory node.old w datagram.now interface time memory.old) memory.old) }
 {
-    let named = if service == 0 {
-        &mut node.first
-    } else {
-        &mut node.second
-    };
+    let both = node.both;
+    let latest = node.latest;
+    let named = named(node, service);
     let step = steps::gathered(
-        *named,
-        node.both,
-        node.latest,
-        service,
-        datagram,
-        interface,
-        time,
-        memory,
+        *named, both, latest, service, datagram, interface, time, memory,
     );
     if step.piece {
         named.pieces.places[step.at] = step.place;
     }
+    let answer = steps::judged(*named, step);
     node.latest = step.latest;
-    steps::judged(*named, step)
+    answer
 }
 
 // The size in force for a service toward a neighbour: Node::path_size. The rows of the path table are lent to the search, so that none is
@@ -202,22 +211,11 @@ fn send_over(
         × (node.new ≡ sent_after node.old service path_size packet.now (bytes_of next_hop) locator time (length out.old))
         × (out.new ≡ sent_through (is_there node.old.both service) (service_of node.old (name_of service)) path_size packet.now (bytes_of next_hop) locator out.old) }
 {
-    let named = if service == 0 {
-        &mut node.first
-    } else {
-        &mut node.second
-    };
+    let both = node.both;
+    let latest = node.latest;
+    let named = named(node, service);
     let step = steps::sent(
-        *named,
-        node.both,
-        node.latest,
-        path_size,
-        service,
-        packet,
-        next_hop,
-        locator,
-        time,
-        out,
+        *named, both, latest, path_size, service, packet, next_hop, locator, time, out,
     );
     named.identification = step.identification;
     node.latest = step.latest;
@@ -291,12 +289,10 @@ pub extern "C" fn bogtrumpet_replace_routers(
     ensures { (result ≡ by_number service (λ w. (list_given (replace_of node.old w list.routers list.count time).answer).number) (list_given (replaced.Refused NoLocator)).number)
         × (node.new ≡ by_number service (λ w. (replace_of node.old w list.routers list.count time).node) (raised_to node.old time)) }
 {
-    let named = if service == 0 {
-        &mut node.first
-    } else {
-        &mut node.second
-    };
-    let step = steps::replaced(*named, node.both, node.latest, service, list, time);
+    let both = node.both;
+    let latest = node.latest;
+    let named = named(node, service);
+    let step = steps::replaced(*named, both, latest, service, list, time);
     named.routers = step.routers;
     node.latest = step.latest;
     step.answer
@@ -315,12 +311,10 @@ pub extern "C" fn bogtrumpet_ask(
         × (node.new ≡ by_number service (λ w. (ask_of node.old w locator time (length out.old)).node) (raised_to node.old time))
         × (out.new ≡ by_number service (λ w. ask_output node.old w locator time out.old) out.old) }
 {
-    let named = if service == 0 {
-        &mut node.first
-    } else {
-        &mut node.second
-    };
-    let step = steps::asked(*named, node.both, node.latest, service, locator, time, out);
+    let both = node.both;
+    let latest = node.latest;
+    let named = named(node, service);
+    let step = steps::asked(*named, both, latest, service, locator, time, out);
     if step.changed {
         named.routers = steps::rescheduled(*named, step.router, step.due);
     }
@@ -334,12 +328,10 @@ pub extern "C" fn bogtrumpet_hear(node: &mut Node, service: u8, packet: &[u8], t
     ensures { (result ≡ by_number service (λ w. plain_heard (hear_of node.old w packet.now time).answer) (plain_heard (heard.Refused NoLocator)))
         × (node.new ≡ by_number service (λ w. (hear_of node.old w packet.now time).node) (raised_to node.old time)) }
 {
-    let named = if service == 0 {
-        &mut node.first
-    } else {
-        &mut node.second
-    };
-    let step = steps::heard(*named, node.both, node.latest, service, packet, time);
+    let both = node.both;
+    let latest = node.latest;
+    let named = named(node, service);
+    let step = steps::heard(*named, both, latest, service, packet, time);
     if step.changed {
         named.routers = steps::rescheduled(*named, step.router, step.due);
     }

@@ -50,6 +50,7 @@ pub(crate) fn whole(a: [u8; 4], b: [u8; 4], c: [u8; 4], d: [u8; 4]) -> [u8; 16]
     ]
 }
 
+#[tactic(auto, unfolding(crate::specs::Plain::prefix_from))]
 fn prefix_from(p: Prefix) -> prefix::Prefix
     ensures { result ≡ prefix_from p }
 {
@@ -64,6 +65,7 @@ fn prefix_from(p: Prefix) -> prefix::Prefix
     }
 }
 
+#[tactic(auto, unfolding(crate::specs::Plain::preference_from))]
 fn preference_from(number: u8) -> Preference
     ensures { result ≡ preference_from «number» }
 {
@@ -76,6 +78,7 @@ fn preference_from(number: u8) -> Preference
     }
 }
 
+#[tactic(auto, unfolding(crate::specs::Plain::route_from))]
 fn route_from(r: Route) -> route::Route
     ensures { result ≡ route_from r }
 {

@@ -48,6 +48,7 @@ fn accepted(neighbour: u32, size: u16, look: Look, latest: u32) -> ReportLook
 }
 
 // Number 19.
+#[tactic(auto, unfolding(crate::specs::Reporting::looked_below))]
 fn below(neighbour: u32, size: u16, look: Look, latest: u32) -> ReportLook
     ensures { result ≡ looked_below neighbour size look latest }
 {
@@ -59,6 +60,7 @@ fn below(neighbour: u32, size: u16, look: Look, latest: u32) -> ReportLook
 }
 
 // At the later of the latest time and this one.
+#[tactic(auto, unfolding(crate::specs::Reporting::looked_among))]
 pub(crate) fn looked<'a>(
     first: Settings,
     second: Settings,

@@ -13,6 +13,7 @@ use node::size::SizeAnswer;
 use refusals::Refusal;
 
 // Toward a neighbour, at the latest time: paths::size_among.
+#[tactic(auto, unfolding(crate::specs::Steps::sized_step))]
 pub fn size_in_force<'a>(
     link: u16,
     both: u8,

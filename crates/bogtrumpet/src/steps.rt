@@ -86,6 +86,7 @@ pub struct HeardStep {
 }
 
 // What stood where the new node is to stand is not asked.
+#[tactic(auto, unfolding(crate::specs::Steps::made_step))]
 pub fn made(_: Node, settings: Settings) -> MadeStep
     ensures { result ≡ made_step (setup_of settings) }
 {
@@ -96,6 +97,7 @@ pub fn made(_: Node, settings: Settings) -> MadeStep
     MadeStep { answer, node }
 }
 
+#[tactic(auto, unfolding(crate::specs::Steps::made_step))]
 pub fn made_pair(_: Node, first: Settings, second: Settings) -> MadeStep
     ensures { result ≡ made_step (setup_pair_of first second) }
 {
@@ -158,6 +160,7 @@ pub(crate) fn gathered(
 }
 
 // What comes of it by the service as it is then: receiving::judging::judge.
+#[tactic(auto, unfolding(crate::specs::Gathered::judged_step))]
 pub(crate) fn judged(named: Service, step: GatheredStep) -> Received
     ensures { result ≡ judged_step named step }
 {
@@ -185,6 +188,7 @@ pub(crate) fn judged(named: Service, step: GatheredStep) -> Received
 }
 
 // A sending over a path of that size: node::send::sent_by.
+#[tactic(auto, unfolding(crate::specs::Steps::sent_step))]
 pub fn sent(
     named: Service,
     both: u8,
@@ -217,6 +221,7 @@ pub fn sent(
 }
 
 // A new router list: node::router_list::replaced_by.
+#[tactic(auto, unfolding(crate::specs::Steps::replaced_step))]
 pub fn replaced(
     named: Service,
     both: u8,

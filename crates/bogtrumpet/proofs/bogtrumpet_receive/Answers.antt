@@ -1,0 +1,23 @@
+-- Where a piece comes to the collection of the service one place is stored, and the answer is judged by the service that is left.
+use Rattle.std.proofs.Common.{◌≡◌, ◌∙◌}
+use Rattle.node.specs.Node.{service_of}
+use Rattle.bogtrumpet.specs.Gathered.{gathered_after}
+use Rattle.bogtrumpet.specs.Numbered.{name_of}
+use Rattle.bogtrumpet.proofs.Same.{received-same}
+use Rattle.bogtrumpet.proofs.bogtrumpet_receive.Goals as goal
+use Rattle.bogtrumpet.proofs.bogtrumpet_receive.Goals.{then-step, else-step}
+
+pub returns : goal.returns
+returns c =
+    let a = c.args in
+    let h = a.node.now in
+    let step = c.gathered-step.result in
+    let told = rw c.named-named.ensures.value at c.gathered-step.ensures.0 in
+    let stored = rw c.named-named.ensures.value at c.gathered-step.ensures.1 in
+    let s = received-same h a.service a.datagram.now a.interface a.time a.memory.now step told in
+    let after : c.if-step.named ≡ gathered_after (service_of h (name_of a.service)) step =
+    elim c.if-step.branch [
+      | then-step b ↦ rw (b.named-is, b.if-step.true, c.named-named.ensures.value)
+      | else-step b ↦ rw (b.named-is, b.if-step.false, c.named-named.ensures.value)
+    ] in
+    (c.judged-answer.ensures ∙ rw after s.0, rw (after, told.at-time) s.1, stored ∙ s.2)
