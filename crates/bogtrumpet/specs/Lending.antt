@@ -1,4 +1,4 @@
--- The service of a number, lent to be changed: what is left there is that service of the node.
+-- The service of a number, lent to be changed: what is left there is that service of the node. Only functions of the crate's own cite this.
 use Rattle.std.specs.Prelude.{ℕ}
 use Rattle.std.specs.Borrow.{Lends, MutBor, Fml}
 use Rattle.node.specs.Node.{pick}
