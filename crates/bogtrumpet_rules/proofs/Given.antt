@@ -1,11 +1,10 @@
 -- A plain answer read back has the number and values (R1.17) of the writer's, or of comparing. Assumes nothing.
-use mathlib.Core.Path.{◌≡◌, refl}
-use mathlib.Core.List.{[], ◌∷◌}
+use Rattle.std.specs.Prelude.{◌≡◌, refl, [], ◌∷◌}
 use Rattle.header.specs.Wrap.{written_given}
 use Rattle.header.specs.declared.wrap.Written.{Written}
 use Rattle.header.specs.declared.wrap.Written.TheVariants.{Length, Refused}
 use Rattle.refusals.proofs.Numbers.{refused-back}
-use Rattle.comparing.specs.Given.{compared_given, more_number}
+use Rattle.comparing.specs.Given.{compared_given}
 use Rattle.comparing.specs.declared.Compared as comparing
 use Rattle.comparing.specs.declared.Compared.TheVariants as compared
 use Rattle.bogtrumpet_rules.specs.Answers.{plain_written}
