@@ -52,6 +52,7 @@ fn plain_embedded(embedded: address::Embedded) -> Embedded
 }
 
 // The IPv4 address of an ISATAP address, under fe80::/64 or one of the prefixes: address::isatap.
+#[tactic(auto, unfolding(crate::specs::Answers::isatap_in))]
 #[unsafe(no_mangle)]
 pub extern "C" fn bogtrumpet_isatap(on_link: Prefixes, a: Address) -> Embedded
     ensures { result ≡ isatap_in on_link a }
@@ -62,6 +63,7 @@ pub extern "C" fn bogtrumpet_isatap(on_link: Prefixes, a: Address) -> Embedded
 }
 
 // The link-local ISATAP address of an IPv4 address: address::link_local.
+#[tactic(auto, unfolding(crate::specs::Answers::link_local_in))]
 #[unsafe(no_mangle)]
 pub extern "C" fn bogtrumpet_link_local(a: u32) -> Address
     ensures { result ≡ link_local_in a }

@@ -30,6 +30,7 @@ pub struct Received {
 }
 
 // The header's length in bytes by its first byte.
+#[tactic(auto, unfolding(header::specs::Outer::outer_of))]
 fn header_length(d: &[u8]) -> u16
     ensures { result ≡ (outer_of d.now).header }
 {
@@ -61,6 +62,7 @@ fn plain_outer(read: outer::OuterRead, header: u16, total: u16) -> OuterRead
 }
 
 // The outer header of a datagram, or the first of the numbers 2 to 5: header::outer::read_outer.
+#[tactic(auto, unfolding(crate::specs::Headers::outer_in, header::specs::Outer::outer_of))]
 #[unsafe(no_mangle)]
 pub extern "C" fn bogtrumpet_read_outer(d: &[u8]) -> OuterRead
     ensures { result ≡ outer_in d.now }
@@ -83,6 +85,7 @@ fn refused(refusal: Refusal) -> Received
 }
 
 // What comes of a datagram whose outer header is right.
+#[tactic(auto, unfolding(crate::specs::Headers::opened_in))]
 fn open(d: &[u8], o: Outer) -> Received
     ensures { result ≡ opened_in d.now o }
 {
@@ -100,6 +103,7 @@ fn open(d: &[u8], o: Outer) -> Received
 }
 
 // The inner packet of a datagram by the numbers 2 to 5 and 8 alone: header::outer and header::inner.
+#[tactic(auto, unfolding(crate::specs::Headers::unwrapped_in))]
 #[unsafe(no_mangle)]
 pub extern "C" fn bogtrumpet_unwrap(d: &[u8]) -> Received
     ensures { result ≡ unwrapped_in d.now }
