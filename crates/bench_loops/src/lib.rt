@@ -19,6 +19,7 @@ pub struct Address {
 
 // Of four parts of a size, one behind the other, the one of turn i: they come in turn, so that no turn repeats the last one. A size
 // that does not fit four times is read as the longest that does.
+#[tactic(auto, unfolding(crate::specs::Loops::part_at))]
 fn part_at(all: &[u8], size: usize, i: u32) -> &[u8]
     ensures { result.now ≡ part_at all.now size i }
 {
@@ -66,6 +67,7 @@ pub extern "C" fn bench_checksum(start: u32, bytes: &[u8], size: usize, count: u
 
 // uint64_t bench_receive(struct bogtrumpet_node n, const uint8_t *datagrams, size_t length, size_t size, uint8_t interface, uint32_t time, uint8_t *memory, size_t room, uint32_t count);
 // Four datagrams of a size by turns, all at one time: Node::receive. They may be whole, or the pieces of one.
+#[tactic(auto, unfolding(crate::specs::Loops::received_more))]
 #[unsafe(no_mangle)]
 pub extern "C" fn bench_receive(
     n: Node,
@@ -137,6 +139,7 @@ pub extern "C" fn bench_send(
 
 // uint64_t bench_lookup(struct bogtrumpet_paths table, uint16_t link, uint32_t first, uint32_t count, uint32_t now);
 // The sum of the sizes in force toward count neighbours: first, first + 1, ..
+#[tactic(auto, unfolding(paths::specs::Table::kept_in))]
 #[unsafe(no_mangle)]
 pub extern "C" fn bench_lookup(table: PathTable, link: u16, first: u32, count: u32, now: u32) -> u64
     ensures { result ≡ sizes_toward table link first now count }
