@@ -1,9 +1,0 @@
--- `bogtrumpet_rules::writers::bogtrumpet_solicitation` meets its contract: the answer of the call made plain, and its output.
-use mathlib.Core.Path.{◌∙◌}
-use Rattle.bogtrumpet_rules.proofs.writers.bogtrumpet_solicitation.Goals as goal
-
-pub returns : goal.returns
-returns c = let w = c.solicitation.ensures in record {
-  value = rw (c.plain_written.ensures, w.value);
-  out_after = w.out_after ∙ rw (c.link_local-to.ensures, c.link_local-from.ensures);
-}
