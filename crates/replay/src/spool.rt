@@ -1,5 +1,6 @@
 // Standard input, kept in a file without a name: it is read twice, is longer than a small stack has room for, and may be a pipe.
 ghost use Rattle.std.specs.Prelude.{◌≤◌};
+ghost use Rattle.std.specs.Str.{IsUtf8};
 
 use header::fields;
 use std::fs::{File, OpenOptions};
@@ -59,21 +60,27 @@ fn unnamed(rt: &HostRuntime) -> io::Result<File> {
 fn made(rt: &HostRuntime) -> io::Result<File> {
     let mut number = [0u8; 4];
     rt.fill_bytes(&mut number)?;
+    let bytes = name_of(fields::quad(&number, 0));
+    let Ok(name) = str::from_utf8(&bytes) else {
+        unreachable!()
+    };
+    let file = OpenOptions::new()
+        .read(true)
+        .write(true)
+        .create_new(true)
+        .mode(0o600)
+        .open(rt, name)?;
+    let _ = fs::remove_file(rt, name);
+    Ok(file)
+}
+
+// The bytes of the file's name, with a number in it.
+fn name_of(number: u32) -> [u8; 20]
+    ensures { IsUtf8 result }
+{
     let mut bytes = *b"/tmp/replay-00000000";
-    text::put_hexadecimal(fields::quad(&number, 0), &mut bytes, NUMBER);
-    match str::from_utf8(&bytes) {
-        Ok(name) => {
-            let file = OpenOptions::new()
-                .read(true)
-                .write(true)
-                .create_new(true)
-                .mode(0o600)
-                .open(rt, name)?;
-            let _ = fs::remove_file(rt, name);
-            Ok(file)
-        }
-        Err(_) => Err(io::Error::from(ErrorKind::InvalidInput)),
-    }
+    text::put_hexadecimal(number, &mut bytes, NUMBER);
+    bytes
 }
 
 // Copies standard input, block by block.
