@@ -1,5 +1,5 @@
 // The path size in force, of a path table whose rows are lent, for a service, the size of whose link is handed. Both functions have the same
-// parameters before the neighbour: one walk proves their callers.
+// parameters before the neighbour.
 ghost use Rattle.std.specs.Prelude.{◌≡◌, max};
 ghost use Rattle.address.specs.Address.{last_quad};
 ghost use Rattle.paths.specs.Kept.{in_force};
