@@ -50,13 +50,6 @@ pub(crate) type Memories = [u8; MEMORIES];
 // The space for outputs: no room is longer.
 pub(crate) type Space = [u8; 65536];
 
-// The index behind a call's line, and the next node.
-#[derive(Clone, Copy)]
-pub(crate) struct Made {
-    pub(crate) end: usize,
-    pub(crate) node: Node,
-}
-
 // Whether the call answers a solicitation, of a service that there is. The other functions on a whole call take one that does not.
 pub(crate) fn answers_another(c: &[u8]) -> bool {
     (fields::byte(c, 0) == ADVERTISE) & service_known(fields::byte(c, 1))
@@ -133,22 +126,22 @@ fn counted(c: &[u8], k: u8) -> &[u8] {
 
 // Of the service's memory as many bytes are lent as the call says.
 pub(crate) fn receive(
-    node: Node,
+    node: &mut Node,
     c: &[u8],
     memory: &mut Memories,
     at: usize,
     text: &mut Text,
-) -> Made {
+) -> usize {
     receive_in(node, c, memory, at, text)
 }
 
-fn receive_in(node: Node, c: &[u8], memory: &mut [u8], at: usize, text: &mut Text) -> Made {
+fn receive_in(node: &mut Node, c: &[u8], memory: &mut [u8], at: usize, text: &mut Text) -> usize {
     let from = lists::least(memory_at(c), memory.len());
     let end = lists::least(from + fields::word(c, 7) as usize, memory.len());
     receive_with(node, c, &mut memory[from..end], at, text)
 }
 
-fn receive_with(node: Node, c: &[u8], memory: &mut [u8], at: usize, text: &mut Text) -> Made {
+fn receive_with(node: &mut Node, c: &[u8], memory: &mut [u8], at: usize, text: &mut Text) -> usize {
     let received = node.receive(
         service_of(c),
         counted(c, 9),
@@ -158,8 +151,8 @@ fn receive_with(node: Node, c: &[u8], memory: &mut [u8], at: usize, text: &mut T
     );
     let answer = received.answer;
     let end = answers::receive(answer, memory, at, text);
-    let next = received.node;
-    Made { end, node: next }
+    *node = received.node;
+    end
 }
 
 // No call of the node: all of the service's memory as it stands.
@@ -179,25 +172,37 @@ pub(crate) fn part(node: Node, c: &[u8], at: usize, text: &mut Text) -> usize {
     )
 }
 
-pub(crate) fn send(node: Node, c: &[u8], space: &mut Space, at: usize, text: &mut Text) -> Made {
+pub(crate) fn send(
+    node: &mut Node,
+    c: &[u8],
+    space: &mut Space,
+    at: usize,
+    text: &mut Text,
+) -> usize {
     send_in(node, c, space, at, text)
 }
 
-fn send_in(node: Node, c: &[u8], space: &mut [u8], at: usize, text: &mut Text) -> Made {
+fn send_in(node: &mut Node, c: &[u8], space: &mut [u8], at: usize, text: &mut Text) -> usize {
     let room = lists::least(fields::word(c, 23) as usize, space.len());
     send_to(node, c, &mut space[..room], at, text)
 }
 
-pub(crate) fn ask(node: Node, c: &[u8], space: &mut Space, at: usize, text: &mut Text) -> Made {
+pub(crate) fn ask(
+    node: &mut Node,
+    c: &[u8],
+    space: &mut Space,
+    at: usize,
+    text: &mut Text,
+) -> usize {
     ask_in(node, c, space, at, text)
 }
 
-fn ask_in(node: Node, c: &[u8], space: &mut [u8], at: usize, text: &mut Text) -> Made {
+fn ask_in(node: &mut Node, c: &[u8], space: &mut [u8], at: usize, text: &mut Text) -> usize {
     let room = lists::least(fields::word(c, 7) as usize, space.len());
     ask_to(node, c, &mut space[..room], at, text)
 }
 
-fn send_to(node: Node, c: &[u8], out: &mut [u8], at: usize, text: &mut Text) -> Made {
+fn send_to(node: &mut Node, c: &[u8], out: &mut [u8], at: usize, text: &mut Text) -> usize {
     outputs::blank(out);
     let locator = fields::byte(c, 2) as usize;
     let next_hop = fields::address(c, 7);
@@ -211,19 +216,19 @@ fn send_to(node: Node, c: &[u8], out: &mut [u8], at: usize, text: &mut Text) -> 
     );
     let answer = sent.answer;
     let end = answers::send(answer, out, at, text);
-    let next = sent.node;
-    Made { end, node: next }
+    *node = sent.node;
+    end
 }
 
-pub(crate) fn report(node: Node, c: &[u8], at: usize, text: &mut Text) -> Made {
+pub(crate) fn report(node: &mut Node, c: &[u8], at: usize, text: &mut Text) -> usize {
     let reported = node.report(counted(c, 5), fields::quad(c, 1));
     let answer = reported.answer;
     let end = answers::report(answer, at, text);
-    let next = reported.node;
-    Made { end, node: next }
+    *node = reported.node;
+    end
 }
 
-pub(crate) fn routers(node: Node, c: &[u8], at: usize, text: &mut Text) -> Made {
+pub(crate) fn routers(node: &mut Node, c: &[u8], at: usize, text: &mut Text) -> usize {
     let list = fields::tail(c, 6);
     let count = section::count(list);
     let replaced = node.replace_routers(
@@ -234,11 +239,11 @@ pub(crate) fn routers(node: Node, c: &[u8], at: usize, text: &mut Text) -> Made 
     );
     let answer = replaced.answer;
     let end = answers::routers(answer, count, at, text);
-    let next = replaced.node;
-    Made { end, node: next }
+    *node = replaced.node;
+    end
 }
 
-fn ask_to(node: Node, c: &[u8], out: &mut [u8], at: usize, text: &mut Text) -> Made {
+fn ask_to(node: &mut Node, c: &[u8], out: &mut [u8], at: usize, text: &mut Text) -> usize {
     outputs::blank(out);
     let asked = node.ask(
         service_of(c),
@@ -248,16 +253,16 @@ fn ask_to(node: Node, c: &[u8], out: &mut [u8], at: usize, text: &mut Text) -> M
     );
     let answer = asked.answer;
     let end = answers::ask(answer, out, at, text);
-    let next = asked.node;
-    Made { end, node: next }
+    *node = asked.node;
+    end
 }
 
-pub(crate) fn advertisement(node: Node, c: &[u8], at: usize, text: &mut Text) -> Made {
+pub(crate) fn advertisement(node: &mut Node, c: &[u8], at: usize, text: &mut Text) -> usize {
     let heard = node.hear(service_of(c), counted(c, 6), fields::quad(c, 2));
     let answer = heard.answer;
     let end = answers::advertisement(answer, at, text);
-    let next = heard.node;
-    Made { end, node: next }
+    *node = heard.node;
+    end
 }
 
 // Answers the solicitation behind its length. An output is lent from the space.

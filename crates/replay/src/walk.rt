@@ -55,8 +55,8 @@ pub(crate) fn make(rt: &HostRuntime, task: Task<'_>, window: &mut Window) {
     made(rt, task, window, &mut out, &mut memory, &mut text);
 }
 
-// A call is made here, and not in a function between, to which the node would be copied, and back. One that does not change it comes
-// last, but for the shortest.
+// The node is lent to each call that changes it, which puts the next one in its place. A call that does not change it comes last, but for the
+// shortest.
 fn made(
     rt: &HostRuntime,
     task: Task<'_>,
@@ -74,29 +74,17 @@ fn made(
         if kind == calls::SIZE {
             walk.end = calls::size(node, c, walk.end, text);
         } else if kind == calls::RECEIVE {
-            let made = calls::receive(node, c, memory, walk.end, text);
-            node = made.node;
-            walk.end = made.end;
+            walk.end = calls::receive(&mut node, c, memory, walk.end, text);
         } else if kind == calls::SEND {
-            let made = calls::send(node, c, out, walk.end, text);
-            node = made.node;
-            walk.end = made.end;
+            walk.end = calls::send(&mut node, c, out, walk.end, text);
         } else if kind == calls::REPORT {
-            let made = calls::report(node, c, walk.end, text);
-            node = made.node;
-            walk.end = made.end;
+            walk.end = calls::report(&mut node, c, walk.end, text);
         } else if kind == calls::ROUTERS {
-            let made = calls::routers(node, c, walk.end, text);
-            node = made.node;
-            walk.end = made.end;
+            walk.end = calls::routers(&mut node, c, walk.end, text);
         } else if kind == calls::ASK {
-            let made = calls::ask(node, c, out, walk.end, text);
-            node = made.node;
-            walk.end = made.end;
+            walk.end = calls::ask(&mut node, c, out, walk.end, text);
         } else if kind == calls::ADVERTISEMENT {
-            let made = calls::advertisement(node, c, walk.end, text);
-            node = made.node;
-            walk.end = made.end;
+            walk.end = calls::advertisement(&mut node, c, walk.end, text);
         } else {
             walk = walk.told(node, task.spool, window, out, memory, text);
         }
