@@ -85,26 +85,24 @@ pub extern "C" fn bogtrumpet_defaults(settings: Settings) -> Settings
 
 // A node of one service, with these settings, whatever stood there: Node::new. The answer is the number.
 #[unsafe(no_mangle)]
-#[tactic(auto, unfolding(crate::specs::Steps::made_step))]
 pub extern "C" fn bogtrumpet_new(node: &mut Node, settings: Settings) -> u8
     ensures { (result ≡ (setup_given (setup_of settings).answer).number)
         × (node.new ≡ (setup_of settings).node) }
 {
-    let step = steps::made(*node, settings);
-    *node = step.node;
-    step.answer
+    let setup = Node::new(settings);
+    *node = setup.node;
+    setup.answer.number()
 }
 
 // A node of two services, with the settings of each: Node::new_pair. The answer is the number.
 #[unsafe(no_mangle)]
-#[tactic(auto, unfolding(crate::specs::Steps::made_step))]
 pub extern "C" fn bogtrumpet_new_pair(node: &mut Node, first: Settings, second: Settings) -> u8
     ensures { (result ≡ (setup_given (setup_pair_of first second).answer).number)
         × (node.new ≡ (setup_pair_of first second).node) }
 {
-    let step = steps::made_pair(*node, first, second);
-    *node = step.node;
-    step.answer
+    let setup = Node::new_pair(first, second);
+    *node = setup.node;
+    setup.answer.number()
 }
 
 // The service of a number, to be changed. A number above 1 reads as the second, and is then not there.
