@@ -1,7 +1,7 @@
 // The node for C and Rust: its calls under C names over a pointer to the node, which is changed in place. A `&[u8]` is a pointer and
 // a length in C, and so is a `&mut [u8]`. A service is named by its number, 0 or 1; any other number gives 11, as a service does that the
 // node has not. A call that names one takes it by reference, so that neither is copied to be chosen, and hands it by value to a function of
-// `steps`; a setup hands over the node. What such a function answers of the node is stored. A size report is looked up over lent rows.
+// `steps`; a setup stores the node that is made. What such a function answers of the node is stored. A size report is looked up over lent rows.
 #![tactic(auto)]
 
 pub mod answers;
