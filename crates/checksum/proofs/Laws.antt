@@ -31,7 +31,7 @@ unfolding folded
 folded-complement n m h = omega arith
 
 -- of 32 bits two turns of the fold leave no carry
-folded-twice : (n once : ℕ) → n < 2 ^ 32 → once ≡ carried n → carried once ≡ folded n
+pub folded-twice : (n once : ℕ) → n < 2 ^ 32 → once ≡ carried n → carried once ≡ folded n
 folded-twice n once h q = sym (folded-word (carried once) (omega arith)) ∙ folded_once once ∙ ap folded q ∙ folded_once n
 
 -- a sum of two words in both halves: its upper half gets the carry out of the lower
