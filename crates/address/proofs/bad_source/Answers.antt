@@ -1,5 +1,4 @@
 -- `address::bad_source` meets its contract: the four numbers have the address's bytes.
-use borrow.Author.Rules.{rules}
 use native.Mathlib.Omega.{arith}
 use Rattle.address.proofs.Bytes.{last-number}
 use Rattle.address.proofs.bad_source.Goals as goal

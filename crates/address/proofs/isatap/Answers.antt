@@ -1,5 +1,4 @@
 -- `address::isatap` meets its contract: the four numbers have the address's bytes.
-use borrow.Author.Rules.{rules}
 use Rattle.address.proofs.isatap.Goals as goal
 
 pub returns : goal.returns

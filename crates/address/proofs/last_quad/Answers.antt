@@ -1,6 +1,4 @@
 -- `address::last_quad` meets its contract: the last four bytes are put together.
-use borrow.Author.Rules.{rules}
-use native.Mathlib.Omega.{arith}
 use Rattle.address.specs.Address.{last_quad}
 use Rattle.address.proofs.last_quad.Goals as goal
 

@@ -1,6 +1,5 @@
 -- `address::link_local` meets its contract: the bytes are the definition.
 use borrow.Author.Rules.{rules}
-use native.Mathlib.Omega.{arith}
 use Rattle.address.specs.Address.{link_local_of}
 use Rattle.address.proofs.link_local.Goals as goal
 

@@ -1,5 +1,4 @@
 -- `address::link_local_prefixed` meets its contract: the four numbers have the address's bytes.
-use borrow.Author.Rules.{rules}
 use Rattle.address.proofs.link_local_prefixed.Goals as goal
 
 pub returns : goal.returns

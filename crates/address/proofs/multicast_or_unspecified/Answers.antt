@@ -1,5 +1,4 @@
 -- `address::multicast_or_unspecified` meets its contract: the four numbers have the address's bytes.
-use borrow.Author.Rules.{rules}
 use Rattle.address.proofs.multicast_or_unspecified.Goals as goal
 
 pub returns : goal.returns

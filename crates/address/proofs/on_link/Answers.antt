@@ -1,5 +1,4 @@
 -- `address::on_link` meets its contract: the four numbers have the address's bytes.
-use borrow.Author.Rules.{rules}
 use Rattle.address.proofs.on_link.Goals as goal
 
 pub returns : goal.returns

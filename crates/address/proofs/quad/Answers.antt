@@ -1,5 +1,4 @@
 -- `address::quad` meets its contract: the bytes of the machine's number, exchanged, are in their order.
-use borrow.Author.Rules.{rules}
 use Rattle.address.proofs.quad.Goals as goal
 
 pub returns : goal.returns

@@ -1,5 +1,4 @@
 -- `address::prefixes::rows` meets its contract: each row is read at its place.
-use native.Mathlib.Omega.{arith}
 use Rattle.address.specs.Prefixes.{rows_of}
 use Rattle.address.proofs.prefixes.rows.Goals as goal
 

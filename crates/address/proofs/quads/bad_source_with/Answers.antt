@@ -1,5 +1,4 @@
 -- `address::quads::bad_source_with` meets its contract: each call gives its part of the test.
-use borrow.Author.Rules.{rules}
 use native.Mathlib.Omega.{arith}
 use Rattle.address.specs.Address.{is_bad_source_with}
 use Rattle.address.proofs.Bytes.{last-number}

@@ -1,5 +1,4 @@
 -- `address::quads::isatap` meets its contract: both tests decide, and the address is read out.
-use borrow.Author.Rules.{rules}
 use native.Mathlib.Omega.{arith}
 use mathlib.Core.Bool.{and-false}
 use Rattle.address.specs.Address.{embedded_in}

@@ -1,5 +1,4 @@
 -- `address::quads::multicast_or_unspecified` meets its contract: the call gives its part of the test.
-use borrow.Author.Rules.{rules}
 use Rattle.address.specs.Address.{is_multicast_or_unspecified}
 use Rattle.address.specs.Quads.{bytes_in}
 use Rattle.address.proofs.quads.multicast_or_unspecified.Goals as goal

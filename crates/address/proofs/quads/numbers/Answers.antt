@@ -1,5 +1,5 @@
 -- `address::quads::numbers` meets its contract: each number is put together of its bytes, and gives them back.
-use borrow.Author.Rules.{rules, elem_Fits}
+use borrow.Author.Rules.{elem_Fits}
 use native.Mathlib.Omega.{arith}
 use Prim.Native.Nat.{ℕ}
 use mathlib.Core.Path.{◌≡◌, ap, ◌∙◌}

@@ -1,11 +1,9 @@
 -- `address::quads::on_link` meets its contract: none of the prefixes passed fits, so what is left to ask is the rest of them.
-use borrow.Author.Rules.{rules}
 use native.Mathlib.Omega.{arith}
-use Prim.Native.Nat.{◌≤◌, ◌-◌, min}
+use Prim.Native.Nat.{min}
 use mathlib.Core.Path.{◌≡◌, sym, ◌∙◌}
 use mathlib.Core.List.{[]}
-use lib.ListN.{take, drop, length}
-use Rattle.lists.specs.Any.{any_of}
+use lib.ListN.{length}
 use Rattle.lists.proofs.AnyLaws.{any_here, any-later, front-end}
 use Rattle.lists.proofs.Parts.{take-least}
 use Rattle.address.specs.Address.{is_under, is_on_link}

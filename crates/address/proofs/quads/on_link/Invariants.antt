@@ -1,13 +1,8 @@
 -- `address::quads::on_link` meets its contract: none of the prefixes passed fits, so what is left to ask is the rest of them.
-use borrow.Author.Rules.{rules}
-use native.Mathlib.Omega.{arith}
-use Prim.Native.Nat.{◌≤◌, ◌-◌, min}
-use mathlib.Core.Path.{◌≡◌, sym, ◌∙◌}
-use mathlib.Core.List.{[]}
-use lib.ListN.{take, drop, length}
+use Prim.Native.Nat.{◌≤◌, ◌-◌}
+use mathlib.Core.Path.{◌≡◌}
+use lib.ListN.{take, drop}
 use Rattle.lists.specs.Any.{any_of}
-use Rattle.lists.proofs.AnyLaws.{any_here, any-later, front-end}
-use Rattle.lists.proofs.Parts.{take-least}
 use Rattle.address.specs.Address.{is_under, is_on_link}
 use Rattle.address.specs.Quads.{bytes_in}
 use Rattle.address.proofs.quads.on_link.Given as goal

@@ -1,5 +1,5 @@
 -- `address::quads::under` meets its contract: two numbers are the eight bytes.
-use borrow.Author.Rules.{rules, elem_Fits}
+use borrow.Author.Rules.{elem_Fits}
 use native.Mathlib.Omega.{arith}
 use Prim.Native.Nat.{ℕ}
 use lib.ListN.{get_or}

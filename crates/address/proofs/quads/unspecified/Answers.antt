@@ -1,5 +1,4 @@
 -- `address::quads::unspecified` meets its contract: the call gives its part of the test.
-use borrow.Author.Rules.{rules}
 use native.Mathlib.Omega.{arith}
 use Rattle.address.proofs.Bytes.{last-number}
 use Rattle.address.proofs.quads.unspecified.Goals as goal

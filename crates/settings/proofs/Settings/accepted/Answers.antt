@@ -1,5 +1,4 @@
 -- `settings::Settings::accepted` meets its contract: each call gives its part of the test.
-use native.Mathlib.Omega.{arith}
 use Rattle.settings.specs.Settings.{is_accepted}
 use Rattle.settings.proofs.Settings.accepted.Goals as goal
 

@@ -1,5 +1,4 @@
 -- `settings::Settings::accepted_with` meets its contract: each call gives its part of the test.
-use native.Mathlib.Omega.{arith}
 use Rattle.settings.specs.Settings.{are_pair_accepted}
 use Rattle.settings.proofs.Settings.accepted_with.Goals as goal
 

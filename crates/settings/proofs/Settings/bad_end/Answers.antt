@@ -1,5 +1,4 @@
 -- `settings::Settings::bad_end` meets its contract: each call gives its part of the test.
-use native.Mathlib.Omega.{arith}
 use Rattle.settings.specs.Settings.{is_bad_end}
 use Rattle.settings.proofs.Settings.bad_end.Goals as goal
 

@@ -1,5 +1,4 @@
 -- `settings::Settings::forbidden_to` meets its contract: it is the plain set.
-use native.Mathlib.Omega.{arith}
 use Rattle.settings.specs.Settings.{forbidden_to}
 use Rattle.settings.proofs.Settings.forbidden_to.Goals as goal
 

@@ -1,6 +1,5 @@
 -- `settings::Settings::locator` meets its contract: the locators that count are asked.
 use Rattle.settings.specs.Settings.{locator_of}
-use native.Mathlib.Omega.{arith}
 use Rattle.settings.proofs.Settings.locator.Goals as goal
 
 pub returns : goal.returns

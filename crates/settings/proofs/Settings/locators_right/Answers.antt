@@ -1,5 +1,4 @@
 -- `settings::Settings::locators_right` meets its contract: each call gives its part of the test.
-use native.Mathlib.Omega.{arith}
 use Rattle.settings.specs.Settings.{are_locators_right}
 use Rattle.settings.proofs.Settings.locators_right.Goals as goal
 

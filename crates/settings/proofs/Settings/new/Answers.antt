@@ -1,5 +1,4 @@
 -- `settings::Settings::new` meets its contract: the reporting address is formed of locator 0.
-use native.Mathlib.Omega.{arith}
 use Rattle.settings.specs.Settings.{defaults_for}
 use Rattle.settings.proofs.Settings.new.Goals as goal
 

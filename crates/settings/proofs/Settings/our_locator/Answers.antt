@@ -1,5 +1,4 @@
 -- `settings::Settings::our_locator` meets its contract: the locators that count are asked.
-use native.Mathlib.Omega.{arith}
 use Rattle.settings.specs.Settings.{is_our_locator}
 use Rattle.settings.proofs.Settings.our_locator.Goals as goal
 

@@ -1,5 +1,4 @@
 -- `settings::Settings::ours` meets its contract: the locators that count are asked.
-use native.Mathlib.Omega.{arith}
 use Rattle.settings.specs.Settings.{is_ours}
 use Rattle.settings.proofs.Settings.ours.Goals as goal
 

@@ -1,5 +1,4 @@
 -- `settings::Settings::routers_right` meets its contract: each call gives its part of the test.
-use native.Mathlib.Omega.{arith}
 use Rattle.settings.specs.Settings.{are_routers_right}
 use Rattle.settings.proofs.Settings.routers_right.Goals as goal
 

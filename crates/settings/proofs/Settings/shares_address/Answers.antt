@@ -1,17 +1,12 @@
 -- `settings::Settings::shares_address` meets its contract: what is left to ask is the rest of its locators.
-use borrow.Author.Rules.{rules}
 use native.Mathlib.Omega.{arith}
-use Prim.Native.Nat.{◌-◌}
 use mathlib.Core.Path.{◌≡◌, refl, ◌∙◌}
-use mathlib.Core.Bool.{Bool, ◌||◌}
-use lib.ListN.{take, drop, length}
+use lib.ListN.{length}
 use Rattle.lists.specs.Any.{any_of}
 use Rattle.lists.proofs.AnyLaws.{any_turn, loop-end}
 use Rattle.lists.proofs.Parts.{unmapped}
 use Rattle.settings.specs.Locators.{no_locator}
-use Rattle.settings.specs.Settings.{is_ours, share_address}
-use Rattle.settings.specs.declared.Settings.{Settings}
-use Rattle.settings.specs.declared.locators.Locator.{Locator}
+use Rattle.settings.specs.Settings.{share_address}
 use Rattle.settings.proofs.Settings.shares_address.Invariants.{shared}
 use Rattle.settings.proofs.Settings.shares_address.Goals as goal
 

@@ -1,10 +1,7 @@
 -- `settings::Settings::some_locator_forbidden` meets its contract: what is left to ask is the rest of the locators.
-use borrow.Author.Rules.{rules}
 use native.Mathlib.Omega.{arith}
-use Prim.Native.Nat.{◌-◌}
 use mathlib.Core.Path.{◌≡◌, refl, ◌∙◌}
-use mathlib.Core.Bool.{◌||◌}
-use lib.ListN.{take, drop, length}
+use lib.ListN.{length}
 use Rattle.lists.specs.Any.{any_of}
 use Rattle.lists.proofs.AnyLaws.{any_turn, loop-end}
 use Rattle.lists.proofs.Parts.{unmapped}

@@ -1,14 +1,9 @@
 -- `settings::Settings::some_locator_forbidden` meets its contract: what is left to ask is the rest of the locators.
-use borrow.Author.Rules.{rules}
-use native.Mathlib.Omega.{arith}
 use Prim.Native.Nat.{◌-◌}
-use mathlib.Core.Path.{◌≡◌, refl, ◌∙◌}
+use mathlib.Core.Path.{◌≡◌}
 use mathlib.Core.Bool.{◌||◌}
-use lib.ListN.{take, drop, length}
+use lib.ListN.{take, drop}
 use Rattle.lists.specs.Any.{any_of}
-use Rattle.lists.proofs.AnyLaws.{any_turn, loop-end}
-use Rattle.lists.proofs.Parts.{unmapped}
-use Rattle.settings.specs.Locators.{no_locator}
 use Rattle.settings.specs.Settings.{is_forbidden_locator}
 use Rattle.settings.proofs.Settings.some_locator_forbidden.Given as goal
 

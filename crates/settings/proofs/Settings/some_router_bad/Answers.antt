@@ -1,10 +1,6 @@
 -- `settings::Settings::some_router_bad` meets its contract: what is left to ask is the rest of the routers.
-use borrow.Author.Rules.{rules}
 use native.Mathlib.Omega.{arith}
-use Prim.Native.Nat.{◌-◌}
-use mathlib.Core.Path.{◌≡◌, refl, ◌∙◌}
-use mathlib.Core.Bool.{◌||◌}
-use lib.ListN.{take, drop}
+use mathlib.Core.Path.{refl, ◌∙◌}
 use Rattle.lists.specs.Any.{any_of}
 use Rattle.lists.proofs.AnyLaws.{any_turn, loop-end}
 use Rattle.settings.specs.Settings.{is_bad_end}

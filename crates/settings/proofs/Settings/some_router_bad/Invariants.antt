@@ -1,12 +1,9 @@
 -- `settings::Settings::some_router_bad` meets its contract: what is left to ask is the rest of the routers.
-use borrow.Author.Rules.{rules}
-use native.Mathlib.Omega.{arith}
 use Prim.Native.Nat.{◌-◌}
-use mathlib.Core.Path.{◌≡◌, refl, ◌∙◌}
+use mathlib.Core.Path.{◌≡◌}
 use mathlib.Core.Bool.{◌||◌}
 use lib.ListN.{take, drop}
 use Rattle.lists.specs.Any.{any_of}
-use Rattle.lists.proofs.AnyLaws.{any_turn, loop-end}
 use Rattle.settings.specs.Settings.{is_bad_end}
 use Rattle.settings.proofs.Settings.some_router_bad.Given as goal
 

@@ -1,10 +1,8 @@
 -- `settings::locators::has_locator` meets its contract: none of the locators passed fits, so what is left to ask is the rest of them.
-use borrow.Author.Rules.{rules}
 use native.Mathlib.Omega.{arith}
-use Prim.Native.Nat.{◌-◌, min}
+use Prim.Native.Nat.{min}
 use mathlib.Core.Path.{◌≡◌, sym, ◌∙◌}
-use lib.ListN.{take, drop, length}
-use Rattle.lists.specs.Any.{any_of}
+use lib.ListN.{length}
 use Rattle.lists.proofs.AnyLaws.{any_here, any-later, front-end}
 use Rattle.lists.proofs.Parts.{take-least, unmapped}
 use Rattle.settings.specs.Locators.{no_locator, is_locator}

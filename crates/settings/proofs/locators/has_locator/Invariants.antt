@@ -1,14 +1,9 @@
 -- `settings::locators::has_locator` meets its contract: none of the locators passed fits, so what is left to ask is the rest of them.
-use borrow.Author.Rules.{rules}
-use native.Mathlib.Omega.{arith}
-use Prim.Native.Nat.{◌-◌, min}
-use mathlib.Core.Path.{◌≡◌, sym, ◌∙◌}
-use lib.ListN.{take, drop, length}
+use Prim.Native.Nat.{◌-◌}
+use mathlib.Core.Path.{◌≡◌}
+use lib.ListN.{take, drop}
 use Rattle.lists.specs.Any.{any_of}
-use Rattle.lists.proofs.AnyLaws.{any_here, any-later, front-end}
-use Rattle.lists.proofs.Parts.{take-least, unmapped}
-use Rattle.settings.specs.Locators.{no_locator, is_locator}
-use Rattle.settings.proofs.Pairs.{pairs-same, pairs-other}
+use Rattle.settings.specs.Locators.{is_locator}
 use Rattle.settings.proofs.locators.has_locator.Given as goal
 
 abbrev pub invariant-loop-i : goal.invariant-loop-i

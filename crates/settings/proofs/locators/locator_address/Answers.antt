@@ -1,5 +1,4 @@
 -- `settings::locators::locator_address` meets its contract: a locator is found by a number below the count.
-use native.Mathlib.Omega.{arith}
 use borrow.Author.Tests.{lt-ltb, le-ltb}
 use Rattle.settings.specs.Locators.{locator_found}
 use Rattle.settings.proofs.locators.locator_address.Goals as goal

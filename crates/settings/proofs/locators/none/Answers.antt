@@ -1,6 +1,5 @@
 -- `settings::locators::none` meets its contract: by cases.
 use Rattle.settings.specs.Locators.{is_no_locator}
-use borrow.Author.Rules.{rules}
 use Rattle.settings.proofs.locators.none.Goals as goal
 
 pub returns-in-Address : goal.returns-in-Address

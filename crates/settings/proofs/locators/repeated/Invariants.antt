@@ -1,14 +1,10 @@
 -- `settings::locators::repeated` meets its contract: what is left to ask is the rest of the locators.
-use borrow.Author.Rules.{rules}
-use native.Mathlib.Omega.{arith}
 use Prim.Native.Nat.{◌-◌}
-use mathlib.Core.Path.{◌≡◌, refl, ◌∙◌}
+use mathlib.Core.Path.{◌≡◌}
 use mathlib.Core.Bool.{◌||◌}
-use lib.ListN.{take, drop, length}
+use lib.ListN.{take, drop}
 use Rattle.lists.specs.Any.{twice}
-use Rattle.lists.proofs.AnyLaws.{twice_turn, loop-end}
-use Rattle.lists.proofs.Parts.{unmapped}
-use Rattle.settings.specs.Locators.{no_locator, same_locator}
+use Rattle.settings.specs.Locators.{same_locator}
 use Rattle.settings.proofs.locators.repeated.Given as goal
 
 abbrev pub invariant-loop-i : goal.invariant-loop-i
