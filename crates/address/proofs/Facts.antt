@@ -1,4 +1,5 @@
 -- The tests on addresses pass exactly if the facts hold. Assumes nothing.
+use Rattle.std.specs.Prelude.{Some, None}
 use Prim.Native.Nat.{ℕ, zero, suc, ◌<◌}
 use mathlib.Core.Path.{◌≡◌, refl, sym}
 use mathlib.Core.Logic.{◌⊎◌, inl, inr}
@@ -11,7 +12,6 @@ use borrow.Author.Tests.{eqb-true, eqb-false}
 use Rattle.lists.proofs.Decides.{Decides, decides_eq, decides_le, decides_or, decides_and, decides_any, decides_as, refutes}
 use Rattle.address.specs.Address.{is_forbidden, quad_of, last_quad, agree, is_under, link_local_prefix, is_link_local, is_on_link, is_identifier, embedded_in, are_zero, is_multicast, is_unspecified, is_multicast_or_unspecified, is_bad_source_with}
 use Rattle.address.specs.Facts.{Within, Forbidden, Under, LinkLocal, OnLink, Identifier, EndsWith, Isatap, ZeroBefore, Multicast, Unspecified, Loopback, ZeroThen, BadSource}
-use Rattle.address.specs.declared.Embedded.TheVariants.{Ipv4, Nothing}
 
 within : (low high a : ℕ) → Decides (leb low a && leb a high) (Within low high a)
 within low high a = decides_and _ _ (decides_le low a) (decides_le a high)
@@ -141,21 +141,21 @@ module _ (a : List ℕ) where
     both = decides_and _ _ (decides_on_link prefixes count) decides_identifier
 
     -- the address that is found is embedded
-    pub embedded-isatap : (v : ℕ) → embedded_in prefixes count a ≡ Ipv4 v → Isatap prefixes count a v
+    pub embedded-isatap : (v : ℕ) → embedded_in prefixes count a ≡ Some v → Isatap prefixes count a v
     unfolding embedded_in last_quad EndsWith
     embedded-isatap v h = go (is_on_link prefixes count a && is_identifier a) both h
       where
-        go : (t : Bool) → Decides t (OnLink prefixes count a × Identifier a) → cond t (Ipv4 (last_quad a)) Nothing ≡ Ipv4 v → Isatap prefixes count a v
+        go : (t : Bool) → Decides t (OnLink prefixes count a × Identifier a) → cond t (Some (last_quad a)) None ≡ Some v → Isatap prefixes count a v
         go true d h = let f = d.holds refl in record { on_link = f.0; identifier = f.1; embedded = cc }
         go false d h = let z : ◌≡◌ {A = ℕ} 0 1 = cc in absurd (omega arith)
 
     -- the IPv4 address that an ISATAP address embeds is found
-    pub isatap-embedded : (v : ℕ) → Isatap prefixes count a v → embedded_in prefixes count a ≡ Ipv4 v
+    pub isatap-embedded : (v : ℕ) → Isatap prefixes count a v → embedded_in prefixes count a ≡ Some v
     unfolding embedded_in last_quad EndsWith
     isatap-embedded v f = rw (both.passes (f.on_link, f.identifier), f.embedded)
 
     -- where none is embedded, none is found
-    pub none_found : ((v : ℕ) → Isatap prefixes count a v → ⊥) → embedded_in prefixes count a ≡ Nothing
+    pub none_found : ((v : ℕ) → Isatap prefixes count a v → ⊥) → embedded_in prefixes count a ≡ None
     unfolding embedded_in EndsWith
     none_found n =
         rw (refutes _ both (λ f. n (quad_of (get_or a 12 0) (get_or a 13 0) (get_or a 14 0) (get_or a 15 0)) (record { on_link = f.0; identifier = f.1; embedded = refl })))

@@ -1,8 +1,6 @@
 -- The rules on addresses. An IPv4 address is its number; an IPv6 address is the list of its sixteen bytes.
-use Rattle.std.specs.Prelude.{ℕ, zero, suc, ◌+◌, ◌*◌, ◌/◌, ◌%◌, Bool, true, cond, ◌&&◌, ◌||◌, List, [], ◌∷◌, get_or, take, eqb, leb}
+use Rattle.std.specs.Prelude.{ℕ, zero, suc, ◌+◌, ◌*◌, ◌/◌, ◌%◌, Bool, true, cond, ◌&&◌, ◌||◌, List, [], ◌∷◌, get_or, take, eqb, leb, Option, Some, None}
 use Rattle.lists.specs.Any.{any_of}
-use Rattle.address.specs.declared.Embedded.{Embedded}
-use Rattle.address.specs.declared.Embedded.TheVariants.{Ipv4, Nothing}
 
 -- four bytes as one number, big-endian
 abbrev pub quad_of : ℕ → ℕ → ℕ → ℕ → ℕ
@@ -51,8 +49,8 @@ is_identifier a =
     (eqb (get_or a 8 0) 0x00 || eqb (get_or a 8 0) 0x02) && eqb (get_or a 9 0) 0x00 && eqb (get_or a 10 0) 0x5E && eqb (get_or a 11 0) 0xFE
 
 -- R6.1: an ISATAP address has an on-link prefix, the identifier, and then the IPv4 address
-unfoldable pub embedded_in : List (List ℕ) → ℕ → List ℕ → Embedded
-embedded_in prefixes count a = cond (is_on_link prefixes count a && is_identifier a) (Ipv4 (last_quad a)) Nothing
+unfoldable pub embedded_in : List (List ℕ) → ℕ → List ℕ → Option ℕ
+embedded_in prefixes count a = cond (is_on_link prefixes count a && is_identifier a) (Some (last_quad a)) None
 
 -- R6.3: those we form have 00
 abbrev pub first_identifier_byte : ℕ

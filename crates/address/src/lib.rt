@@ -11,13 +11,6 @@ ghost use Rattle.address.specs.Address.{is_forbidden, quad_of, last_quad, is_lin
 // The first identifier byte of an address that we form.
 const FIRST_IDENTIFIER_BYTE: u8 = 0;
 
-// The IPv4 address that an IPv6 address embeds.
-#[derive(Clone, Copy)]
-pub enum Embedded {
-    Ipv4(u32),
-    Nothing,
-}
-
 // Whether no locator, router, outer source or tunnel end may have the address. Half of all addresses lie between 0.0.0.0 and 127.0.0.0, and
 // are told at once.
 pub fn forbidden(a: u32) -> bool
@@ -81,7 +74,7 @@ pub fn identifier(a: [u8; 16]) -> bool
 }
 
 // The IPv4 address of an ISATAP address.
-pub fn isatap(prefixes: [[u8; 8]; 8], count: usize, a: [u8; 16]) -> Embedded
+pub fn isatap(prefixes: [[u8; 8]; 8], count: usize, a: [u8; 16]) -> Option<u32>
     ensures { result ≡ embedded_in prefixes count a }
 {
     quads::isatap(prefixes, count, quads::numbers(a))

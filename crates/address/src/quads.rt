@@ -3,7 +3,7 @@ ghost use Rattle.std.specs.Prelude.{◌≡◌};
 ghost use Rattle.address.specs.Address.{is_under, is_link_local, is_on_link, is_identifier, embedded_in, are_zero, is_unspecified, is_multicast_or_unspecified, is_bad_source_with};
 ghost use Rattle.address.specs.Quads.{bytes_in, quads_of};
 
-use crate::{Embedded, quad};
+use crate::quad;
 
 // What stands before the embedded address: 00-00-5E-FE,
 const IDENTIFIER_00: u32 = 0x00005efe;
@@ -73,15 +73,15 @@ pub fn identifier(q: Quads) -> bool
 }
 
 // The IPv4 address of an ISATAP address.
-pub fn isatap(prefixes: [[u8; 8]; 8], count: usize, q: Quads) -> Embedded
+pub fn isatap(prefixes: [[u8; 8]; 8], count: usize, q: Quads) -> Option<u32>
     ensures { result ≡ embedded_in prefixes count (bytes_in q) }
 {
     if identifier(q) {
         if on_link(prefixes, count, q) {
-            return Embedded::Ipv4(q.last);
+            return Some(q.last);
         }
     }
-    Embedded::Nothing
+    None
 }
 
 // Whether the first 96 bits are 0.

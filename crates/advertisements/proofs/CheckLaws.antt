@@ -1,4 +1,5 @@
 -- When an advertisement is written, and how long it is. Assumes nothing.
+use Rattle.std.specs.Prelude.{Ok, Err}
 use Prim.Native.Nat.{ℕ, ◌+◌, ◌*◌, ◌≤◌, ◌<◌}
 use mathlib.Core.Path.{◌≡◌, ap}
 use mathlib.Core.Bool.{true, false, ◌||◌}
@@ -11,22 +12,21 @@ use lib.Seq.{length-take-le}
 use Rattle.lists.specs.Any.{any_of}
 use Rattle.lists.proofs.Tests.{or_left, or_right}
 use Rattle.refusals.specs.declared.Refusal.TheVariants.{OptionsBad, OutputShort}
-use Rattle.refusals.specs.declared.Check.TheVariants.{Pass, Stop}
 use Rattle.advertisements.specs.declared.route.Route.{Route}
 use Rattle.advertisements.specs.declared.Advertisement.{Advertisement}
 use Rattle.advertisements.specs.Advertisement.{prefixes_of, routes_of, is_prefix_too_long, is_route_too_long, are_options_bad, routes_length, advertisement_length, advertisement_check}
 use Rattle.advertisements.proofs.UnitLaws.{units_between}
 
 module _ (a : Advertisement) (room : ℕ) where
-  pub options_stop : are_options_bad a ≡ true → advertisement_check a room ≡ Stop OptionsBad
+  pub options_stop : are_options_bad a ≡ true → advertisement_check a room ≡ Err OptionsBad
   unfolding advertisement_check
   options_stop h = rw h
 
-  pub room_stop : are_options_bad a ≡ false → room < advertisement_length a → advertisement_check a room ≡ Stop OutputShort
+  pub room_stop : are_options_bad a ≡ false → room < advertisement_length a → advertisement_check a room ≡ Err OutputShort
   unfolding advertisement_check
   room_stop h k = rw (h, lt-ltb _ _ k)
 
-  pub both_pass : are_options_bad a ≡ false → advertisement_length a ≤ room → advertisement_check a room ≡ Pass
+  pub both_pass : are_options_bad a ≡ false → advertisement_length a ≤ room → advertisement_check a room ≡ Ok tt
   unfolding advertisement_check
   both_pass h k = rw (h, le-ltb _ _ k)
 

@@ -1,12 +1,11 @@
 -- The router advertisement that we write (R22): from what the operator sets, its packet byte for byte.
-use Rattle.std.specs.Prelude.{ℕ, ◌+◌, ◌*◌, Bool, ◌||◌, length, take, ltb}
+use Rattle.refusals.specs.declared.Refusal.{Refusal}
+use Rattle.std.specs.Prelude.{ℕ, ◌+◌, ◌*◌, Bool, ◌||◌, length, take, ltb, Result}
 use mathlib.Core.List.{List, [], ◌∷◌, ◌++◌, map, flatten}
 use Rattle.lists.specs.Any.{any_of}
 use Rattle.refusals.specs.Refusals.{first_of}
 use Rattle.refusals.specs.declared.Refusal.TheVariants.{OptionsBad, OutputShort}
-use Rattle.refusals.specs.declared.Check.{Check}
 use Rattle.header.specs.Wrap.{be16, be32, writer_answer, writer_output}
-use Rattle.header.specs.declared.wrap.Written.{Written}
 use Rattle.messages.specs.Icmp.{hop_limit, advertisement_type, message_headers, icmp_packet}
 use Rattle.options.specs.Options.{prefix_units, unit_bytes}
 use Rattle.advertisements.specs.Bits.{flag_bits}
@@ -69,11 +68,11 @@ unfoldable pub advertisement_length : Advertisement → ℕ
 advertisement_length a = message_headers + 8 + (length (prefixes_of a) * (prefix_units * unit_bytes) + routes_length (routes_of a))
 
 -- 26, then 15
-unfoldable pub advertisement_check : Advertisement → ℕ → Check
+unfoldable pub advertisement_check : Advertisement → ℕ → Result Unit Refusal
 advertisement_check a room = first_of ((are_options_bad a, OptionsBad) ∷ ((ltb room (advertisement_length a), OutputShort) ∷ []))
 
 -- the length written, or the refusal
-unfoldable pub advertisement_answer : Advertisement → ℕ → Written
+unfoldable pub advertisement_answer : Advertisement → ℕ → Result ℕ Refusal
 advertisement_answer a room = writer_answer (advertisement_check a room) (advertisement_length a)
 
 -- what stands in the output afterwards

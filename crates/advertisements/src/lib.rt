@@ -14,7 +14,6 @@ ghost use Rattle.header.specs.Wrap.{be32};
 ghost use Rattle.advertisements.specs.Advertisement.{is_prefix_too_long, is_route_too_long, are_options_bad, written_options, routes_of, routes_length, advertisement_length, advertisement_answer, advertisement_output};
 
 use header::fields;
-use header::wrap::Written;
 use lent::write_at;
 use messages::{HEADERS, HOP_LIMIT, ROUTER_ADVERTISEMENT};
 use prefix::{PREFIX_OPTION, Prefix};
@@ -192,16 +191,16 @@ fn write_rest(a: Advertisement, out: &mut [u8])
 }
 
 // Writes the advertisement, an IPv6 packet that is not wrapped.
-pub fn write(from: [u8; 16], to: [u8; 16], a: Advertisement, out: &mut [u8]) -> Written
+pub fn write(from: [u8; 16], to: [u8; 16], a: Advertisement, out: &mut [u8]) -> Result<usize, Refusal>
     ensures value { result ≡ advertisement_answer a (length out.old) }
     ensures out_after { out.new ≡ advertisement_output from to a out.old }
 {
     if options_bad(a) {
-        return Written::Refused(Refusal::OptionsBad);
+        return Err(Refusal::OptionsBad);
     }
     let n = advertisement_length(a);
     if out.len() < n {
-        return Written::Refused(Refusal::OutputShort);
+        return Err(Refusal::OutputShort);
     }
     write_rest(a, &mut out[HEADERS..]);
     let four = [
@@ -211,5 +210,5 @@ pub fn write(from: [u8; 16], to: [u8; 16], a: Advertisement, out: &mut [u8]) -> 
         fields::low(a.lifetime),
     ];
     messages::enclose(HOP_LIMIT, from, to, ROUTER_ADVERTISEMENT, four, n, out);
-    Written::Length(n)
+    Ok(n)
 }

@@ -1,5 +1,6 @@
 -- A worked call, computed apart from RFC 4861, 4.2 and 4.6.2, RFC 4191, 2.3, and RFC 4443, 2.3: the definitions give these bytes, and each number.
 -- Assumes nothing.
+use Rattle.std.specs.Prelude.{Option, Some, None, Ok, Err}
 use Prim.Native.Nat.{ℕ}
 use mathlib.Core.Path.{◌≡◌, refl}
 use mathlib.Core.Bool.{true, false}
@@ -10,12 +11,9 @@ use Rattle.address.specs.Address.{is_under, is_identifier, link_local_of, last_q
 use Rattle.refusals.specs.declared.Refusal.TheVariants as refusal
 use Rattle.header.specs.Fields.{word_at, address_at}
 use Rattle.header.specs.Inner.{inner_of, is_inner_malformed}
-use Rattle.header.specs.declared.wrap.Written.TheVariants.{Length, Refused}
 use Rattle.messages.specs.Icmp.{icmp_sum, icmp_message, icmp_packet}
 use Rattle.options.specs.Options.{option_size, options_from, are_options_whole}
 use Rattle.settings.specs.Locators.{is_no_locator}
-use Rattle.settings.specs.declared.locators.Found.{Found}
-use Rattle.settings.specs.declared.locators.Found.TheVariants as found
 use Rattle.hearing.specs.Message.{is_sum_right, has_fields, is_valid_message}
 use Rattle.hearing.specs.Solicitation.{is_valid_solicitation, is_solicitation}
 use Rattle.advertisements.specs.Bits.{first_bits_of}
@@ -45,8 +43,8 @@ abbrev from_outside : List ℕ
 from_outside = asking (0x20 ∷ 0x01 ∷ 0x0D ∷ 0xB8 ∷ 0x00 ∷ 0x00 ∷ 0x00 ∷ 0x00 ∷ 0x00 ∷ []) 0x7C 0x83
 
 -- 10.0.0.1
-abbrev ours : Found
-ours = found.Address 0x0A000001
+abbrev ours : Option ℕ
+ours = Some 0x0A000001
 
 -- bits behind the prefix length are set
 abbrev prefix : ℕ → Prefix
@@ -88,12 +86,12 @@ unfolding advertised_output asker_check is_asker_right is_no_locator is_under is
 advertised = refl
 
 -- each number, and the length where there is just enough room
-numbers : (advertised_of ours (take 39 asked) (operators 62) 104 ≡ Refused refusal.InnerMalformed)
-    × (advertised_of found.Nothing asked (operators 62) 104 ≡ Refused refusal.NoLocator)
-    × (advertised_of ours (set asked 7 254) (operators 62) 104 ≡ Refused refusal.SolicitationInvalid)
-    × (advertised_of ours from_outside (operators 62) 104 ≡ Refused refusal.AskerNotIsatap)
-    × (advertised_of ours asked (operators 129) 104 ≡ Refused refusal.OptionsBad)
-    × (advertised_of ours asked (operators 62) 103 ≡ Refused refusal.OutputShort)
-    × (advertised_of ours asked (operators 62) 104 ≡ Length 104)
+numbers : (advertised_of ours (take 39 asked) (operators 62) 104 ≡ Err refusal.InnerMalformed)
+    × (advertised_of None asked (operators 62) 104 ≡ Err refusal.NoLocator)
+    × (advertised_of ours (set asked 7 254) (operators 62) 104 ≡ Err refusal.SolicitationInvalid)
+    × (advertised_of ours from_outside (operators 62) 104 ≡ Err refusal.AskerNotIsatap)
+    × (advertised_of ours asked (operators 129) 104 ≡ Err refusal.OptionsBad)
+    × (advertised_of ours asked (operators 62) 103 ≡ Err refusal.OutputShort)
+    × (advertised_of ours asked (operators 62) 104 ≡ Ok 104)
 unfolding advertised_of asker_check is_asker_right is_no_locator is_under is_identifier is_solicitation is_inner_malformed is_valid_solicitation is_valid_message has_fields is_sum_right inner_of word_at address_at icmp_sum ones_sum_from are_options_whole options_from option_size flatten last_quad advertisement_answer advertisement_check are_options_bad advertisement_length route_units
 numbers = (refl, refl, refl, refl, refl, refl, refl)

@@ -1,4 +1,5 @@
 -- Advertising does exactly what the rules say. Assumes nothing.
+use Rattle.std.specs.Prelude.{Option, Result, Ok, Err}
 use Prim.Native.Nat.{ℕ, ◌≤◌}
 use mathlib.Core.Path.{◌≡◌, refl}
 use mathlib.Core.Bool.{Bool, false}
@@ -16,19 +17,15 @@ use Rattle.refusals.specs.Refusals.{first_of, stop_or, AnswersFirst}
 use Rattle.refusals.proofs.Laws.{all_false, all_pass, stop_passed, stop_append, RowsDecide, end, row, answers-first}
 use Rattle.refusals.specs.declared.Refusal.{Refusal}
 use Rattle.refusals.specs.declared.Refusal.TheVariants as refusal
-use Rattle.refusals.specs.declared.Check.{Check}
-use Rattle.refusals.specs.declared.Check.TheVariants.{Pass, Stop}
 use Rattle.header.specs.Fields.{address_at}
 use Rattle.header.specs.Inner.{inner_of, is_inner_malformed}
 use Rattle.header.specs.Whole.{WholeInner}
 use Rattle.header.proofs.InnerLaws.{inner-whole, whole-inner}
-use Rattle.header.specs.declared.wrap.Written.TheVariants.{Length, Refused}
 use Rattle.settings.specs.Locators.{address_of}
 use Rattle.settings.specs.Settings.{locator_of}
 use Rattle.settings.specs.Facts.{LocatorAt}
 use Rattle.settings.proofs.Facts.{locator-found, locator-there, decides_no_locator}
 use Rattle.settings.specs.declared.Settings.{Settings}
-use Rattle.settings.specs.declared.locators.Found.{Found}
 use Rattle.hearing.specs.Facts.{fields_of}
 use Rattle.hearing.proofs.SolicitationLaws.{decides_solicitation}
 use Rattle.advertisements.specs.Advertisement.{are_options_bad, advertisement_of, advertisement_length, advertisement_check, advertisement_answer, advertisement_output}
@@ -38,14 +35,14 @@ use Rattle.advertisements.specs.declared.Advertisement.{Advertisement}
 use Rattle.advertising.specs.Advertise.{asker_of, is_asker_right, asker_rows, asker_check, advertised_of, advertised_output}
 use Rattle.advertising.specs.Facts.{LinkLocalIsatap, MayAdvertise, advertise_facts, AdvertisedExactly}
 
-untouched_by : (asker writer : Check) (n : ℕ) (w out : List ℕ) (r : Refusal) → stop_or Refused asker (stop_or Refused writer (Length n)) ≡ Refused r
+untouched_by : (asker writer : Result Unit Refusal) (n : ℕ) (w out : List ℕ) (r : Refusal) → stop_or Err asker (stop_or Err writer (Ok n)) ≡ Err r
     → stop_or (λ x. out) asker (stop_or (λ x. out) writer (written w out)) ≡ out
-untouched_by Pass Pass n w out r h = cc
-untouched_by Pass (Stop x) n w out r h = refl
-untouched_by (Stop x) writer n w out r h = refl
+untouched_by (Ok tt) (Ok tt) n w out r h = cc
+untouched_by (Ok tt) (Err x) n w out r h = refl
+untouched_by (Err x) writer n w out r h = refl
 
 -- after a refusal the output is as before
-pub refused-untouched : (f : Found) (packet : List ℕ) (a : Advertisement) (out : List ℕ) (r : Refusal) → advertised_of f packet a (length out) ≡ Refused r
+pub refused-untouched : (f : Option ℕ) (packet : List ℕ) (a : Advertisement) (out : List ℕ) (r : Refusal) → advertised_of f packet a (length out) ≡ Err r
     → advertised_output f packet a out ≡ out
 unfolding advertised_of advertised_output advertisement_answer advertisement_output
 refused-untouched f packet a out r h =
@@ -84,12 +81,12 @@ module _ (s : Settings) (packet : List ℕ) (k : ℕ) (a : Advertisement) where
       (row (decides_bad a)
       (row (decides_lt room size) end)))))
 
-  first_fact : (room : ℕ) → AnswersFirst Refused (advertise_facts s packet k a size room) (Length size) (advertised_of (locator_of s k) packet a room)
+  first_fact : (room : ℕ) → AnswersFirst Err (advertise_facts s packet k a size room) (Ok size) (advertised_of (locator_of s k) packet a room)
   unfolding advertised_of asker_check advertisement_answer advertisement_check
-  first_fact room = rw (← stop_append Refused rows (writer_rows room) (Length size)) (answers-first Refused (rows_decide room) (Length size))
+  first_fact room = rw (← stop_append Err rows (writer_rows room) (Ok size)) (answers-first Err (rows_decide room) (Ok size))
 
   -- a packet that passes 8, 11, 24 and 25 has the facts
-  passed : (from : ℕ) → LocatorAt s k from → asker_check (locator_of s k) packet ≡ Pass → are_options_bad a ≡ false → MayAdvertise s packet k a from
+  passed : (from : ℕ) → LocatorAt s k from → asker_check (locator_of s k) packet ≡ Ok tt → are_options_bad a ≡ false → MayAdvertise s packet k a from
   unfolding asker_check
   passed from l e b =
       let f = all_false rows e in
@@ -102,12 +99,12 @@ module _ (s : Settings) (packet : List ℕ) (k : ℕ) (a : Advertisement) where
       }
 
   -- the locator's address is there
-  from_there : asker_check (locator_of s k) packet ≡ Pass → LocatorAt s k (address_of (locator_of s k))
+  from_there : asker_check (locator_of s k) packet ≡ Ok tt → LocatorAt s k (address_of (locator_of s k))
   unfolding asker_check
   from_there e = locator-there s k (all_false rows e).1.0
 
   -- where the facts hold the row passes
-  passes : (from : ℕ) → MayAdvertise s packet k a from → asker_check (locator_of s k) packet ≡ Pass
+  passes : (from : ℕ) → MayAdvertise s packet k a from → asker_check (locator_of s k) packet ≡ Ok tt
   unfolding asker_check
   passes from m =
       all_pass rows (
@@ -121,14 +118,14 @@ module _ (s : Settings) (packet : List ℕ) (k : ℕ) (a : Advertisement) where
         ),
       )
 
-  no_length : (n : ℕ) (r : Refusal) → Refused r ≡ Length n → ⊥
+  no_length : (n : ℕ) (r : Refusal) → Err r ≡ Ok n → ⊥
   no_length n r e = let z : ◌≡◌ {A = ℕ} 0 1 = cc in omega arith
 
-  only_if : (room n : ℕ) → advertised_of (locator_of s k) packet a room ≡ Length n → (n ≡ size) × (size ≤ room) × ((from : ℕ) × MayAdvertise s packet k a from)
+  only_if : (room n : ℕ) → advertised_of (locator_of s k) packet a room ≡ Ok n → (n ≡ size) × (size ≤ room) × ((from : ℕ) × MayAdvertise s packet k a from)
   unfolding advertised_of advertisement_answer advertisement_check
   only_if room n h =
-      let c = stop_passed Refused (asker_check (locator_of s k) packet) _ (Length n) (no_length n) h in
-      let w = stop_passed Refused (first_of (writer_rows room)) _ (Length n) (no_length n) c.1 in
+      let c = stop_passed Err (asker_check (locator_of s k) packet) _ (Ok n) (no_length n) h in
+      let w = stop_passed Err (first_of (writer_rows room)) _ (Ok n) (no_length n) c.1 in
       let f = all_false (writer_rows room) w.0 in
       let same : n ≡ size = cc in
       (same, ltb-false _ _ f.1.0, (address_of (locator_of s k), passed (address_of (locator_of s k)) (from_there c.0) c.0 f.0))
@@ -139,7 +136,7 @@ module _ (s : Settings) (packet : List ℕ) (k : ℕ) (a : Advertisement) where
     good = refutes _ (decides_bad a) m.options
 
     writes : (out : List ℕ) → size ≤ length out
-        → (advertised_of (locator_of s k) packet a (length out) ≡ Length size)
+        → (advertised_of (locator_of s k) packet a (length out) ≡ Ok size)
         × (advertised_output (locator_of s k) packet a out ≡ written (advertisement_of (formed from) (fields_of packet).source a) out)
     unfolding advertised_of advertised_output advertisement_answer advertisement_output advertisement_check link_local_of
     writes out h =
@@ -148,7 +145,7 @@ module _ (s : Settings) (packet : List ℕ) (k : ℕ) (a : Advertisement) where
         (rw (pass, good, fits), rw (pass, locator-found s k from m.locator, good, fits))
 
   -- what stands in the output where a length is answered, for the laws over two nodes: v is the locator's address
-  pub answered-written : (out : List ℕ) (n v : ℕ) → LocatorAt s k v → advertised_of (locator_of s k) packet a (length out) ≡ Length n
+  pub answered-written : (out : List ℕ) (n v : ℕ) → LocatorAt s k v → advertised_of (locator_of s k) packet a (length out) ≡ Ok n
       → (n ≡ advertisement_length a)
       × MayAdvertise s packet k a v
       × (advertised_output (locator_of s k) packet a out ≡ written (advertisement_of (formed v) (fields_of packet).source a) out)

@@ -1,13 +1,11 @@
 -- When a packet that asks is answered with an advertisement, and what is then written (R22), in plain facts.
-use Rattle.std.specs.Prelude.{ℕ, ◌≤◌, ◌<◌, ◌≡◌, List, [], ◌∷◌, length}
+use Rattle.std.specs.Prelude.{ℕ, ◌≤◌, ◌<◌, ◌≡◌, List, [], ◌∷◌, length, Result, Ok, Err}
 use Rattle.address.specs.Facts.{LinkLocal, Identifier, formed}
 use Rattle.lent.specs.Written.{written}
 use Rattle.refusals.specs.Refusals.{AnswersFirst}
 use Rattle.refusals.specs.declared.Refusal.{Refusal}
 use Rattle.refusals.specs.declared.Refusal.TheVariants as refusal
 use Rattle.header.specs.Whole.{WholeInner}
-use Rattle.header.specs.declared.wrap.Written.{Written}
-use Rattle.header.specs.declared.wrap.Written.TheVariants.{Length, Refused}
 use Rattle.settings.specs.Facts.{LocatorAt}
 use Rattle.settings.specs.declared.Settings.{Settings}
 use Rattle.hearing.specs.Facts.{fields_of, ValidSolicitation}
@@ -43,19 +41,19 @@ advertise_facts s packet k a n room =
     ∷ []
 
 -- the claim, of a packet that asks at locator k and of an output `out`: the answer, and the output afterwards
-pub record AdvertisedExactly (s : Settings) (packet : List ℕ) (k : ℕ) (a : Advertisement) (out : List ℕ) (answer : Written) (output : List ℕ) : Type 0 where
+pub record AdvertisedExactly (s : Settings) (packet : List ℕ) (k : ℕ) (a : Advertisement) (out : List ℕ) (answer : Result ℕ Refusal) (output : List ℕ) : Type 0 where
   -- the length of the advertisement
   pub size : ℕ
   -- the first of the numbers is given whose fact holds, and where none holds that length
-  pub answers : AnswersFirst Refused (advertise_facts s packet k a size (length out)) (Length size) answer
+  pub answers : AnswersFirst Err (advertise_facts s packet k a size (length out)) (Ok size) answer
   -- a length is answered only when the rules hold, and it is that of an advertisement that fits
-  pub only_if : (n : ℕ) → answer ≡ Length n → (n ≡ size) × (size ≤ length out) × ((from : ℕ) × MayAdvertise s packet k a from)
+  pub only_if : (n : ℕ) → answer ≡ Ok n → (n ≡ size) × (size ≤ length out) × ((from : ℕ) × MayAdvertise s packet k a from)
   -- whenever the rules hold there is an advertisement from the locator's link-local address to the asker's address as it stands, of that length;
   -- if it fits, it is written, and what stood behind it stays
   pub whenever : (from : ℕ) → MayAdvertise s packet k a from
       → (p : List ℕ)
       × AdvertisementOf (formed from) (fields_of packet).source a p
       × (length p ≡ size)
-      × (size ≤ length out → (answer ≡ Length size) × (output ≡ written p out))
+      × (size ≤ length out → (answer ≡ Ok size) × (output ≡ written p out))
   -- after a number nothing is written
-  pub untouched : (r : Refusal) → answer ≡ Refused r → output ≡ out
+  pub untouched : (r : Refusal) → answer ≡ Err r → output ≡ out

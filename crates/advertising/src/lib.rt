@@ -5,12 +5,10 @@ ghost use Rattle.std.specs.Prelude.{◌≡◌, length};
 ghost use Rattle.advertising.specs.Advertise.{is_asker_right, asker_check, advertised_of, advertised_output};
 
 use advertisements::Advertisement;
-use header::wrap::Written;
 use header::{fields, inner};
 use hearing::solicitation;
-use refusals::{Check, Refusal};
+use refusals::Refusal;
 use settings::locators;
-use settings::locators::Found;
 
 // Whether an address is link-local ISATAP, whatever IPv4 address it embeds.
 fn asker_right(asker: [u8; 16]) -> bool
@@ -20,41 +18,41 @@ fn asker_right(asker: [u8; 16]) -> bool
 }
 
 // Numbers 8, 11, 24 and 25.
-fn asker_check(found: Found, packet: &[u8]) -> Check
+fn asker_check(found: Option<u32>, packet: &[u8]) -> Result<(), Refusal>
     ensures { result ≡ asker_check found packet.now }
 {
     if inner::inner_malformed(packet.len(), inner::inner_header(packet)) {
-        return Check::Stop(Refusal::InnerMalformed);
+        return Err(Refusal::InnerMalformed);
     }
     if locators::none(found) {
-        return Check::Stop(Refusal::NoLocator);
+        return Err(Refusal::NoLocator);
     }
     if !solicitation::solicitation(packet) {
-        return Check::Stop(Refusal::SolicitationInvalid);
+        return Err(Refusal::SolicitationInvalid);
     }
     if !asker_right(fields::address(packet, 8)) {
-        return Check::Stop(Refusal::AskerNotIsatap);
+        return Err(Refusal::AskerNotIsatap);
     }
-    Check::Pass
+    Ok(())
 }
 
 // What an inner packet that asks gets, from the locator that was found: out gets the advertisement.
 pub fn advertise(
-    found: Found,
+    found: Option<u32>,
     packet: &[u8],
     advertisement: Advertisement,
     out: &mut [u8],
-) -> Written
+) -> Result<usize, Refusal>
     ensures value { result ≡ advertised_of found packet.now advertisement (length out.old) }
     ensures out_after { out.new ≡ advertised_output found packet.now advertisement out.old }
 {
     let check = asker_check(found, packet);
     match check {
-        Check::Pass => {
+        Ok(()) => {
             let from = address::link_local(locators::address_of(found));
             let to = fields::address(packet, 8);
             advertisements::write(from, to, advertisement, out)
         }
-        Check::Stop(refusal) => Written::Refused(refusal),
+        Err(refusal) => Err(refusal),
     }
 }

@@ -1,4 +1,5 @@
 -- When an asking is answered, and what an answered and a refused one leave. Assumes nothing.
+use Rattle.std.specs.Prelude.{Option, Some, None, Ok, Err}
 use Prim.Native.Nat.{ℕ, ◌+◌, ◌≤◌, ◌<◌}
 use mathlib.Core.Path.{◌≡◌, refl, sym, ap, ◌∙◌}
 use mathlib.Core.Bool.{Bool, true, false, cond}
@@ -16,17 +17,12 @@ use Rattle.routers.specs.Routers.{live, next_of, rescheduled_of}
 use Rattle.routers.specs.Facts.{EarliestDue, NoneIsDue, OnlyDue}
 use Rattle.routers.proofs.Due.{earliest-due, due-earliest, none-due, due-none, only_due}
 use Rattle.routers.specs.declared.RouterList.{RouterList}
-use Rattle.routers.specs.declared.Next.{Next}
-use Rattle.routers.specs.declared.Next.TheVariants.{Due, NoneDue}
 use Rattle.settings.specs.Settings.{locator_of}
 use Rattle.settings.specs.Facts.{LocatorAt}
 use Rattle.settings.proofs.Facts.{found-locator, locator-found}
 use Rattle.settings.specs.declared.Settings.{Settings}
-use Rattle.settings.specs.declared.locators.Found.{Found}
-use Rattle.settings.specs.declared.locators.Found.TheVariants.{Address, Nothing}
 use Rattle.asking.specs.Ask.{plan_for, ask_plan, carried_out, planned_output, asked_of, asked_output}
 use Rattle.asking.specs.Facts.{MayAsk, solicitation_bytes, AskedExactly}
-use Rattle.asking.specs.declared.AskAnswer.TheVariants.{Router, Refused}
 use Rattle.asking.specs.declared.Plan.{Plan}
 use Rattle.asking.specs.declared.Plan.TheVariants.{Ask, Refuse}
 
@@ -36,12 +32,12 @@ within true f a from router h = (cc, cc, cc)
 within false f a from router h = (refl, cc, cc)
 
 -- a router is asked only from a locator that there is, if it is the next one, and if there is room
-pub planned : (found : Found) (next : Next) (room from router : ℕ) → plan_for found next room ≡ Ask from router
-    → (found ≡ Address from) × (next ≡ Due router) × (solicitation_length ≤ room)
+pub planned : (found : Option ℕ) (next : Option ℕ) (room from router : ℕ) → plan_for found next room ≡ Ask from router
+    → (found ≡ Some from) × (next ≡ Some router) × (solicitation_length ≤ room)
 unfolding plan_for
-planned Nothing next room from router h = let z : ◌≡◌ {A = ℕ} 0 1 = cc in (cc, cc, omega arith)
-planned (Address f) NoneDue room from router h = let z : ◌≡◌ {A = ℕ} 0 1 = cc in (cc, cc, omega arith)
-planned (Address f) (Due a) room from router h =
+planned None next room from router h = let z : ◌≡◌ {A = ℕ} 0 1 = cc in (cc, cc, omega arith)
+planned (Some f) None room from router h = let z : ◌≡◌ {A = ℕ} 0 1 = cc in (cc, cc, omega arith)
+planned (Some f) (Some a) room from router h =
     let w = within (ltb room solicitation_length) f a from router h in
     (cc, cc, ltb-false _ _ w.0)
 
@@ -53,13 +49,13 @@ room_planned s routers now number room {p} {from} {router} e h =
     (planned (locator_of s number) (next_of now (live routers)) room from router (sym e ∙ h)).2
 
 -- 22 is given only from a locator that there is, if no router is due
-none_planned : (found : Found) (next : Next) (room : ℕ) → plan_for found next room ≡ Refuse NoRouterDue → ((from : ℕ) × (found ≡ Address from)) × (next ≡ NoneDue)
+none_planned : (found : Option ℕ) (next : Option ℕ) (room : ℕ) → plan_for found next room ≡ Refuse NoRouterDue → ((from : ℕ) × (found ≡ Some from)) × (next ≡ None)
 unfolding plan_for
-none_planned Nothing next room h = let z : ◌≡◌ {A = ℕ} 0 1 = cc in absurd (omega arith)
-none_planned (Address f) NoneDue room h = ((f, refl), refl)
-none_planned (Address f) (Due a) room h = ((f, refl), never (ltb room solicitation_length) h)
+none_planned None next room h = let z : ◌≡◌ {A = ℕ} 0 1 = cc in absurd (omega arith)
+none_planned (Some f) None room h = ((f, refl), refl)
+none_planned (Some f) (Some a) room h = ((f, refl), never (ltb room solicitation_length) h)
   where
-    never : (short : Bool) → cond short (Refuse OutputShort) (Ask f a) ≡ Refuse NoRouterDue → Due a ≡ NoneDue
+    never : (short : Bool) → cond short (Refuse OutputShort) (Ask f a) ≡ Refuse NoRouterDue → Some a ≡ None
     never true h = cc
     never false h = cc
 
@@ -67,15 +63,15 @@ record AskedFrom (p : Plan) (router : ℕ) : Type 0 where
   pub from : ℕ
   pub is : p ≡ Ask from router
 
-asked_from : (p : Plan) (due : ℕ) (routers : RouterList) (router : ℕ) → (carried_out p due routers).answer ≡ Router router → AskedFrom p router
+asked_from : (p : Plan) (due : ℕ) (routers : RouterList) (router : ℕ) → (carried_out p due routers).answer ≡ Ok router → AskedFrom p router
 asked_from (Ask f a) due routers router h = record { from = f; is = cc }
 asked_from (Refuse r) due routers router h = record { from = 0; is = cc }
 
-asked-refused : (p : Plan) (due : ℕ) (routers : RouterList) (r : Refusal) → (carried_out p due routers).answer ≡ Refused r → p ≡ Refuse r
+asked-refused : (p : Plan) (due : ℕ) (routers : RouterList) (r : Refusal) → (carried_out p due routers).answer ≡ Err r → p ≡ Refuse r
 asked-refused (Ask f a) due routers r h = cc
 asked-refused (Refuse x) due routers r h = cc
 
-refused_plan : (p : Plan) (due : ℕ) (routers : RouterList) (out : List ℕ) (r : Refusal) → (carried_out p due routers).answer ≡ Refused r
+refused_plan : (p : Plan) (due : ℕ) (routers : RouterList) (out : List ℕ) (r : Refusal) → (carried_out p due routers).answer ≡ Err r
     → ((carried_out p due routers).routers ≡ routers) × (planned_output p out ≡ out)
 refused_plan (Ask f a) due routers out r h = (cc, cc)
 refused_plan (Refuse x) due routers out r h = (refl, refl)
@@ -83,20 +79,20 @@ refused_plan (Refuse x) due routers out r h = (refl, refl)
 -- the definitions that an answered asking went by, for the laws over lists of calls
 pub record AskedNext (s : Settings) (routers : RouterList) (now number : ℕ) (out : List ℕ) (router : ℕ) : Type 0 where
   pub from : ℕ
-  pub locator : locator_of s number ≡ Address from
-  pub next : next_of now (live routers) ≡ Due router
+  pub locator : locator_of s number ≡ Some from
+  pub next : next_of now (live routers) ≡ Some router
   pub long : solicitation_length ≤ length out
   pub rescheduled : (asked_of s routers now number (length out)).routers ≡ rescheduled_of router (now + s.interval) routers
 
 module _ (s : Settings) (routers : RouterList) (now number : ℕ) (out : List ℕ) where
   -- after a refusal the router list and the output are as before
-  pub refused-unchanged : (r : Refusal) → (asked_of s routers now number (length out)).answer ≡ Refused r
+  pub refused-unchanged : (r : Refusal) → (asked_of s routers now number (length out)).answer ≡ Err r
       → ((asked_of s routers now number (length out)).routers ≡ routers) × (asked_output s routers now number out ≡ out)
   unfolding asked_of asked_output
   refused-unchanged r h = refused_plan (ask_plan s routers now number (length out)) (now + s.interval) routers out r h
 
   -- what an answered asking passed, and what it leaves
-  pub answered-next : (router : ℕ) → (asked_of s routers now number (length out)).answer ≡ Router router → AskedNext s routers now number out router
+  pub answered-next : (router : ℕ) → (asked_of s routers now number (length out)).answer ≡ Ok router → AskedNext s routers now number out router
   unfolding asked_of ask_plan
   answered-next router h =
       let found = locator_of s number in
@@ -110,7 +106,7 @@ module _ (s : Settings) (routers : RouterList) (now number : ℕ) (out : List �
         rescheduled = ap (λ (q : Plan). (carried_out q (now + s.interval) routers).routers) f.is;
       }
 
-  only_if : (router : ℕ) → (asked_of s routers now number (length out)).answer ≡ Router router → (from : ℕ) × MayAsk s routers now number (length out) from router
+  only_if : (router : ℕ) → (asked_of s routers now number (length out)).answer ≡ Ok router → (from : ℕ) × MayAsk s routers now number (length out) from router
   only_if router h =
       let n = answered-next router h in
       (n.from, record { locator = found-locator s number n.from n.locator; next = earliest-due now router (live routers) n.next; long = n.long })
@@ -120,7 +116,7 @@ module _ (s : Settings) (routers : RouterList) (now number : ℕ) (out : List �
     unfolding ask_plan plan_for
     plan = rw (locator-found s number from m.locator, due-earliest now router (live routers) m.next, le-ltb (length out) solicitation_length m.long)
 
-    whenever : (asked_of s routers now number (length out)).answer ≡ Router router
+    whenever : (asked_of s routers now number (length out)).answer ≡ Ok router
     unfolding asked_of
     whenever = ap (λ (q : Plan). (carried_out q (now + s.interval) routers).answer) plan
 
@@ -132,7 +128,7 @@ module _ (s : Settings) (routers : RouterList) (now number : ℕ) (out : List �
     unfolding asked_of
     due = rw plan (only_due routers router (now + s.interval))
 
-  none-due-found : (asked_of s routers now number (length out)).answer ≡ Refused NoRouterDue → ((from : ℕ) × LocatorAt s number from) × NoneIsDue now (live routers)
+  none-due-found : (asked_of s routers now number (length out)).answer ≡ Err NoRouterDue → ((from : ℕ) × LocatorAt s number from) × NoneIsDue now (live routers)
   unfolding asked_of ask_plan
   none-due-found h =
       let found = locator_of s number in
@@ -140,21 +136,21 @@ module _ (s : Settings) (routers : RouterList) (now number : ℕ) (out : List �
       let n = none_planned found (next_of now (live routers)) (length out) p in
       ((n.0.0, found-locator s number n.0.0 n.0.1), none-due now (live routers) n.1)
 
-  when_none-due : (from : ℕ) → LocatorAt s number from → NoneIsDue now (live routers) → (asked_of s routers now number (length out)).answer ≡ Refused NoRouterDue
+  when_none-due : (from : ℕ) → LocatorAt s number from → NoneIsDue now (live routers) → (asked_of s routers now number (length out)).answer ≡ Err NoRouterDue
   unfolding asked_of ask_plan plan_for
   when_none-due from l n = rw (locator-found s number from l, due-none now (live routers) n)
 
-  no_locator_lem : ((from : ℕ) → LocatorAt s number from → ⊥) → (asked_of s routers now number (length out)).answer ≡ Refused NoLocator
+  no_locator_lem : ((from : ℕ) → LocatorAt s number from → ⊥) → (asked_of s routers now number (length out)).answer ≡ Err NoLocator
   unfolding asked_of ask_plan plan_for
   no_locator_lem n = go (locator_of s number) refl
     where
-      go : (f : Found) → locator_of s number ≡ f
-          → (carried_out (plan_for f (next_of now (live routers)) (length out)) (now + s.interval) routers).answer ≡ Refused NoLocator
-      go Nothing e = refl
-      go (Address from) e = absurd (n from (found-locator s number from e))
+      go : (f : Option ℕ) → locator_of s number ≡ f
+          → (carried_out (plan_for f (next_of now (live routers)) (length out)) (now + s.interval) routers).answer ≡ Err NoLocator
+      go None e = refl
+      go (Some from) e = absurd (n from (found-locator s number from e))
 
   short : (from router : ℕ) → LocatorAt s number from → EarliestDue now (live routers) router → length out < 48
-      → (asked_of s routers now number (length out)).answer ≡ Refused OutputShort
+      → (asked_of s routers now number (length out)).answer ≡ Err OutputShort
   unfolding asked_of ask_plan plan_for
   short from router l d few = rw (locator-found s number from l, due-earliest now router (live routers) d, lt-ltb (length out) solicitation_length few)
 

@@ -1,5 +1,6 @@
 -- Asking (R13): the order 11, 22, 15, the solicitation, and the router's next due time.
-use Rattle.std.specs.Prelude.{ℕ, ◌+◌, cond, List, [], ◌∷◌, length, ltb}
+use Rattle.refusals.specs.declared.Refusal.{Refusal}
+use Rattle.std.specs.Prelude.{ℕ, ◌+◌, cond, List, [], ◌∷◌, length, ltb, Option, Some, None, Result, Ok, Err}
 use Rattle.address.specs.Address.{link_local_of}
 use Rattle.lent.specs.Written.{written}
 use Rattle.refusals.specs.Given.{Given, answered, refused}
@@ -7,37 +8,31 @@ use Rattle.refusals.specs.declared.Refusal.TheVariants.{NoLocator, OutputShort, 
 use Rattle.messages.specs.Icmp.{solicitation_length, solicitation_of}
 use Rattle.routers.specs.Routers.{live, next_of, rescheduled_of}
 use Rattle.routers.specs.declared.RouterList.{RouterList}
-use Rattle.routers.specs.declared.Next.{Next}
-use Rattle.routers.specs.declared.Next.TheVariants.{Due, NoneDue}
 use Rattle.settings.specs.Settings.{locator_of}
 use Rattle.settings.specs.declared.Settings.{Settings}
-use Rattle.settings.specs.declared.locators.Found.{Found}
-use Rattle.settings.specs.declared.locators.Found.TheVariants.{Address, Nothing}
-use Rattle.asking.specs.declared.AskAnswer.{AskAnswer}
-use Rattle.asking.specs.declared.AskAnswer.TheVariants.{Router, Refused}
 use Rattle.asking.specs.declared.Asked.{Asked}
 use Rattle.asking.specs.declared.Plan.{Plan}
 use Rattle.asking.specs.declared.Plan.TheVariants.{Ask, Refuse}
 
 -- 11: no locator of that number; 22: no router due; 15: output too short for a solicitation; else the router is asked
-unfoldable pub plan_for : Found → Next → ℕ → Plan
-plan_for Nothing next room = Refuse NoLocator
-plan_for (Address from) NoneDue room = Refuse NoRouterDue
-plan_for (Address from) (Due router) room = cond (ltb room solicitation_length) (Refuse OutputShort) (Ask from router)
+unfoldable pub plan_for : Option ℕ → Option ℕ → ℕ → Plan
+plan_for None next room = Refuse NoLocator
+plan_for (Some from) None room = Refuse NoRouterDue
+plan_for (Some from) (Some router) room = cond (ltb room solicitation_length) (Refuse OutputShort) (Ask from router)
 
 -- the router with the earliest due time that is not in the future, lowest place on a tie, is asked from the numbered locator
 unfoldable pub ask_plan : Settings → RouterList → ℕ → ℕ → ℕ → Plan
 ask_plan s routers now locator room = plan_for (locator_of s locator) (next_of now (live routers)) room
 
 -- the answer names the router
-abbrev pub answer_of : Plan → AskAnswer
-answer_of (Ask from router) = Router router
-answer_of (Refuse refusal) = Refused refusal
+abbrev pub answer_of : Plan → Result ℕ Refusal
+answer_of (Ask from router) = Ok router
+answer_of (Refuse refusal) = Err refusal
 
 -- an answer, and the router list after it: the due time of a router that is asked becomes `due`
-abbrev pub answered_with : AskAnswer → ℕ → RouterList → Asked
-answered_with (Router router) due routers = record { answer = Router router; routers = rescheduled_of router due routers }
-answered_with (Refused refusal) due routers = record { answer = Refused refusal; routers = routers }
+abbrev pub answered_with : Result ℕ Refusal → ℕ → RouterList → Asked
+answered_with (Ok router) due routers = record { answer = Ok router; routers = rescheduled_of router due routers }
+answered_with (Err refusal) due routers = record { answer = Err refusal; routers = routers }
 
 -- what comes of a plan
 abbrev pub carried_out : Plan → ℕ → RouterList → Asked
@@ -57,6 +52,6 @@ unfoldable pub asked_output : Settings → RouterList → ℕ → ℕ → List �
 asked_output s routers now locator out = planned_output (ask_plan s routers now locator (length out)) out
 
 -- number and values (R1.17): the router's IPv4 address
-abbrev pub ask_given : AskAnswer → Given
-ask_given (Router a) = answered (a ∷ [])
-ask_given (Refused refusal) = refused refusal
+abbrev pub ask_given : Result ℕ Refusal → Given
+ask_given (Ok a) = answered (a ∷ [])
+ask_given (Err refusal) = refused refusal

@@ -1,5 +1,5 @@
 -- When an asking is answered, and what it then does, in plain facts.
-use Rattle.std.specs.Prelude.{ℕ, ◌+◌, ◌/◌, ◌%◌, ◌≤◌, ◌<◌, ◌≡◌, List, [], ◌∷◌, ◌++◌, length}
+use Rattle.std.specs.Prelude.{ℕ, ◌+◌, ◌/◌, ◌%◌, ◌≤◌, ◌<◌, ◌≡◌, List, [], ◌∷◌, ◌++◌, length, Ok, Err}
 use Rattle.checksum.specs.Sum.{ones_sum, ones_complement}
 use Rattle.address.specs.Facts.{formed}
 use Rattle.lent.specs.Written.{written}
@@ -10,7 +10,6 @@ use Rattle.routers.specs.declared.RouterList.{RouterList}
 use Rattle.settings.specs.Facts.{LocatorAt}
 use Rattle.settings.specs.declared.Settings.{Settings}
 use Rattle.asking.specs.Ask.{asked_of, asked_output}
-use Rattle.asking.specs.declared.AskAnswer.TheVariants.{Router, Refused}
 
 -- the router may be asked from the numbered locator
 pub record MayAsk (s : Settings) (routers : RouterList) (now number room : ℕ) (from router : ℕ) : Type 0 where
@@ -41,19 +40,19 @@ solicitation_bytes from router =
 -- an asking is answered exactly when a router may be asked; then the output gets the solicitation, and the due time of that router, and of
 -- no other, becomes now + interval
 pub record AskedExactly (s : Settings) (routers : RouterList) (now number : ℕ) (out : List ℕ) : Type 0 where
-  pub only_if : (router : ℕ) → (asked_of s routers now number (length out)).answer ≡ Router router
+  pub only_if : (router : ℕ) → (asked_of s routers now number (length out)).answer ≡ Ok router
       → (from : ℕ) × MayAsk s routers now number (length out) from router
-  pub whenever : (from router : ℕ) → MayAsk s routers now number (length out) from router → (asked_of s routers now number (length out)).answer ≡ Router router
+  pub whenever : (from router : ℕ) → MayAsk s routers now number (length out) from router → (asked_of s routers now number (length out)).answer ≡ Ok router
   pub output : (from router : ℕ) → MayAsk s routers now number (length out) from router
       → asked_output s routers now number out ≡ written (solicitation_bytes from router) out
   pub due : (from router : ℕ) → MayAsk s routers now number (length out) from router
       → OnlyDue routers router (now + s.interval) (asked_of s routers now number (length out)).routers
   -- 11: no locator of that number
-  pub no_locator : ((from : ℕ) → LocatorAt s number from → ⊥) → (asked_of s routers now number (length out)).answer ≡ Refused NoLocator
+  pub no_locator : ((from : ℕ) → LocatorAt s number from → ⊥) → (asked_of s routers now number (length out)).answer ≡ Err NoLocator
   -- 15: no room for a solicitation
   pub short : (from router : ℕ) → LocatorAt s number from → EarliestDue now (live routers) router → length out < 48
-      → (asked_of s routers now number (length out)).answer ≡ Refused OutputShort
+      → (asked_of s routers now number (length out)).answer ≡ Err OutputShort
   -- 22 is given exactly when the locator is there and no router is due
-  pub none_due : (asked_of s routers now number (length out)).answer ≡ Refused NoRouterDue → ((from : ℕ) × LocatorAt s number from) × NoneIsDue now (live routers)
+  pub none_due : (asked_of s routers now number (length out)).answer ≡ Err NoRouterDue → ((from : ℕ) × LocatorAt s number from) × NoneIsDue now (live routers)
   pub when_none_due : (from : ℕ) → LocatorAt s number from → NoneIsDue now (live routers)
-      → (asked_of s routers now number (length out)).answer ≡ Refused NoRouterDue
+      → (asked_of s routers now number (length out)).answer ≡ Err NoRouterDue

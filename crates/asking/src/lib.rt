@@ -6,21 +6,13 @@ ghost use Rattle.asking.specs.Ask.{plan_for, ask_plan, answered_with, asked_of, 
 
 use messages::SOLICITATION;
 use refusals::Refusal;
-use routers::{Next, RouterList};
+use routers::RouterList;
 use settings::Settings;
-use settings::locators::Found;
-
-// The router that is asked, by its address, or the number.
-#[derive(Clone, Copy)]
-pub enum AskAnswer {
-    Router(u32),
-    Refused(Refusal),
-}
 
 // The answer, and the router list after the asking.
 #[derive(Clone, Copy)]
 pub struct Asked {
-    pub answer: AskAnswer,
+    pub answer: Result<u32, Refusal>,
     pub routers: RouterList,
 }
 
@@ -31,27 +23,15 @@ enum Plan {
     Refuse(Refusal),
 }
 
-impl AskAnswer {
-    // The number (R4), 0 where a router is asked.
-    pub fn number(self) -> u8
-        ensures { result ≡ (ask_given self).number }
-    {
-        match self {
-            AskAnswer::Router(_) => 0,
-            AskAnswer::Refused(refusal) => refusal.number(),
-        }
-    }
-}
-
 // Numbers 11, 22 and 15.
-fn plan_for(found: Found, next: Next, room: usize) -> Plan
+fn plan_for(found: Option<u32>, next: Option<u32>, room: usize) -> Plan
     ensures { result ≡ plan_for found next room }
 {
     match found {
-        Found::Nothing => Plan::Refuse(Refusal::NoLocator),
-        Found::Address(from) => match next {
-            Next::NoneDue => Plan::Refuse(Refusal::NoRouterDue),
-            Next::Due(router) => {
+        None => Plan::Refuse(Refusal::NoLocator),
+        Some(from) => match next {
+            None => Plan::Refuse(Refusal::NoRouterDue),
+            Some(router) => {
                 if room < SOLICITATION {
                     Plan::Refuse(Refusal::OutputShort)
                 } else {
@@ -75,7 +55,7 @@ pub fn answer(
     time: u32,
     locator: usize,
     out: &mut [u8],
-) -> AskAnswer
+) -> Result<u32, Refusal>
     ensures routers_value { answered_with result (time + settings.interval) routers ≡ asked_of settings routers time locator (length out.old) }
     ensures out_after { out.new ≡ asked_output settings routers time locator out.old }
 {
@@ -85,23 +65,23 @@ pub fn answer(
             let source = address::link_local(from);
             let destination = address::link_local(router);
             messages::solicitation(source, destination, out);
-            AskAnswer::Router(router)
+            Ok(router)
         }
-        Plan::Refuse(refusal) => AskAnswer::Refused(refusal),
+        Plan::Refuse(refusal) => Err(refusal),
     }
 }
 
 // An answer, and the router list after it: a router that is asked is due at `due`.
-pub fn answered_with(answer: AskAnswer, due: u64, routers: RouterList) -> Asked
+pub fn answered_with(answer: Result<u32, Refusal>, due: u64, routers: RouterList) -> Asked
     ensures { result ≡ answered_with answer due routers }
 {
     match answer {
-        AskAnswer::Router(router) => Asked {
-            answer: AskAnswer::Router(router),
+        Ok(router) => Asked {
+            answer: Ok(router),
             routers: routers.rescheduled(router, due),
         },
-        AskAnswer::Refused(refusal) => Asked {
-            answer: AskAnswer::Refused(refusal),
+        Err(refusal) => Asked {
+            answer: Err(refusal),
             routers,
         },
     }

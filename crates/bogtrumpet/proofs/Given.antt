@@ -1,16 +1,12 @@
 -- A plain answer read back has the call's number and values (R1.17). Assumes nothing.
+use Rattle.std.specs.Prelude.{Result, Ok, Err}
+use Rattle.refusals.specs.declared.Refusal.{Refusal}
 use mathlib.Core.Path.{◌≡◌, refl, ap, ◌∙◌}
 use mathlib.Core.Bool.{Bool, cond}
 use mathlib.Core.List.{[], ◌∷◌}
 use Rattle.asking.specs.Ask.{ask_given}
-use Rattle.asking.specs.declared.AskAnswer.{AskAnswer}
-use Rattle.asking.specs.declared.AskAnswer.TheVariants as asked
 use Rattle.header.specs.Wrap.{written_given}
-use Rattle.header.specs.declared.wrap.Written.{Written}
-use Rattle.header.specs.declared.wrap.Written.TheVariants as written
 use Rattle.hearing.specs.Heard.{heard_given}
-use Rattle.hearing.specs.declared.HeardAnswer.{HeardAnswer}
-use Rattle.hearing.specs.declared.HeardAnswer.TheVariants as heard
 use Rattle.receiving.specs.Receive.{received_given}
 use Rattle.receiving.specs.declared.Received.{Received}
 use Rattle.receiving.specs.declared.Received.TheVariants as received
@@ -41,14 +37,14 @@ pub reported-given : (a : ReportAnswer) → reported_back (plain_reported a) ≡
 reported-given (reported.Accepted neighbour size) = refl
 reported-given (reported.Refused r) = refused-back r (0 ∷ 0 ∷ [])
 
-pub asked-given : (a : AskAnswer) → asked_back (plain_asked a) ≡ ask_given a
-asked-given (asked.Router router) = refl
-asked-given (asked.Refused r) = refused-back r (0 ∷ [])
+pub asked-given : (a : Result ℕ Refusal) → asked_back (plain_asked a) ≡ ask_given a
+asked-given (Ok router) = refl
+asked-given (Err r) = refused-back r (0 ∷ [])
 
-pub heard-given : (a : HeardAnswer) → heard_back (plain_heard a) ≡ heard_given a
-heard-given (heard.Router router) = refl
-heard-given (heard.Refused r) = refused-back r (0 ∷ [])
+pub heard-given : (a : Result ℕ Refusal) → heard_back (plain_heard a) ≡ heard_given a
+heard-given (Ok router) = refl
+heard-given (Err r) = refused-back r (0 ∷ [])
 
-pub advertised-given : (a : Written) → advertised_back (plain_advertised a) ≡ written_given a
-advertised-given (written.Length length) = refl
-advertised-given (written.Refused r) = refused-back r (0 ∷ [])
+pub advertised-given : (a : Result ℕ Refusal) → advertised_back (plain_advertised a) ≡ written_given a
+advertised-given (Ok length) = refl
+advertised-given (Err r) = refused-back r (0 ∷ [])

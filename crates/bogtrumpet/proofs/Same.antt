@@ -4,6 +4,7 @@
 --     gathered-same, absent-same     what receiving gathers changes one place, or none.        received-same     with the latest time it is the node's
 --     sent-same        a sending over a path of the size toward the tunnel end is the node's
 --     asked-same, heard-same, replaced-same     these change the router list of their service and the latest time alone.        advertised-same     advertising
+use Rattle.std.specs.Prelude.{Ok, Err}
 use mathlib.Core.Path.{◌≡◌, refl, ap, ◌∙◌}
 use Prim.Native.Nat.{ℕ, max, ◌<◌}
 use mathlib.Core.Bool.{Bool, true, false, cond}
@@ -12,11 +13,8 @@ use lib.Dec.{eqb, ltb}
 use lib.ListN.{length}
 use native.Mathlib.Omega.{arith}
 use Rattle.advertisements.specs.declared.Advertisement.{Advertisement}
-use Rattle.asking.specs.declared.AskAnswer.TheVariants as asked
 use Rattle.asking.specs.declared.Asked as asking
-use Rattle.header.specs.declared.wrap.Written.TheVariants as written
 use Rattle.hearing.specs.declared.Heard as hearing
-use Rattle.hearing.specs.declared.HeardAnswer.TheVariants as heard
 use Rattle.paths.specs.Kept.{in_force}
 use Rattle.paths.specs.Table.{kept_among, kept_in}
 use Rattle.refusals.specs.declared.Refusal.TheVariants.{NoLocator}
@@ -39,8 +37,6 @@ use Rattle.node.specs.Ask.{asked_by, asked_through, ask_of, ask_output}
 use Rattle.node.specs.Hear.{heard_by, hear_of}
 use Rattle.node.specs.Receive.{with_pieces, collected_by, collected_through, receive_of, receive_memory}
 use Rattle.node.specs.RouterList.{with_routers, list_given, replace_of}
-use Rattle.node.specs.declared.router_list.ListAnswer.TheVariants as replaced
-use Rattle.node.specs.declared.size.SizeAnswer.TheVariants as sized
 use Rattle.node.specs.Node.{service_of, node_with, raised_to, path_size_at}
 use Rattle.node.specs.Send.{path_size_toward, with_identification, sent_by, sent_through, send_of, send_output}
 use Rattle.node.specs.Size.{path_size_of}
@@ -77,9 +73,9 @@ pub size_is : (h : Node) (w : ServiceName) (v t : ℕ) → size-among h w v t �
 unfolding path_size_at kept_in
 size_is h w v t = refl
 
-pub size_now : (h : Node) (k v : ℕ) → sized_step h.both k (path_size_at h (name_of k) v h.latest) ≡ by_number k (λ w. plain_sized (path_size_of h w v)) (plain_sized (sized.Refused NoLocator))
+pub size_now : (h : Node) (k v : ℕ) → sized_step h.both k (path_size_at h (name_of k) v h.latest) ≡ by_number k (λ w. plain_sized (path_size_of h w v)) (plain_sized (Err NoLocator))
 unfolding sized_step path_size_of
-size_now h k v = by_number_lem (λ there w. plain_sized (cond there (sized.Size (path_size_at h w v h.latest)) (sized.Refused NoLocator))) (λ w. plain_sized (path_size_of h w v)) (plain_sized (sized.Refused NoLocator)) h.both k refl refl refl
+size_now h k v = by_number_lem (λ there w. plain_sized (cond there (Ok (path_size_at h w v h.latest)) (Err NoLocator))) (λ w. plain_sized (path_size_of h w v)) (plain_sized (Err NoLocator)) h.both k refl refl refl
 
 module _ (h : Node) (k : ℕ) (p hop : List ℕ) (locator t : ℕ) (out : List ℕ) where
   -- over a path of that size
@@ -175,43 +171,43 @@ abbrev pub routed : Node → ServiceName → RouterList → ℕ → Node
 routed h w routers t = at-time (with_service h w (with_routers (service_of h w) routers)) t
 
 pub asked-same : (h : Node) (k locator t : ℕ) (out : List ℕ) (z : AskedStep) → AskedAs (is_there h.both k) (service_of h (name_of k)) h.latest locator t (length out) z
-    → (z.answer ≡ by_number k (λ w. plain_asked (ask_of h w locator t (length out)).answer) (plain_asked (asked.Refused NoLocator)))
+    → (z.answer ≡ by_number k (λ w. plain_asked (ask_of h w locator t (length out)).answer) (plain_asked (Err NoLocator)))
     × (routed h (name_of k) (list_after z.changed z.router z.due (service_of h (name_of k)).routers) z.latest ≡ by_number k (λ w. (ask_of h w locator t (length out)).node) (raised_to h t))
     × (asked_through (is_there h.both k) (service_of h (name_of k)) (max h.latest t) locator out ≡ by_number k (λ w. ask_output h w locator t out) out)
 unfolding ask_of ask_output asked_by asked_through raised_to
 asked-same h k locator t out z so =
     let step : Bool → ServiceName → asking.Asked = λ there w. asked_by there (service_of h w) (max h.latest t) locator (length out) in (
-      so.answer ∙ by_number_lem (λ there w. plain_asked (step there w).answer) (λ w. plain_asked (ask_of h w locator t (length out)).answer) (plain_asked (asked.Refused NoLocator)) h.both k refl refl refl,
+      so.answer ∙ by_number_lem (λ there w. plain_asked (step there w).answer) (λ w. plain_asked (ask_of h w locator t (length out)).answer) (plain_asked (Err NoLocator)) h.both k refl refl refl,
       rw (so.list, so.at-time) (by_number_lem (λ there w. routed h w (step there w).routers (max h.latest t)) (λ w. (ask_of h w locator t (length out)).node) (raised_to h t) h.both k refl refl refl),
       by_number_lem (λ there w. asked_through there (service_of h w) (max h.latest t) locator out) (λ w. ask_output h w locator t out) out h.both k refl refl refl,
     )
 
 pub heard-same : (h : Node) (k : ℕ) (p : List ℕ) (t : ℕ) (z : HeardStep) → HeardAs (is_there h.both k) (service_of h (name_of k)) h.latest p t z
-    → (z.answer ≡ by_number k (λ w. plain_heard (hear_of h w p t).answer) (plain_heard (heard.Refused NoLocator)))
+    → (z.answer ≡ by_number k (λ w. plain_heard (hear_of h w p t).answer) (plain_heard (Err NoLocator)))
     × (routed h (name_of k) (list_after z.changed z.router z.due (service_of h (name_of k)).routers) z.latest ≡ by_number k (λ w. (hear_of h w p t).node) (raised_to h t))
 unfolding hear_of heard_by raised_to
 heard-same h k p t z so =
     let step : Bool → ServiceName → hearing.Heard = λ there w. heard_by there (service_of h w) (max h.latest t) p in (
-      so.answer ∙ by_number_lem (λ there w. plain_heard (step there w).answer) (λ w. plain_heard (hear_of h w p t).answer) (plain_heard (heard.Refused NoLocator)) h.both k refl refl refl,
+      so.answer ∙ by_number_lem (λ there w. plain_heard (step there w).answer) (λ w. plain_heard (hear_of h w p t).answer) (plain_heard (Err NoLocator)) h.both k refl refl refl,
       rw (so.list, so.at-time) (by_number_lem (λ there w. routed h w (step there w).routers (max h.latest t)) (λ w. (hear_of h w p t).node) (raised_to h t) h.both k refl refl refl),
     )
 
 pub replaced-same : (h : Node) (k : ℕ) (l : List ℕ) (n t : ℕ)
     → let step : ReplacedStep = replaced_step (is_there h.both k) (service_of h (name_of k)) h.latest l n t in
-    (step.answer ≡ by_number k (λ w. (list_given (replace_of h w l n t).answer).number) (list_given (replaced.Refused NoLocator)).number)
+    (step.answer ≡ by_number k (λ w. (list_given (replace_of h w l n t).answer).number) (list_given (Err NoLocator)).number)
     × (routed h (name_of k) step.routers step.latest ≡ by_number k (λ w. (replace_of h w l n t).node) (raised_to h t))
 unfolding replaced_step replace_of raised_to
 replaced-same h k l n t =
     let step : Bool → ServiceName → ReplacedStep = λ there w. replaced_step there (service_of h w) h.latest l n t in (
-      by_number_lem (λ there w. (step there w).answer) (λ w. (list_given (replace_of h w l n t).answer).number) (list_given (replaced.Refused NoLocator)).number h.both k refl refl refl,
+      by_number_lem (λ there w. (step there w).answer) (λ w. (list_given (replace_of h w l n t).answer).number) (list_given (Err NoLocator)).number h.both k refl refl refl,
       by_number_lem (λ there w. routed h w (step there w).routers (step there w).latest) (λ w. (replace_of h w l n t).node) (raised_to h t) h.both k refl refl refl,
     )
 
 pub advertised-same : (h : Node) (k : ℕ) (p : List ℕ) (locator : ℕ) (x : Advertisement) (out : List ℕ)
-    → (plain_advertised (advertised_by (is_there h.both k) (service_of h (name_of k)) p locator x (length out)) ≡ by_number k (λ w. plain_advertised (advertise_of h w p locator x (length out))) (plain_advertised (written.Refused NoLocator)))
+    → (plain_advertised (advertised_by (is_there h.both k) (service_of h (name_of k)) p locator x (length out)) ≡ by_number k (λ w. plain_advertised (advertise_of h w p locator x (length out))) (plain_advertised (Err NoLocator)))
     × (advertised_through (is_there h.both k) (service_of h (name_of k)) p locator x out ≡ by_number k (λ w. advertise_output h w p locator x out) out)
 unfolding advertise_of advertise_output
 advertised-same h k p locator x out = (
-  by_number_lem (λ there w. plain_advertised (advertised_by there (service_of h w) p locator x (length out))) (λ w. plain_advertised (advertise_of h w p locator x (length out))) (plain_advertised (written.Refused NoLocator)) h.both k refl refl refl,
+  by_number_lem (λ there w. plain_advertised (advertised_by there (service_of h w) p locator x (length out))) (λ w. plain_advertised (advertise_of h w p locator x (length out))) (plain_advertised (Err NoLocator)) h.both k refl refl refl,
   by_number_lem (λ there w. advertised_through there (service_of h w) p locator x out) (λ w. advertise_output h w p locator x out) out h.both k refl refl refl,
 )

@@ -1,16 +1,9 @@
 -- Answers as plain structs (R4): the number, 0 where the call is not refused, and the values that go
 -- with it; a value that an answer does not have is 0.
-use Rattle.std.specs.Prelude.{true, false}
-use Rattle.header.specs.declared.wrap.Written.{Written}
-use Rattle.header.specs.declared.wrap.Written.TheVariants as written
-use Rattle.hearing.specs.declared.HeardAnswer.{HeardAnswer}
-use Rattle.hearing.specs.declared.HeardAnswer.TheVariants as heard
-use Rattle.asking.specs.declared.AskAnswer.{AskAnswer}
-use Rattle.asking.specs.declared.AskAnswer.TheVariants as asked
+use Rattle.refusals.specs.declared.Refusal.{Refusal}
+use Rattle.std.specs.Prelude.{true, false, Result, Ok, Err}
 use Rattle.receiving.specs.declared.Received as receiving
 use Rattle.receiving.specs.declared.Received.TheVariants as received
-use Rattle.node.specs.declared.size.SizeAnswer.{SizeAnswer}
-use Rattle.node.specs.declared.size.SizeAnswer.TheVariants as sized
 use Rattle.refusals.specs.Refusals.{number_of}
 use Rattle.reports.specs.declared.ReportAnswer.{ReportAnswer}
 use Rattle.reports.specs.declared.ReportAnswer.TheVariants as reported
@@ -37,9 +30,9 @@ plain_received (received.Joined offset length) = record { number = 0; joined = t
 plain_received (received.Refused r) = record { number = number_of r; joined = false; offset = 0; length = 0 }
 
 -- the size in force (R10.1)
-abbrev pub plain_sized : SizeAnswer → Sized
-plain_sized (sized.Size size) = record { number = 0; size = size }
-plain_sized (sized.Refused r) = record { number = number_of r; size = 0 }
+abbrev pub plain_sized : Result ℕ Refusal → Sized
+plain_sized (Ok size) = record { number = 0; size = size }
+plain_sized (Err r) = record { number = number_of r; size = 0 }
 
 -- the length written (R1.17); 14 carries the size M and the length of the message written (R8.4)
 abbrev pub plain_sent : SendAnswer → Sent
@@ -53,16 +46,16 @@ plain_reported (reported.Accepted neighbour size) = record { number = 0; neighbo
 plain_reported (reported.Refused r) = record { number = number_of r; neighbour = 0; size = 0 }
 
 -- asking answers the router's IPv4 address (R1.17)
-abbrev pub plain_asked : AskAnswer → Asked
-plain_asked (asked.Router router) = record { number = 0; router = router }
-plain_asked (asked.Refused r) = record { number = number_of r; router = 0 }
+abbrev pub plain_asked : Result ℕ Refusal → Asked
+plain_asked (Ok router) = record { number = 0; router = router }
+plain_asked (Err r) = record { number = number_of r; router = 0 }
 
 -- an advertisement answers the router's IPv4 address (R1.17)
-abbrev pub plain_heard : HeardAnswer → Heard
-plain_heard (heard.Router router) = record { number = 0; router = router }
-plain_heard (heard.Refused r) = record { number = number_of r; router = 0 }
+abbrev pub plain_heard : Result ℕ Refusal → Heard
+plain_heard (Ok router) = record { number = 0; router = router }
+plain_heard (Err r) = record { number = number_of r; router = 0 }
 
 -- advertising answers the length written (R1.17)
-abbrev pub plain_advertised : Written → Advertised
-plain_advertised (written.Length length) = record { number = 0; length = length }
-plain_advertised (written.Refused r) = record { number = number_of r; length = 0 }
+abbrev pub plain_advertised : Result ℕ Refusal → Advertised
+plain_advertised (Ok length) = record { number = 0; length = length }
+plain_advertised (Err r) = record { number = number_of r; length = 0 }

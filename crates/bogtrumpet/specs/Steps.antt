@@ -1,5 +1,5 @@
 -- What a function of `steps` answers: the plain answer, and what is changed of the node.
-use Rattle.std.specs.Prelude.{ℕ, max, ◌≡◌, Bool, cond, List}
+use Rattle.std.specs.Prelude.{ℕ, max, ◌≡◌, Bool, cond, List, Ok, Err}
 use Rattle.routers.specs.Routers.{rescheduled_of}
 use Rattle.routers.specs.declared.RouterList.{RouterList}
 use Rattle.node.specs.Ask.{asked_by}
@@ -10,7 +10,6 @@ use Rattle.node.specs.RouterList.{list_given, replaced_by}
 use Rattle.node.specs.declared.Node.{Node}
 use Rattle.node.specs.declared.Service.{Service}
 use Rattle.node.specs.declared.Setup.{Setup}
-use Rattle.node.specs.declared.size.SizeAnswer.TheVariants.{Size, Refused}
 use Rattle.refusals.specs.declared.Refusal.TheVariants.{NoLocator}
 use Rattle.bogtrumpet.specs.Answers.{plain_sized, plain_sent, plain_asked, plain_heard}
 use Rattle.bogtrumpet.specs.Numbered.{is_there, name_of}
@@ -40,7 +39,7 @@ sent_after node s size packet hop k time room =
 
 -- of the question for a size, which is that one where the service is there
 unfoldable pub sized_step : ℕ → ℕ → ℕ → Sized
-sized_step both k size = plain_sized (cond (is_there both k) (Size size) (Refused NoLocator))
+sized_step both k size = plain_sized (cond (is_there both k) (Ok size) (Err NoLocator))
 
 -- of a new router list: 11, 1 or 0, the router list in force afterwards, and the later time
 unfoldable pub replaced_step : Bool → Service → ℕ → List ℕ → ℕ → ℕ → ReplacedStep

@@ -3,10 +3,6 @@
 ghost use Rattle.std.specs.Prelude.{◌≡◌};
 ghost use Rattle.bogtrumpet.specs.Answers.{plain_received, plain_sized, plain_sent, plain_reported, plain_asked, plain_heard, plain_advertised};
 
-use asking::AskAnswer;
-use header::wrap::Written;
-use hearing::HeardAnswer;
-use node::size::SizeAnswer;
 use reports::ReportAnswer;
 use sending::SendAnswer;
 
@@ -95,12 +91,12 @@ pub fn plain_received(answer: receiving::Received) -> Received
     }
 }
 
-pub fn plain_sized(answer: SizeAnswer) -> Sized
+pub fn plain_sized(answer: Result<u16, Refusal>) -> Sized
     ensures { result ≡ plain_sized answer }
 {
     match answer {
-        SizeAnswer::Size(size) => Sized { number: 0, size },
-        SizeAnswer::Refused(refusal) => Sized {
+        Ok(size) => Sized { number: 0, size },
+        Err(refusal) => Sized {
             number: refusal.number(),
             size: 0,
         },
@@ -149,36 +145,36 @@ pub fn plain_reported(answer: ReportAnswer) -> Reported
     }
 }
 
-pub fn plain_asked(answer: AskAnswer) -> Asked
+pub fn plain_asked(answer: Result<u32, Refusal>) -> Asked
     ensures { result ≡ plain_asked answer }
 {
     match answer {
-        AskAnswer::Router(router) => Asked { number: 0, router },
-        AskAnswer::Refused(refusal) => Asked {
+        Ok(router) => Asked { number: 0, router },
+        Err(refusal) => Asked {
             number: refusal.number(),
             router: 0,
         },
     }
 }
 
-pub fn plain_heard(answer: HeardAnswer) -> Heard
+pub fn plain_heard(answer: Result<u32, Refusal>) -> Heard
     ensures { result ≡ plain_heard answer }
 {
     match answer {
-        HeardAnswer::Router(router) => Heard { number: 0, router },
-        HeardAnswer::Refused(refusal) => Heard {
+        Ok(router) => Heard { number: 0, router },
+        Err(refusal) => Heard {
             number: refusal.number(),
             router: 0,
         },
     }
 }
 
-pub fn plain_advertised(answer: Written) -> Advertised
+pub fn plain_advertised(answer: Result<usize, Refusal>) -> Advertised
     ensures { result ≡ plain_advertised answer }
 {
     match answer {
-        Written::Length(length) => Advertised { number: 0, length },
-        Written::Refused(refusal) => Advertised {
+        Ok(length) => Advertised { number: 0, length },
+        Err(refusal) => Advertised {
             number: refusal.number(),
             length: 0,
         },

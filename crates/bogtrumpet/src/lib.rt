@@ -11,11 +11,8 @@ mod reporting;
 mod sizes;
 pub mod steps;
 
-ghost use Rattle.std.specs.Prelude.{◌≡◌, length};
+ghost use Rattle.std.specs.Prelude.{◌≡◌, length, Err};
 ghost use Rattle.std.specs.Borrow.{sem};
-ghost use Rattle.asking.specs.declared.AskAnswer.TheVariants as asked;
-ghost use Rattle.header.specs.declared.wrap.Written.TheVariants as written;
-ghost use Rattle.hearing.specs.declared.HeardAnswer.TheVariants as heard;
 ghost use Rattle.receiving.specs.declared.Received.TheVariants as received;
 ghost use Rattle.refusals.specs.declared.Refusal.TheVariants.{NoLocator};
 ghost use Rattle.sending.specs.declared.SendAnswer.TheVariants as sent;
@@ -28,8 +25,6 @@ ghost use Rattle.node.specs.Report.{report_of};
 ghost use Rattle.node.specs.RouterList.{list_given, replace_of};
 ghost use Rattle.node.specs.Send.{send_of, send_output, sent_through, path_size_toward};
 ghost use Rattle.node.specs.Size.{path_size_of};
-ghost use Rattle.node.specs.declared.router_list.ListAnswer.TheVariants as replaced;
-ghost use Rattle.node.specs.declared.size.SizeAnswer.TheVariants as sized;
 ghost use Rattle.bogtrumpet.specs.Answers.{defaults_of, plain_received, plain_sized, plain_sent, plain_reported, plain_asked, plain_heard, plain_advertised};
 ghost use Rattle.bogtrumpet.specs.Lending.{LendsService};
 ghost use Rattle.bogtrumpet.specs.Numbered.{by_number, name_of, is_there};
@@ -91,7 +86,7 @@ pub extern "C" fn bogtrumpet_new(node: &mut Node, settings: Settings) -> u8
 {
     let setup = Node::new(settings);
     *node = setup.node;
-    setup.answer.number()
+    refusals::number(setup.answer)
 }
 
 // A node of two services, with the settings of each: Node::new_pair. The answer is the number.
@@ -102,7 +97,7 @@ pub extern "C" fn bogtrumpet_new_pair(node: &mut Node, first: Settings, second: 
 {
     let setup = Node::new_pair(first, second);
     *node = setup.node;
-    setup.answer.number()
+    refusals::number(setup.answer)
 }
 
 // The service of a number, to be changed. A number above 1 reads as the second, and is then not there.
@@ -151,7 +146,7 @@ pub extern "C" fn bogtrumpet_receive(
 // copied.
 #[unsafe(no_mangle)]
 pub extern "C" fn bogtrumpet_path_size(node: &Node, service: u8, neighbour: u32) -> Sized
-    ensures { result ≡ by_number service (λ w. plain_sized (path_size_of node.now w neighbour)) (plain_sized (sized.Refused NoLocator)) }
+    ensures { result ≡ by_number service (λ w. plain_sized (path_size_of node.now w neighbour)) (plain_sized (Err NoLocator)) }
 {
     let named = if service == 0 {
         &node.first
@@ -284,7 +279,7 @@ pub extern "C" fn bogtrumpet_replace_routers(
     list: Addresses,
     time: u32,
 ) -> u8
-    ensures { (result ≡ by_number service (λ w. (list_given (replace_of node.old w list.routers list.count time).answer).number) (list_given (replaced.Refused NoLocator)).number)
+    ensures { (result ≡ by_number service (λ w. (list_given (replace_of node.old w list.routers list.count time).answer).number) (list_given (Err NoLocator)).number)
         × (node.new ≡ by_number service (λ w. (replace_of node.old w list.routers list.count time).node) (raised_to node.old time)) }
 {
     let both = node.both;
@@ -305,7 +300,7 @@ pub extern "C" fn bogtrumpet_ask(
     time: u32,
     out: &mut [u8],
 ) -> Asked
-    ensures { (result ≡ by_number service (λ w. plain_asked (ask_of node.old w locator time (length out.old)).answer) (plain_asked (asked.Refused NoLocator)))
+    ensures { (result ≡ by_number service (λ w. plain_asked (ask_of node.old w locator time (length out.old)).answer) (plain_asked (Err NoLocator)))
         × (node.new ≡ by_number service (λ w. (ask_of node.old w locator time (length out.old)).node) (raised_to node.old time))
         × (out.new ≡ by_number service (λ w. ask_output node.old w locator time out.old) out.old) }
 {
@@ -323,7 +318,7 @@ pub extern "C" fn bogtrumpet_ask(
 // Takes a router advertisement to a service: Node::hear. Of the node the latest time is written, and where it is accepted the router list.
 #[unsafe(no_mangle)]
 pub extern "C" fn bogtrumpet_hear(node: &mut Node, service: u8, packet: &[u8], time: u32) -> Heard
-    ensures { (result ≡ by_number service (λ w. plain_heard (hear_of node.old w packet.now time).answer) (plain_heard (heard.Refused NoLocator)))
+    ensures { (result ≡ by_number service (λ w. plain_heard (hear_of node.old w packet.now time).answer) (plain_heard (Err NoLocator)))
         × (node.new ≡ by_number service (λ w. (hear_of node.old w packet.now time).node) (raised_to node.old time)) }
 {
     let both = node.both;
@@ -347,7 +342,7 @@ pub extern "C" fn bogtrumpet_advertise(
     advertisement: Advertisement,
     out: &mut [u8],
 ) -> Advertised
-    ensures { (result ≡ by_number service (λ w. plain_advertised (advertise_of node.now w packet.now locator (advertisement_from advertisement) (length out.old))) (plain_advertised (written.Refused NoLocator)))
+    ensures { (result ≡ by_number service (λ w. plain_advertised (advertise_of node.now w packet.now locator (advertisement_from advertisement) (length out.old))) (plain_advertised (Err NoLocator)))
         × (out.new ≡ by_number service (λ w. advertise_output node.now w packet.now locator (advertisement_from advertisement) out.old) out.old) }
 {
     let named = if service == 0 {

@@ -9,7 +9,6 @@ ghost use Rattle.bogtrumpet.specs.Steps.{sized_step};
 
 use super::answers::Sized;
 use super::{Address, answers, numbered, plain};
-use node::size::SizeAnswer;
 use refusals::Refusal;
 
 // Toward a neighbour, at the latest time: paths::size_among.
@@ -29,9 +28,9 @@ pub fn size_in_force<'a>(
 {
     let size = paths::size_among(link, neighbours, sizes, times, count, neighbour, latest);
     if numbered::there(both, service) {
-        answers::plain_sized(SizeAnswer::Size(size))
+        answers::plain_sized(Ok(size))
     } else {
-        answers::plain_sized(SizeAnswer::Refused(Refusal::NoLocator))
+        answers::plain_sized(Err(Refusal::NoLocator))
     }
 }
 

@@ -93,7 +93,7 @@ pub fn made(_: Node, settings: Settings) -> MadeStep
     let setup = Node::new(settings);
     let given = setup.answer;
     let node = setup.node;
-    let answer = given.number();
+    let answer = refusals::number(given);
     MadeStep { answer, node }
 }
 
@@ -104,7 +104,7 @@ pub fn made_pair(_: Node, first: Settings, second: Settings) -> MadeStep
     let setup = Node::new_pair(first, second);
     let given = setup.answer;
     let node = setup.node;
-    let answer = given.number();
+    let answer = refusals::number(given);
     MadeStep { answer, node }
 }
 
@@ -238,7 +238,7 @@ pub fn replaced(
     let done = router_list::replaced_by(there, named, latest, addresses, list.count);
     let given = done.answer;
     let routers = done.routers;
-    let answer = given.number();
+    let answer = refusals::number(given);
     ReplacedStep {
         answer,
         routers,

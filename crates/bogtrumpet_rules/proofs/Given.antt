@@ -1,8 +1,7 @@
 -- A plain answer read back has the number and values (R1.17) of the writer's, or of comparing. Assumes nothing.
-use Rattle.std.specs.Prelude.{◌≡◌, refl, [], ◌∷◌}
+use Rattle.refusals.specs.declared.Refusal.{Refusal}
+use Rattle.std.specs.Prelude.{◌≡◌, refl, [], ◌∷◌, Result, Ok, Err}
 use Rattle.header.specs.Wrap.{written_given}
-use Rattle.header.specs.declared.wrap.Written.{Written}
-use Rattle.header.specs.declared.wrap.Written.TheVariants.{Length, Refused}
 use Rattle.refusals.proofs.Numbers.{refused-back}
 use Rattle.comparing.specs.Given.{compared_given}
 use Rattle.comparing.specs.declared.Compared as comparing
@@ -11,9 +10,9 @@ use Rattle.bogtrumpet_rules.specs.Answers.{plain_written}
 use Rattle.bogtrumpet_rules.specs.Given.{written_back, compared_back}
 use Rattle.bogtrumpet_rules.specs.Recordings.{plain_compared}
 
-pub written-given : (w : Written) → written_back (plain_written w) ≡ written_given w
-written-given (Length n) = refl
-written-given (Refused refusal) = refused-back refusal (0 ∷ [])
+pub written-given : (w : Result ℕ Refusal) → written_back (plain_written w) ≡ written_given w
+written-given (Ok n) = refl
+written-given (Err refusal) = refused-back refusal (0 ∷ [])
 
 pub compared_given_lem : (c : comparing.Compared) → compared_back (plain_compared c) ≡ compared_given c
 compared_given_lem (compared.Report n more) = refl

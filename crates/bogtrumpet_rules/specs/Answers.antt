@@ -1,12 +1,10 @@
 -- Answers as plain numbers and structs, for C. What an answer does not have is 0.
-use Rattle.std.specs.Prelude.{ℕ, true, false, ltb}
+use Rattle.std.specs.Prelude.{ℕ, true, false, ltb, Some, None, Ok, Err}
 use Rattle.address.specs.Address.{embedded_in, link_local_of}
 use Rattle.address.specs.Prefixes.{rows_of}
 use Rattle.address.specs.declared.Embedded as address
-use Rattle.address.specs.declared.Embedded.TheVariants.{Ipv4, Nothing}
 use Rattle.header.specs.declared.wrap.OuterFields.{OuterFields}
 use Rattle.header.specs.declared.wrap.Written as wrap
-use Rattle.header.specs.declared.wrap.Written.TheVariants.{Length, Refused}
 use Rattle.refusals.specs.Refusals.{number_of}
 use Rattle.bogtrumpet_rules.specs.declared.addresses.Address.{Address}
 use Rattle.bogtrumpet_rules.specs.declared.addresses.Prefixes.{Prefixes}
@@ -16,8 +14,8 @@ use Rattle.bogtrumpet_rules.specs.declared.writers.Outer.{Outer}
 
 -- the number, and with 0 the length written
 abbrev pub plain_written : wrap.Written → Written
-plain_written (Length n) = record { number = 0; length = n }
-plain_written (Refused refusal) = record { number = number_of refusal; length = 0 }
+plain_written (Ok n) = record { number = 0; length = n }
+plain_written (Err refusal) = record { number = number_of refusal; length = 0 }
 
 -- the fields of an outer header: any don't-fragment byte but 0 sets the flag
 abbrev pub fields_in : Outer → OuterFields
@@ -32,8 +30,8 @@ fields_in o = record {
 
 -- the IPv4 address that an ISATAP address embeds
 abbrev pub plain_embedded : address.Embedded → Embedded
-plain_embedded (Ipv4 a) = record { found = true; address = a }
-plain_embedded Nothing = record { found = false; address = 0 }
+plain_embedded (Some a) = record { found = true; address = a }
+plain_embedded None = record { found = false; address = 0 }
 
 -- an ISATAP address has an on-link prefix, then 00 or 02, 00, 5E, FE, then the IPv4 address (R6.1)
 unfoldable pub isatap_in : Prefixes → Address → Embedded

@@ -1,10 +1,9 @@
 -- Headers read and judged, for C (R5): the number, 0 where nothing is refused, and what was read.
-use Rattle.std.specs.Prelude.{ℕ, false, cond, List, length}
+use Rattle.std.specs.Prelude.{ℕ, false, cond, List, length, Ok, Err}
 use Rattle.header.specs.Inner.{inner_of, is_inner_malformed}
 use Rattle.header.specs.Outer.{outer_of, outer_read_of, payload_of}
 use Rattle.header.specs.declared.outer.Outer.{Outer}
 use Rattle.header.specs.declared.outer.OuterRead as outer
-use Rattle.header.specs.declared.outer.OuterRead.TheVariants.{Header, Refused}
 use Rattle.refusals.specs.Refusals.{number_of}
 use Rattle.refusals.specs.declared.Refusal.{Refusal}
 use Rattle.refusals.specs.declared.Refusal.TheVariants.{InnerMalformed}
@@ -13,9 +12,9 @@ use Rattle.bogtrumpet_rules.specs.declared.headers.Received.{Received}
 
 -- the fields of a header that passes, with its length and the datagram's
 abbrev pub plain_outer : outer.OuterRead → ℕ → ℕ → OuterRead
-plain_outer (Header o) header total =
+plain_outer (Ok o) header total =
     record { number = 0; protocol = o.protocol; header = header; total = total; source = o.source; destination = o.destination }
-plain_outer (Refused r) header total = record { number = number_of r; protocol = 0; header = 0; total = 0; source = 0; destination = 0 }
+plain_outer (Err r) header total = record { number = number_of r; protocol = 0; header = 0; total = 0; source = 0; destination = 0 }
 
 -- the outer header of a datagram, or the first of the numbers 2 to 5
 unfoldable pub outer_in : List ℕ → OuterRead
@@ -33,8 +32,8 @@ opened_in d o =
 
 -- 2 to 5, then 8, else the inner packet
 abbrev pub unwrapped_as : outer.OuterRead → List ℕ → Received
-unwrapped_as (Header o) d = opened_in d o
-unwrapped_as (Refused r) d = refused_in r
+unwrapped_as (Ok o) d = opened_in d o
+unwrapped_as (Err r) d = refused_in r
 
 -- where the inner packet stands in a datagram, by the rules that need no settings: 2 to 5 and 8
 unfoldable pub unwrapped_in : List ℕ → Received

@@ -36,15 +36,15 @@ pub extern "C" fn bogtrumpet_forbidden(address: u32) -> bool
     address::forbidden(address)
 }
 
-fn plain_embedded(embedded: address::Embedded) -> Embedded
+fn plain_embedded(embedded: Option<u32>) -> Embedded
     ensures { result ≡ plain_embedded embedded }
 {
     match embedded {
-        address::Embedded::Ipv4(address) => Embedded {
+        Some(address) => Embedded {
             found: true,
             address,
         },
-        address::Embedded::Nothing => Embedded {
+        None => Embedded {
             found: false,
             address: 0,
         },

@@ -38,11 +38,11 @@ fn header_length(d: &[u8]) -> u16
     (first % 16) as u16 * 4
 }
 
-fn plain_outer(read: outer::OuterRead, header: u16, total: u16) -> OuterRead
+fn plain_outer(read: Result<outer::Outer, Refusal>, header: u16, total: u16) -> OuterRead
     ensures { result ≡ plain_outer read header total }
 {
     match read {
-        outer::OuterRead::Header(o) => OuterRead {
+        Ok(o) => OuterRead {
             number: 0,
             protocol: o.protocol,
             header,
@@ -50,7 +50,7 @@ fn plain_outer(read: outer::OuterRead, header: u16, total: u16) -> OuterRead
             source: o.source,
             destination: o.destination,
         },
-        outer::OuterRead::Refused(refusal) => OuterRead {
+        Err(refusal) => OuterRead {
             number: refusal.number(),
             protocol: 0,
             header: 0,
@@ -110,7 +110,7 @@ pub extern "C" fn bogtrumpet_unwrap(d: &[u8]) -> Received
 {
     let read = outer::read_outer(d);
     match read {
-        outer::OuterRead::Header(o) => open(d, o),
-        outer::OuterRead::Refused(refusal) => refused(refusal),
+        Ok(o) => open(d, o),
+        Err(refusal) => refused(refusal),
     }
 }

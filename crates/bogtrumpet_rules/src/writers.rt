@@ -28,12 +28,12 @@ pub struct Outer {
     pub destination: u32,
 }
 
-fn plain_written(written: wrap::Written) -> Written
+fn plain_written(written: Result<usize, Refusal>) -> Written
     ensures { result ≡ plain_written written }
 {
     match written {
-        wrap::Written::Length(length) => Written { number: 0, length },
-        wrap::Written::Refused(refusal) => Written {
+        Ok(length) => Written { number: 0, length },
+        Err(refusal) => Written {
             number: refusal.number(),
             length: 0,
         },

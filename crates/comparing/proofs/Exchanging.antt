@@ -1,4 +1,6 @@
 -- Exchanging the two recordings gives the same runs, and the answer mirrored (R27.9). Assumes nothing.
+use Rattle.std.specs.Prelude.{Result, Ok, Err}
+use Rattle.refusals.specs.declared.Refusal.{Refusal}
 use Prim.Native.Nat.{ℕ, zero, suc, max}
 use mathlib.Core.Path.{◌≡◌, refl, sym}
 use mathlib.Core.Bool.{Bool, true, false, cond, and_comm}
@@ -9,8 +11,6 @@ use borrow.Author.Tests.{eqb-true, eqb-false, eq-eqb, ne_eqb, ltb-true}
 use lib.Dec.{eqb, ltb}
 use lib.ListN.{length, get_or}
 use Rattle.refusals.specs.Refusals.{stop_or}
-use Rattle.refusals.specs.declared.Check.{Check}
-use Rattle.refusals.specs.declared.Check.TheVariants.{Pass, Stop}
 use Rattle.input.specs.Recording.{Datagram, datagrams_of, is_recording}
 use Rattle.comparing.specs.Runs.{runs_from, differs_at, runs, pair_runs, runs_of}
 use Rattle.comparing.specs.Compared.{more_of, report_of, compare_check, compared_of, output_of}
@@ -80,6 +80,6 @@ module _ (masked : Bool) where
     unfolding compared_of
     answer-mirrored room = rw (← check_exchanged room, ← report-exchanged, more-exchanged) (go (compare_check masked first second room))
       where
-        go : (c : Check) → stop_or Refused c (Report (length (report_of masked first second)) (exchanged (more_of first second))) ≡ mirrored (stop_or Refused c (Report (length (report_of masked first second)) (more_of first second)))
-        go Pass = refl
-        go (Stop r) = refl
+        go : (c : Result Unit Refusal) → stop_or Refused c (Report (length (report_of masked first second)) (exchanged (more_of first second))) ≡ mirrored (stop_or Refused c (Report (length (report_of masked first second)) (more_of first second)))
+        go (Ok tt) = refl
+        go (Err r) = refl

@@ -1,4 +1,6 @@
 -- What the answer says, and what it leaves in the output (R27.6 to R27.8), in facts over the bytes. Assumes nothing.
+use Rattle.std.specs.Prelude.{Result, Ok, Err}
+use Rattle.refusals.specs.declared.Refusal.{Refusal}
 use Prim.Native.Nat.{ℕ}
 use mathlib.Core.Path.{◌≡◌, refl}
 use mathlib.Core.Bool.{Bool, true, false, cond}
@@ -11,8 +13,6 @@ use lib.Seq.{take-append_seam, drop-append_seam}
 use Rattle.checksum.proofs.Bytes.{Bytes}
 use Rattle.lent.specs.Written.{written}
 use Rattle.refusals.specs.Refusals.{stop_or}
-use Rattle.refusals.specs.declared.Check.{Check}
-use Rattle.refusals.specs.declared.Check.TheVariants.{Pass, Stop}
 use Rattle.input.specs.Recording.{datagrams_of}
 use Rattle.comparing.specs.Compared.{more_of, report_of, compare_check, compared_of, output_of}
 use Rattle.comparing.specs.Facts.{HasMore, Leaves}
@@ -46,12 +46,12 @@ leaves masked first second out b c = go (compare_check masked first second (leng
     report : List ℕ
     report = report_of masked first second
 
-    go : (check : Check)
+    go : (check : Result Unit Refusal)
         → Leaves masked first second out (stop_or Refused check (Report (length report) (more_of first second))) (stop_or (λ refusal. out) check (written report out))
-    go Pass = (
+    go (Ok tt) = (
       length-of-report masked first second,
       more-named first second,
       rw (take-append_seam report (drop (length report) out)) (report-read masked first second b c),
       drop-append_seam report (drop (length report) out),
     )
-    go (Stop refusal) = refl
+    go (Err refusal) = refl

@@ -1,8 +1,8 @@
 -- What comparing two recordings comes to (R27): the answer, and the bytes of the output.
-use Rattle.std.specs.Prelude.{ℕ, Bool, cond, not, ◌&&◌, List, [], ◌∷◌, length, ltb}
+use Rattle.refusals.specs.declared.Refusal.{Refusal}
+use Rattle.std.specs.Prelude.{ℕ, Bool, cond, not, ◌&&◌, List, [], ◌∷◌, length, ltb, Result}
 use Rattle.refusals.specs.Refusals.{first_of, stop_or}
 use Rattle.refusals.specs.declared.Refusal.TheVariants.{RecordingMalformed, OutputShort}
-use Rattle.refusals.specs.declared.Check.{Check}
 use Rattle.lent.specs.Written.{written}
 use Rattle.input.specs.Recording.{datagrams_of, is_recording}
 use Rattle.comparing.specs.Runs.{runs_of, runs_bytes}
@@ -22,7 +22,7 @@ unfoldable pub report_of : Bool → List ℕ → List ℕ → List ℕ
 report_of masked first second = runs_bytes (runs_of masked first second)
 
 -- 31, then 15 (R27.8)
-unfoldable pub compare_check : Bool → List ℕ → List ℕ → ℕ → Check
+unfoldable pub compare_check : Bool → List ℕ → List ℕ → ℕ → Result Unit Refusal
 compare_check masked first second room =
     first_of ((not (is_recording first && is_recording second), RecordingMalformed) ∷ ((ltb room (length (report_of masked first second)), OutputShort) ∷ []))
 

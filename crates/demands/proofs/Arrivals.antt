@@ -1,4 +1,5 @@
 -- 11, 15, 2, 3, 4, 6, 7 of datagrams that pass 2 and 3 and have one key: they come to the same. Assumes nothing.
+use Rattle.std.specs.Prelude.{Result, Ok, Err}
 use Prim.Native.Nat.{ℕ, ◌≤◌, ◌<◌}
 use mathlib.Core.Path.{◌≡◌, refl, sym, ap, ◌∙◌}
 use mathlib.Core.Logic.{◌⊎◌, ⊎_elim, inl, inr}
@@ -15,8 +16,6 @@ use Rattle.refusals.specs.Refusals.{number_of, first_of}
 use Rattle.refusals.proofs.Laws.{all_false}
 use Rattle.refusals.specs.declared.Refusal.{Refusal}
 use Rattle.refusals.specs.declared.Refusal.TheVariants.{NoLocator, OtherProtocol, NotForUs, OuterSourceForbidden, OutputShort}
-use Rattle.refusals.specs.declared.Check.{Check}
-use Rattle.refusals.specs.declared.Check.TheVariants.{Pass, Stop}
 use Rattle.header.specs.Numbers.{ipv6}
 use Rattle.header.specs.Fields.{quad_at}
 use Rattle.header.specs.Outer.{outer_of, is_outer_malformed, is_sum_wrong}
@@ -49,19 +48,19 @@ key_rows s i d =
     ∷ []
 
 -- the first of 11, 4, 6 and 7
-abbrev pub onward : Bool × Settings → ℕ → List ℕ → Check
+abbrev pub onward : Bool × Settings → ℕ → List ℕ → Result Unit Refusal
 onward q i d = first_of ((not q.0, NoLocator) ∷ key_rows q.1 i d)
 
 -- the number of a check, 0 where it passes
-abbrev number_in : Check → ℕ
-number_in Pass = 0
-number_in (Stop r) = number_of r
+abbrev number_in : Result Unit Refusal → ℕ
+number_in (Ok tt) = 0
+number_in (Err r) = number_of r
 
 pub onward_same : (q : Bool × Settings) (i : ℕ) {e d : List ℕ} → SameKey e d → onward q i e ≡ onward q i d
 onward_same q i k = rw (k.protocol, k.destination, k.source)
 
 -- what passes is for a service that is there
-pub onward_there : (q : Bool × Settings) (i : ℕ) (d : List ℕ) → onward q i d ≡ Pass → q.0 ≡ true
+pub onward_there : (q : Bool × Settings) (i : ℕ) (d : List ℕ) → onward q i d ≡ Ok tt → q.0 ≡ true
 onward_there q i d h = not-false _ (all_false ((not q.0, NoLocator) ∷ key_rows q.1 i d) h).0
 
 module _ (n : Seat) (e : List ℕ) (i : ℕ) (memory : List ℕ) where
@@ -96,7 +95,7 @@ module _ (n : Seat) (e : List ℕ) (i : ℕ) (memory : List ℕ) where
       go false is = refl
 
   -- with less it is refused by 15
-  pub too_short : n.there ≡ true → length memory < memory_room → arrival n e i memory ≡ Stop OutputShort
+  pub too_short : n.there ≡ true → length memory < memory_room → arrival n e i memory ≡ Err OutputShort
   too_short is l = rw (is, lt-ltb (length memory) memory_room l)
 
   -- what passes
@@ -119,7 +118,7 @@ module _ (n : Seat) (e : List ℕ) (i : ℕ) (memory : List ℕ) where
   unfolding outer_of
   not_bad z = fails _ (decides_forbidden_to n.service.settings (quad_at e 12)) z
 
-  pub passed : arrival n e i memory ≡ Pass → Passed
+  pub passed : arrival n e i memory ≡ Ok tt → Passed
   passed h =
       let f = all_false (arrivals n e i memory) h in
       let g = f.1.1.1.1 in
@@ -132,11 +131,11 @@ module _ (n : Seat) (e : List ℕ) (i : ℕ) (memory : List ℕ) where
       }
 
 -- 11, 4, 6 and 7 give no other number
-pub onward_number : (q : Bool × Settings) (i : ℕ) (d : List ℕ) (r : Refusal) → onward q i d ≡ Stop r
+pub onward_number : (q : Bool × Settings) (i : ℕ) (d : List ℕ) (r : Refusal) → onward q i d ≡ Err r
     → (number_of r ≡ 4) ⊎ ((number_of r ≡ 6) ⊎ ((number_of r ≡ 7) ⊎ (number_of r ≡ 11)))
 onward_number q i d r h = go (not q.0) (not (eqb (get_or d 9 0) ipv6)) (not (is_our_locator q.1 (quad_at d 16) i)) (forbidden_to q.1 (quad_at d 12)) h
   where
-    go : (t a b c : Bool) → first_of ((t, NoLocator) ∷ (a, OtherProtocol) ∷ (b, NotForUs) ∷ (c, OuterSourceForbidden) ∷ []) ≡ Stop r
+    go : (t a b c : Bool) → first_of ((t, NoLocator) ∷ (a, OtherProtocol) ∷ (b, NotForUs) ∷ (c, OuterSourceForbidden) ∷ []) ≡ Err r
         → (number_of r ≡ 4) ⊎ ((number_of r ≡ 6) ⊎ ((number_of r ≡ 7) ⊎ (number_of r ≡ 11)))
     go true a b c e = inr (inr (inr (ap number_in (sym e))))
     go false true b c e = inl (ap number_in (sym e))
@@ -173,5 +172,5 @@ module _ (i : ℕ) (d : List ℕ) (ps : List (List ℕ)) (cut : Cutting d ps) (n
   one-arrival = goes_onward n e i memory one-memory repeats.right ∙ onward_same (judge_of n) i one_key
 
   -- where 11, 4, 6 or 7 refuses, that is its answer
-  pub one_stops : (r : Refusal) → onward (judge_of n) i d ≡ Stop r → (collected_at n e i time memory).answer ≡ Refused r
+  pub one_stops : (r : Refusal) → onward (judge_of n) i d ≡ Err r → (collected_at n e i time memory).answer ≡ Refused r
   one_stops r h = stopped n e i time memory r (one-arrival ∙ h)

@@ -1,11 +1,11 @@
 -- What is collected on a node is what comes of the pieces that its calls handed in. Assumes nothing.
+use Rattle.std.specs.Prelude.{Result, Ok, Err}
+use Rattle.refusals.specs.declared.Refusal.{Refusal}
 use Prim.Native.Nat.{ℕ, max}
 use mathlib.Core.Path.{◌≡◌, refl, sym, ap, ◌∙◌}
 use mathlib.Core.Bool.{Bool, true, false}
 use mathlib.Core.List.{List, [], ◌∷◌, ◌++◌}
 use mathlib.Core.Option.{Option, none, some}
-use Rattle.refusals.specs.declared.Check.{Check}
-use Rattle.refusals.specs.declared.Check.TheVariants.{Pass, Stop}
 use Rattle.header.specs.Outer.{outer_of}
 use Rattle.settings.specs.Settings.{is_accepted, are_pair_accepted}
 use Rattle.settings.specs.declared.Settings.{Settings}
@@ -35,11 +35,11 @@ by_handed : (v : ServiceName) (n : Node) (x : NodeCall) → (service_of (outcome
 by_handed v n x =
     go (pieces_of v x) (outcome_of n x) (pieces_left v n x) ∙ sym (ap (handed_after (service_of n v).pieces) (handed_by_lem v n x))
   where
-    at : (e : List ℕ) (j time : ℕ) (memory : List ℕ) (c : Check) (b : Bool)
+    at : (e : List ℕ) (j time : ℕ) (memory : List ℕ) (c : Result Unit Refusal) (b : Bool)
         → (after_all (state_of (seat_of v n) memory) (step_by c b (step_at (max n.latest time) e))).collection ≡ handed_after (service_of n v).pieces (handed_at c b (here (seat_of v n) e j time memory))
-    at e j time memory Pass true = refl
-    at e j time memory Pass false = refl
-    at e j time memory (Stop r) b = refl
+    at e j time memory (Ok tt) true = refl
+    at e j time memory (Ok tt) false = refl
+    at e j time memory (Err r) b = refl
 
     go : (c : OfPieces) (o : Outcome) → PiecesLeft v n c o → (service_of o.node v).pieces ≡ handed_after (service_of n v).pieces (hands_at (seat_of v n) c)
     go (a_datagram e j time memory) o l =

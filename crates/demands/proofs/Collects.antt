@@ -1,4 +1,5 @@
 -- What a refusal of receiving's call for the number leaves of the collection and of its memory, by its number. Assumes nothing.
+use Rattle.std.specs.Prelude.{Result, Ok, Err}
 use Prim.Native.Nat.{ℕ, ◌*◌, max}
 use mathlib.Core.Path.{◌≡◌, refl, sym, ap, subst, ◌∙◌}
 use mathlib.Core.Bool.{Bool, true, false, cond, not}
@@ -8,8 +9,6 @@ use lib.ListN.{length}
 use Rattle.refusals.specs.Refusals.{number_of, first_of, stop_or}
 use Rattle.refusals.specs.declared.Refusal.{Refusal}
 use Rattle.refusals.specs.declared.Refusal.TheVariants.{InnerMalformed, InnerSourceBad, OuterSourceWrong, PieceWaits, PiecesDisagree}
-use Rattle.refusals.specs.declared.Check.{Check}
-use Rattle.refusals.specs.declared.Check.TheVariants.{Pass, Stop}
 use Rattle.header.specs.Fields.{quad_at}
 use Rattle.header.specs.Outer.{outer_of}
 use Rattle.header.specs.Inner.{inner_of, is_inner_malformed}
@@ -91,9 +90,9 @@ module _ (s : State) (x : Step) where
   step_leaves r h = plan_leaves (plan_of x.time x.key x.piece s.collection s.memory) r h
 
 -- what a check may change
-abbrev changed_in : Check → MayChange
-changed_in Pass = memory_too
-changed_in (Stop r) = changed_by true (number_of r)
+abbrev changed_in : Result Unit Refusal → MayChange
+changed_in (Ok tt) = memory_too
+changed_in (Err r) = changed_by true (number_of r)
 
 -- 8, 9 and 10, of what a piece completes, may change the memory
 inward_changes : (n : Seat) (source : ℕ) (p : List ℕ) → changed_in (inward n source p) ≡ memory_too
@@ -123,12 +122,12 @@ module _ (n : Seat) (e : List ℕ) (j time : ℕ) (memory : List ℕ) (r : Refus
   abbrev y : Step
   y = step_at (max n.latest time) e
 
-  joined_leaves : (t : State) (c : Check) (o l : ℕ) → changed_in c ≡ memory_too → stop_or Refused c (Joined o l) ≡ Refused r → Leaves (changed_by true (number_of r)) (state_of n memory) t
-  joined_leaves t Pass o l m z = absurd (joined-refused o l r z)
-  joined_leaves t (Stop q) o l m z =
+  joined_leaves : (t : State) (c : Result Unit Refusal) (o l : ℕ) → changed_in c ≡ memory_too → stop_or Refused c (Joined o l) ≡ Refused r → Leaves (changed_by true (number_of r)) (state_of n memory) t
+  joined_leaves t (Ok tt) o l m z = absurd (joined-refused o l r z)
+  joined_leaves t (Err q) o l m z =
       subst (λ (k : MayChange). Leaves k (state_of n memory) t) (sym m ∙ ap (λ (k : Refusal). changed_by true (number_of k)) (refused-same q r z)) (leaves_none (state_of n memory) t)
 
-  piece_leaves : arrival n e j memory ≡ Pass → is_piece (outer_of e) ≡ true → Leaves (changed_by true (number_of r)) (state_of n memory) (after (state_of n memory) y)
+  piece_leaves : arrival n e j memory ≡ Ok tt → is_piece (outer_of e) ≡ true → Leaves (changed_by true (number_of r)) (state_of n memory) (after (state_of n memory) y)
   piece_leaves a b = go (answer (state_of n memory) y) refl (sym (answered_step n e j time memory a b) ∙ h)
     where
       go : (x : Answer) → answer (state_of n memory) y ≡ x
@@ -145,7 +144,7 @@ module _ (n : Seat) (e : List ℕ) (j time : ℕ) (memory : List ℕ) (r : Refus
       subst (λ (t : State). Leaves (changed_by (is_piece (outer_of e)) (number_of r)) (state_of n memory) t) (sym (received n e j time memory))
       (go (arrival n e j memory) refl (is_piece (outer_of e)) refl)
     where
-      go : (c : Check) → arrival n e j memory ≡ c → (b : Bool) → is_piece (outer_of e) ≡ b → Leaves (changed_by b (number_of r)) (state_of n memory) (after_all (state_of n memory) (step_by c b y))
-      go Pass a true b = piece_leaves a b
-      go Pass a false b = leaves_all _ (state_of n memory) _ refl
-      go (Stop q) a b z = leaves_all _ (state_of n memory) _ refl
+      go : (c : Result Unit Refusal) → arrival n e j memory ≡ c → (b : Bool) → is_piece (outer_of e) ≡ b → Leaves (changed_by b (number_of r)) (state_of n memory) (after_all (state_of n memory) (step_by c b y))
+      go (Ok tt) a true b = piece_leaves a b
+      go (Ok tt) a false b = leaves_all _ (state_of n memory) _ refl
+      go (Err q) a b z = leaves_all _ (state_of n memory) _ refl

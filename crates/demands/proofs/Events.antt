@@ -1,4 +1,6 @@
 -- A node's calls as calls of `paths`: each is a clock and then what is seen of it, and no clock is anything to a sender. Assumes nothing.
+use Rattle.std.specs.Prelude.{Result, Ok, Err}
+use Rattle.refusals.specs.declared.Refusal.{Refusal}
 use Prim.Native.Nat.{ℕ, suc, max}
 use mathlib.Core.Path.{◌≡◌, refl, ap, sym, ◌∙◌}
 use mathlib.Core.Bool.{Bool, true, false, cond, ◌&&◌}
@@ -8,8 +10,6 @@ use native.Mathlib.Nat.{max-zero}
 use lib.Dec.{ltb, eqb}
 use lib.ListN.{length}
 use Rattle.address.specs.Address.{last_quad}
-use Rattle.refusals.specs.declared.Check.{Check}
-use Rattle.refusals.specs.declared.Check.TheVariants.{Pass, Stop}
 use Rattle.settings.specs.declared.Settings.{Settings}
 use Rattle.paths.specs.Candidate.{is_below}
 use Rattle.paths.specs.Kept.{in_force}
@@ -39,9 +39,9 @@ use Rattle.demands.specs.Calls.{NodeCall, Outcome, outcome_of, is_same, OfSizes,
 use Rattle.demands.specs.Sender.{sent_event, reported_event, event_in, node_events}
 use Rattle.demands.proofs.Left.{Left, left}
 
-abbrev passes : Check → Bool
-passes Pass = true
-passes (Stop r) = false
+abbrev passes : Result Unit Refusal → Bool
+passes (Ok tt) = true
+passes (Err r) = false
 
 -- the number of a service among the links, and its link's size
 abbrev pub place_of : ServiceName → ℕ
@@ -84,9 +84,9 @@ and_false : (b : Bool) → (b && false) ≡ false
 and_false true = refl
 and_false false = refl
 
-send_seen : (check : Check) (M n : ℕ) (takes : Bool) → send_answer M n (passes check && takes) ≡ seen_after check (send_answer M n takes)
-send_seen Pass M n takes = refl
-send_seen (Stop r) M n takes = rw (and_false (ltb M n))
+send_seen : (check : Result Unit Refusal) (M n : ℕ) (takes : Bool) → send_answer M n (passes check && takes) ≡ seen_after check (send_answer M n takes)
+send_seen (Ok tt) M n takes = refl
+send_seen (Err r) M n takes = rw (and_false (ltb M n))
 
 -- what is seen of a sending, by whether its service is there
 there_seen : (there : Bool) (service : Service) (P : ℕ) (packet hop : List ℕ) (k room : ℕ)

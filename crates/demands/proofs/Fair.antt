@@ -1,4 +1,6 @@
 -- The fairness law holds of every node that has grown from accepted settings: its calls as calls on the router list. Assumes nothing.
+use Rattle.std.specs.Prelude.{Some, Result, Ok, Err}
+use Rattle.refusals.specs.declared.Refusal.{Refusal}
 use Prim.Native.Nat.{ℕ, ◌+◌, ◌≤◌, max}
 use mathlib.Core.Path.{◌≡◌, refl, sym, ap, ◌∙◌}
 use mathlib.Core.Bool.{Bool, true, false, ◌&&◌, not}
@@ -17,19 +19,14 @@ use Rattle.routers.specs.Routers.{live, next_of, rescheduled_of}
 use Rattle.refusals.specs.Given.{Given}
 use Rattle.routers.specs.declared.RouterList.{RouterList}
 use Rattle.routers.specs.declared.Router.{Router}
-use Rattle.routers.specs.declared.Next.TheVariants.{Due}
 use Rattle.routers.proofs.FairCalls as routers
 use Rattle.routers.proofs.FairCalls.{RouterCall, served, Unheard}
 use Rattle.routers.proofs.Fairness.{fair}
 use Rattle.routers.proofs.Live.{live-rescheduled}
 use Rattle.asking.specs.Ask.{ask_given}
 use Rattle.asking.proofs.Laws as asking
-use Rattle.asking.specs.declared.AskAnswer.{AskAnswer}
-use Rattle.asking.specs.declared.AskAnswer.TheVariants as ask
 use Rattle.hearing.specs.Heard.{heard_given}
 use Rattle.hearing.proofs.Laws as hearing
-use Rattle.hearing.specs.declared.HeardAnswer.{HeardAnswer}
-use Rattle.hearing.specs.declared.HeardAnswer.TheVariants as hear
 use Rattle.node.specs.Node.{service_of, has_service, node_with}
 use Rattle.node.specs.Receive.{receive_of}
 use Rattle.node.specs.Send.{send_of}
@@ -52,7 +49,7 @@ use Rattle.demands.proofs.Follows.{same_some, no_some, its-settings, fresh_follo
 -- what a call does to the router list of a service, now: it leaves it, asks one of its routers, puts one of them off, or is not quiet
 data Turn (q : Service) (now : ℕ) (c : OfRouters) (g : Given) (after : RouterList) : Type 0 where
   leaves : serves c g ≡ [] → after ≡ q.routers → Turn q now c g after
-  asks : (b : ℕ) → serves c g ≡ b ∷ [] → next_of now (live q.routers) ≡ Due b
+  asks : (b : ℕ) → serves c g ≡ b ∷ [] → next_of now (live q.routers) ≡ Some b
       → after ≡ rescheduled_of b (now + q.settings.interval) q.routers → Turn q now c g after
   puts_off : (b delay : ℕ) → serves c g ≡ [] → ((a : ℕ) → Quiet a c g → b ≡ a → ⊥)
       → (q.settings.interval ≤ without_lifetime → q.settings.interval ≤ delay)
@@ -61,22 +58,22 @@ data Turn (q : Service) (now : ℕ) (c : OfRouters) (g : Given) (after : RouterL
 
 -- of the service itself, which may not be there
 module _ (q : Service) (now : ℕ) where
-  asking_turn : (there : Bool) (k : ℕ) (out : List ℕ) (a : AskAnswer) → (asked_by there q now k (length out)).answer ≡ a
+  asking_turn : (there : Bool) (k : ℕ) (out : List ℕ) (a : Result ℕ Refusal) → (asked_by there q now k (length out)).answer ≡ a
       → Turn q now an_asking (ask_given (asked_by there q now k (length out)).answer) (asked_by there q now k (length out)).routers
   unfolding asked_by
-  asking_turn true k out (ask.Router b) e =
+  asking_turn true k out (Ok b) e =
       let a = asking.answered-next q.settings q.routers now k out b e in
       asks b (rw e) a.next a.rescheduled
-  asking_turn true k out (ask.Refused x) e = leaves (rw e) (asking.refused-unchanged q.settings q.routers now k out x e).0
+  asking_turn true k out (Err x) e = leaves (rw e) (asking.refused-unchanged q.settings q.routers now k out x e).0
   asking_turn false k out a e = leaves refl refl
 
-  hearing_turn : (there : Bool) (packet : List ℕ) (a : HeardAnswer) → (heard_by there q now packet).answer ≡ a
+  hearing_turn : (there : Bool) (packet : List ℕ) (a : Result ℕ Refusal) → (heard_by there q now packet).answer ≡ a
       → Turn q now an_advertisement (heard_given (heard_by there q now packet).answer) (heard_by there q now packet).routers
   unfolding heard_by
-  hearing_turn true packet (hear.Router b) e =
+  hearing_turn true packet (Ok b) e =
       let p = hearing.accepted_puts_off q.settings q.routers now packet b e in
       puts_off b p.delay refl (λ a quiet same. quiet (rw (e, same))) p.interval p.rescheduled
-  hearing_turn true packet (hear.Refused x) e = leaves refl (hearing.refused-unchanged q.settings q.routers now packet x e)
+  hearing_turn true packet (Err x) e = leaves refl (hearing.refused-unchanged q.settings q.routers now packet x e)
   hearing_turn false packet a e = leaves refl refl
 
   relisting_turn : (there : Bool) (addresses : List ℕ) (count : ℕ) (b : Bool) → (there && are_routers_right q.settings addresses count) ≡ b

@@ -1,4 +1,5 @@
 -- Which calls hand in a piece to be collected: those that are a step of the collection. Assumes nothing.
+use Rattle.std.specs.Prelude.{Result, Ok, Err}
 use Prim.Native.Nat.{ℕ, ◌*◌, max}
 use mathlib.Core.Path.{◌≡◌, refl, sym, ap, ◌∙◌}
 use mathlib.Core.Bool.{Bool, true, false, cond, not, ◌&&◌}
@@ -10,8 +11,6 @@ use Rattle.lists.specs.Parts.{part}
 use Rattle.refusals.specs.Refusals.{number_of, first_of, stop_or}
 use Rattle.refusals.specs.declared.Refusal.{Refusal}
 use Rattle.refusals.specs.declared.Refusal.TheVariants.{NoLocator, OutputShort, OuterMalformed, OuterChecksum, OtherProtocol, NotForUs, OuterSourceForbidden, InnerMalformed, InnerSourceBad, OuterSourceWrong, PieceWaits}
-use Rattle.refusals.specs.declared.Check.{Check}
-use Rattle.refusals.specs.declared.Check.TheVariants.{Pass, Stop}
 use Rattle.address.specs.Address.{last_quad, is_bad_source_with}
 use Rattle.header.specs.Numbers.{ipv6}
 use Rattle.header.specs.Fields.{quad_at}
@@ -41,25 +40,25 @@ use Rattle.demands.proofs.Seats.{Seat, collected_at}
 use Rattle.demands.proofs.Steps.{arrival, step_at, state_of, inward, stopped, answered_step}
 
 -- whether a check turns a piece away
-abbrev away : Check → Bool
-away Pass = false
-away (Stop r) = is_turned_away (number_of r)
+abbrev away : Result Unit Refusal → Bool
+away (Ok tt) = false
+away (Err r) = is_turned_away (number_of r)
 
-pub pass_stop : (r : Refusal) → Pass ≡ Stop r → ⊥
+pub pass_stop : (r : Refusal) → (Ok tt) ≡ Err r → ⊥
 pass_stop r e = let z : ◌≡◌ {A = ℕ} 0 1 = ap marked e in omega arith
   where
-    marked : Check → ℕ
-    marked Pass = 0
-    marked (Stop q) = 1
+    marked : Result Unit Refusal → ℕ
+    marked (Ok tt) = 0
+    marked (Err q) = 1
 
 -- 11, 15, 2, 3, 4, 6, 7 do, 8, 9, 10 do not
-arrival_away : (n : Seat) (e : List ℕ) (j : ℕ) (memory : List ℕ) (r : Refusal) → arrival n e j memory ≡ Stop r → is_turned_away (number_of r) ≡ true
+arrival_away : (n : Seat) (e : List ℕ) (j : ℕ) (memory : List ℕ) (r : Refusal) → arrival n e j memory ≡ Err r → is_turned_away (number_of r) ≡ true
 arrival_away n e j memory r h =
     let o = outer_of e in
     let s = n.service.settings in
     ap away (sym h) ∙ go (not n.there) (ltb (length memory) memory_room) (is_outer_malformed (length e) o) (is_sum_wrong e o) (not (eqb o.protocol ipv6)) (not (is_our_locator s o.destination j)) (forbidden_to s o.source) h
   where
-    go : (t a b c d f g : Bool) → first_of ((t, NoLocator) ∷ (a, OutputShort) ∷ (b, OuterMalformed) ∷ (c, OuterChecksum) ∷ (d, OtherProtocol) ∷ (f, NotForUs) ∷ (g, OuterSourceForbidden) ∷ []) ≡ Stop r
+    go : (t a b c d f g : Bool) → first_of ((t, NoLocator) ∷ (a, OutputShort) ∷ (b, OuterMalformed) ∷ (c, OuterChecksum) ∷ (d, OtherProtocol) ∷ (f, NotForUs) ∷ (g, OuterSourceForbidden) ∷ []) ≡ Err r
         → away (first_of ((t, NoLocator) ∷ (a, OutputShort) ∷ (b, OuterMalformed) ∷ (c, OuterChecksum) ∷ (d, OtherProtocol) ∷ (f, NotForUs) ∷ (g, OuterSourceForbidden) ∷ [])) ≡ true
     go true a b c d f g z = refl
     go false true b c d f g z = refl
@@ -107,9 +106,9 @@ step_away : (s : State) (x : Step) → away_by (answer s x) ≡ false
 unfolding taken_of
 step_away s x = plan_away (plan_of x.time x.key x.piece s.collection s.memory) x.time x.key x.piece s.collection
 
-stop_away : (c : Check) (o l : ℕ) → away c ≡ false → is_turned_away (received_given (stop_or Refused c (Joined o l))).number ≡ false
-stop_away Pass o l h = refl
-stop_away (Stop r) o l h = h
+stop_away : (c : Result Unit Refusal) (o l : ℕ) → away c ≡ false → is_turned_away (received_given (stop_or Refused c (Joined o l))).number ≡ false
+stop_away (Ok tt) o l h = refl
+stop_away (Err r) o l h = h
 
 joined_away : (n : Seat) (source : ℕ) (a : Answer) (memory : List ℕ) → away_by a ≡ false
     → is_turned_away (received_given (joined_by n.service.settings (live n.service.routers) source a memory)).number ≡ false
@@ -119,10 +118,10 @@ joined_away n source (taken.Joined k l) memory h =
 joined_away n source (taken.Refused r) memory h = h
 
 -- what is handed in by a check and whether it is a piece
-abbrev pub handed_at : Check → Bool → Handed → List Handed
-handed_at Pass true h = h ∷ []
-handed_at Pass false h = []
-handed_at (Stop r) b h = []
+abbrev pub handed_at : Result Unit Refusal → Bool → Handed → List Handed
+handed_at (Ok tt) true h = h ∷ []
+handed_at (Ok tt) false h = []
+handed_at (Err r) b h = []
 
 module _ (n : Seat) (e : List ℕ) (j time : ℕ) (memory : List ℕ) where
   abbrev pub number : ℕ
@@ -145,16 +144,16 @@ module _ (n : Seat) (e : List ℕ) (j time : ℕ) (memory : List ℕ) where
       turned : (b : Bool) → is_turned_away number ≡ b → cond (true && not (is_turned_away number)) (here ∷ []) [] ≡ cond (true && not b) (here ∷ []) []
       turned b h = ap (λ (t : Bool). cond (true && not t) (here ∷ []) []) h
 
-      go : (c : Check) → arrival n e j memory ≡ c → (b : Bool) → is_piece (outer_of e) ≡ b → cond (b && not (is_turned_away number)) (here ∷ []) [] ≡ handed_at c b here
-      go Pass a true b =
+      go : (c : Result Unit Refusal) → arrival n e j memory ≡ c → (b : Bool) → is_piece (outer_of e) ≡ b → cond (b && not (is_turned_away number)) (here ∷ []) [] ≡ handed_at c b here
+      go (Ok tt) a true b =
           turned false
           (ap (λ (x : Received). is_turned_away (received_given x).number) (answered_step n e j time memory a b)
           ∙ joined_away n (quad_at e 12) (answer (state_of n memory) (step_at (max n.latest time) e)) (after (state_of n memory) (step_at (max n.latest time) e)).memory
           (step_away (state_of n memory) (step_at (max n.latest time) e)))
-      go Pass a false b = refl
-      go (Stop r) a true b =
+      go (Ok tt) a false b = refl
+      go (Err r) a true b =
           turned true (ap (λ (x : Received). is_turned_away (received_given x).number) (stopped n e j time memory r a) ∙ arrival_away n e j memory r a)
-      go (Stop r) a false b = refl
+      go (Err r) a false b = refl
 
 -- what a call hands in, by what it is to the collection
 abbrev pub hands_at : Seat → OfPieces → List Handed

@@ -1,4 +1,5 @@
 -- The pieces of one cutting join, through each service of every node that grew from accepted settings. Assumes nothing.
+use Rattle.std.specs.Prelude.{Result, Ok, Err}
 use Prim.Native.Nat.{ℕ, suc, ◌+◌, ◌-◌, ◌*◌, ◌≤◌, ◌<◌, max}
 use mathlib.Core.Path.{◌≡◌, refl, sym, ap, subst, ◌∙◌}
 use mathlib.Core.Logic.{inr}
@@ -17,8 +18,6 @@ use Rattle.lists.proofs.Decides.{refutes}
 use Rattle.refusals.specs.Refusals.{number_of, stop_or}
 use Rattle.refusals.proofs.Laws.{all_false}
 use Rattle.refusals.specs.declared.Refusal.{Refusal}
-use Rattle.refusals.specs.declared.Check.{Check}
-use Rattle.refusals.specs.declared.Check.TheVariants.{Pass, Stop}
 use Rattle.header.specs.Fields.{quad_at}
 use Rattle.header.specs.Outer.{outer_of}
 use Rattle.header.specs.Inner.{inner_of}
@@ -98,14 +97,14 @@ own-call Second e i t m = refl
 
 -- ---- the verdict on the joined payload and on the whole datagram
 
-same_number : (c : Check) (o h l : ℕ) → (received_given (stop_or Refused c (Joined o l))).number ≡ (received_given (stop_or Refused c (Delivered h l))).number
-same_number Pass o h l = refl
-same_number (Stop r) o h l = refl
+same_number : (c : Result Unit Refusal) (o h l : ℕ) → (received_given (stop_or Refused c (Joined o l))).number ≡ (received_given (stop_or Refused c (Delivered h l))).number
+same_number (Ok tt) o h l = refl
+same_number (Err r) o h l = refl
 
-same_bytes : (c : Check) (o h l : ℕ) (f d memory other : List ℕ) → (c ≡ Pass → part o l memory ≡ part h l d)
+same_bytes : (c : Result Unit Refusal) (o h l : ℕ) (f d memory other : List ℕ) → (c ≡ Ok tt → part o l memory ≡ part h l d)
     → bytes_by (stop_or Refused c (Joined o l)) f memory ≡ bytes_by (stop_or Refused c (Delivered h l)) d other
-same_bytes Pass o h l f d memory other e = e refl
-same_bytes (Stop r) o h l f d memory other e = refl
+same_bytes (Ok tt) o h l f d memory other e = e refl
+same_bytes (Err r) o h l f d memory other e = refl
 
 -- a part of the payload, in the memory and in the datagram
 same-part : (o h t l : ℕ) (memory d : List ℕ) → h ≤ t → t ≤ length d → part o (length (drop h (take t d))) memory ≡ drop h (take t d) → l ≤ length (drop h (take t d))
@@ -154,7 +153,7 @@ none-live v d i ps n now none =
 
 -- ---- where 11, 4, 6 or 7 refuses
 
-stop_all : (v : ServiceName) (q : Bool × Settings) (i : ℕ) (d : List ℕ) (ps : List (List ℕ)) (cut : Cutting d ps) (r : Refusal) → onward q i d ≡ Stop r → (n : Node) (xs : List NodeCall)
+stop_all : (v : ServiceName) (q : Bool × Settings) (i : ℕ) (d : List ℕ) (ps : List (List ℕ)) (cut : Cutting d ps) (r : Refusal) → onward q i d ≡ Err r → (n : Node) (xs : List NodeCall)
     → judge_of (seat_of v n) ≡ q → AtEach (Admitted v i d ps) n xs → AtEach (WaitsOr v i d ps (number_of r)) n xs
 stop_all v q i d ps cut r stop n [] same admitted = tt
 stop_all v q i d ps cut r stop n (x ∷ xs) same admitted = (
@@ -230,7 +229,7 @@ module _ (v : ServiceName) (i : ℕ) (d : List ℕ) (ps : List (List ℕ)) (n : 
   whole-arrival : arrival end d i w ≡ onward (judge_of start) i d
   whole-arrival = goes_onward end d i w (one-memory i d ps cut end f u w last_one last-long) cut.right ∙ kept
 
-  stops : (r : Refusal) → onward (judge_of start) i d ≡ Stop r → GetsTheWhole v i d ps n e t m others f u w
+  stops : (r : Refusal) → onward (judge_of start) i d ≡ Err r → GetsTheWhole v i d ps n e t m others f u w
   unfolding receive_of receive_memory
   stops r h =
       let of-last : (collected_at end f i u w).answer ≡ Refused r = one_stops i d ps cut end f u w last_one last-long r (kept ∙ h) in
@@ -246,14 +245,14 @@ module _ (v : ServiceName) (i : ℕ) (d : List ℕ) (ps : List (List ℕ)) (n : 
 
   -- ---- where 11, 4, 6 and 7 pass
 
-  module _ (ok : onward (judge_of start) i d ≡ Pass) where
-    first-arrival : arrival start e i m ≡ Pass
+  module _ (ok : onward (judge_of start) i d ≡ Ok tt) where
+    first-arrival : arrival start e i m ≡ Ok tt
     first-arrival = one-arrival i d ps cut start e t m first_one first-long ∙ ok
 
     first_piece_lem : is_piece (outer_of e) ≡ true
     first_piece_lem = one_piece i d ps cut start e t m first_one first-long
 
-    last-arrival : arrival end f i w ≡ Pass
+    last-arrival : arrival end f i w ≡ Ok tt
     last-arrival = one-arrival i d ps cut end f u w last_one last-long ∙ kept ∙ ok
 
     last-piece : is_piece (outer_of f) ≡ true
@@ -377,15 +376,15 @@ module _ (v : ServiceName) (i : ℕ) (d : List ℕ) (ps : List (List ℕ)) (n : 
               (subst (λ (x : List Step). pieces.Wait (key_of d) (state_of start m) x) (sym front_steps) joins.waits);
         }
       where
-        inner_within : inward end (quad_at d 12) (encapsulated d) ≡ Pass → inner_length (encapsulated d) ≤ length (encapsulated d)
+        inner_within : inward end (quad_at d 12) (encapsulated d) ≡ Ok tt → inner_length (encapsulated d) ≤ length (encapsulated d)
         inner_within pass = (inner-whole-bytes (encapsulated d) (all_false (inward_rows end (quad_at d 12) (encapsulated d)) pass).0).whole
 
   pub joined_as_whole : GetsTheWhole v i d ps n e t m others f u w
   joined_as_whole = go (onward (judge_of start) i d) refl
     where
-      go : (c : Check) → onward (judge_of start) i d ≡ c → GetsTheWhole v i d ps n e t m others f u w
-      go Pass h = passes h
-      go (Stop r) h = stops r h
+      go : (c : Result Unit Refusal) → onward (judge_of start) i d ≡ c → GetsTheWhole v i d ps n e t m others f u w
+      go (Ok tt) h = passes h
+      go (Err r) h = stops r h
 
 pub pieces_join_on_nodes : PiecesJoin
 unfolding PiecesJoin

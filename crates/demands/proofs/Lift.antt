@@ -1,5 +1,6 @@
 -- Calls under a key that 11, 4, 6 and 7 let pass, as steps of the collection: what is said of the calls is so of the steps, and back. Assumes
 -- nothing.
+use Rattle.std.specs.Prelude.{Result, Ok, Err}
 use Prim.Native.Nat.{ℕ, ◌≤◌, max}
 use mathlib.Core.Path.{◌≡◌, refl, sym, ap, subst, ◌∙◌}
 use mathlib.Core.Logic.{◌⊎◌, ⊎_elim, inl, inr}
@@ -12,8 +13,6 @@ use Rattle.refusals.specs.Refusals.{number_of}
 use Rattle.refusals.specs.Given.{Given}
 use Rattle.refusals.specs.declared.Refusal.{Refusal}
 use Rattle.refusals.specs.declared.Refusal.TheVariants.{PieceWaits, NoPlace, PieceUnfit}
-use Rattle.refusals.specs.declared.Check.{Check}
-use Rattle.refusals.specs.declared.Check.TheVariants.{Pass, Stop}
 use Rattle.header.specs.Fields.{quad_at}
 use Rattle.header.specs.Outer.{outer_of}
 use Rattle.routers.specs.Routers.{live}
@@ -45,7 +44,7 @@ use Rattle.demands.proofs.Runs.{Lends, one_step, lent_step, lends, steps_of, ste
 use Rattle.demands.proofs.Arrivals.{judge_of, onward, passed, one_key, one_piece, one-arrival}
 
 -- a step that is refused gives the call's number
-pub step_refused : (n : Seat) (e : List ℕ) (j time : ℕ) (memory : List ℕ) (r : Refusal) → arrival n e j memory ≡ Pass → is_piece (outer_of e) ≡ true
+pub step_refused : (n : Seat) (e : List ℕ) (j time : ℕ) (memory : List ℕ) (r : Refusal) → arrival n e j memory ≡ Ok tt → is_piece (outer_of e) ≡ true
     → answer (state_of n memory) (step_at (max n.latest time) e) ≡ taken.Refused r → (collected_at n e j time memory).answer ≡ Refused r
 step_refused n e j time memory r a b h =
     answered_step n e j time memory a b
@@ -90,7 +89,7 @@ gives v n x r h = go (pieces_of v x) (outcome_of n x) (pieces_left v n x) h
 
 module _ (v : ServiceName) (i : ℕ) (d : List ℕ) (ps : List (List ℕ)) (cut : Cutting d ps) where
   -- a step under the key is one of the pieces, on the interface
-  own_step : (n : Node) (e : List ℕ) (j time : ℕ) (memory : List ℕ) → OneOf v i d ps n (a_datagram e j time memory) → arrival (seat_of v n) e j memory ≡ Pass → is_piece (outer_of e) ≡ true
+  own_step : (n : Node) (e : List ℕ) (j time : ℕ) (memory : List ℕ) → OneOf v i d ps n (a_datagram e j time memory) → arrival (seat_of v n) e j memory ≡ Ok tt → is_piece (outer_of e) ≡ true
       → is_same (key_of d) (key_of e) ≡ true → Some (Repeats e) ps × (j ≡ i)
   own_step n e j time memory own a b k =
       let f = passed (seat_of v n) e j memory a in
@@ -105,12 +104,12 @@ module _ (v : ServiceName) (i : ℕ) (d : List ℕ) (ps : List (List ℕ)) (cut 
       → ((from : ℕ) → from ≤ o.node.latest → pieces.Arrive (key_of d) (map part_in ps) from rest) → pieces.Arrive (key_of d) (map part_in ps) now (steps_at (seat_of v n) c ++ rest)
   call_arrives n (a_datagram e j time memory) o p later own now h rest next = go (arrival (seat_of v n) e j memory) refl (is_piece (outer_of e)) refl
     where
-      go : (c : Check) → arrival (seat_of v n) e j memory ≡ c → (b : Bool) → is_piece (outer_of e) ≡ b
+      go : (c : Result Unit Refusal) → arrival (seat_of v n) e j memory ≡ c → (b : Bool) → is_piece (outer_of e) ≡ b
           → pieces.Arrive (key_of d) (map part_in ps) now (step_by c b (step_at (max n.latest time) e) ++ rest)
-      go Pass a true b =
+      go (Ok tt) a true b =
           (omega arith, λ k. in-own e (own_step n e j time memory own a b k).0, next (max n.latest time) (omega (arith, p.3)))
-      go Pass a false b = next now (omega arith)
-      go (Stop r) a b z = next now (omega arith)
+      go (Ok tt) a false b = next now (omega arith)
+      go (Err r) a b z = next now (omega arith)
   call_arrives n no_datagram o p later own now h rest next = next now (omega arith)
 
   pub arrives : (n : Node) (xs : List NodeCall) → AtEach (NotForeign v i d ps) n xs → (now : ℕ) → now ≤ n.latest → pieces.Arrive (key_of d) (map part_in ps) now (all_steps v n xs)
@@ -144,23 +143,23 @@ module _ (v : ServiceName) (i : ℕ) (d : List ℕ) (ps : List (List ℕ)) (cut 
       y : Step
       y = step_at (max n.latest time) e
 
-      refusal : (r : Refusal) → arrival (seat_of v n) e j memory ≡ Pass → is_piece (outer_of e) ≡ true → answer (state_of (seat_of v n) m) y ≡ taken.Refused r → number (seat_of v n) e j time memory ≡ number_of r
+      refusal : (r : Refusal) → arrival (seat_of v n) e j memory ≡ Ok tt → is_piece (outer_of e) ≡ true → answer (state_of (seat_of v n) m) y ≡ taken.Refused r → number (seat_of v n) e j time memory ≡ number_of r
       refusal r a b h =
           ap (λ (z : Received). (received_given z).number)
           (step_refused (seat_of v n) e j time memory r a b (ap (λ (l : List ℕ). answer (state_of (seat_of v n) l) y) (lent_step (seat_of v n) m e j time memory a b lent) ∙ h))
 
-      go : (c : Check) → arrival (seat_of v n) e j memory ≡ c → (b : Bool) → is_piece (outer_of e) ≡ b
+      go : (c : Result Unit Refusal) → arrival (seat_of v n) e j memory ≡ c → (b : Bool) → is_piece (outer_of e) ≡ b
           → pieces.Admitted (key_of d) (after_all (state_of (seat_of v n) m) (step_by c b y)) rest
           → pieces.Admitted (key_of d) (state_of (seat_of v n) m) (step_by c b y ++ rest)
-      go Pass a true b t = (
+      go (Ok tt) a true b t = (
         λ k.
             let o = own_step n e j time memory own a b k in
             let not = admitted (o.0.0, o.0.1, (o.0.2, o.1)) in
             (λ full. not.1 (refusal NoPlace a b full), λ unfit. not.2 (refusal PieceUnfit a b unfit)),
         t,
       )
-      go Pass a false b t = t
-      go (Stop r) a b z t = t
+      go (Ok tt) a false b t = t
+      go (Err r) a b z t = t
   call-admitted n m no_datagram lent own admitted rest next = next
 
   pub all-admitted : (n : Node) (m : List ℕ) (xs : List NodeCall) → Untouched v n m xs → AtEach (NotForeign v i d ps) n xs → AtEach (Admitted v i d ps) n xs
@@ -183,7 +182,7 @@ module _ (v : ServiceName) (i : ℕ) (d : List ℕ) (ps : List (List ℕ)) (cut 
   handing n F p here then no_datagram hands admitted = absurd hands
 
   -- where 11, 4, 6 and 7 pass, it is one step, under the key
-  module _ (q : Bool × Settings) (ok : onward q i d ≡ Pass) where
+  module _ (q : Bool × Settings) (ok : onward q i d ≡ Ok tt) where
     step_handed : (n : Seat) → judge_of n ≡ q → (P : List Step → Type 0) (p : List ℕ) → Memᴰ p ps
         → ((e : List ℕ) (time : ℕ) → is_same (key_of d) (key_of e) ≡ true → Repeats e p → P (step_at (max n.latest time) e ∷ []))
         → (c : OfPieces) → Hands i p c → Admits n c → P (steps_at n c)
@@ -217,7 +216,7 @@ module _ (v : ServiceName) (i : ℕ) (d : List ℕ) (ps : List (List ℕ)) (cut 
         handing n (λ (c : OfPieces). Lends n m c → pieces.Wait (key_of d) (state_of n m) (steps_at n c ++ rest) → Gives n 27 c) p here
         (λ e time memory r long lent w.
         let one : Some (Repeats e) ps = (p, here, r) in
-        let a : arrival n e i memory ≡ Pass = one-arrival i d ps cut n e time memory one long ∙ ap (λ (t : Bool × Settings). onward t i d) same ∙ ok in
+        let a : arrival n e i memory ≡ (Ok tt) = one-arrival i d ps cut n e time memory one long ∙ ap (λ (t : Bool × Settings). onward t i d) same ∙ ok in
         let b = one_piece i d ps cut n e time memory one long in
         let own : pieces.Wait (key_of d) (state_of n memory) (step_at (max n.latest time) e ∷ rest) =
         subst (λ (l : List ℕ). pieces.Wait (key_of d) (state_of n l) (step_at (max n.latest time) e ∷ rest)) (sym (lent_step n m e i time memory a b lent))
@@ -243,9 +242,9 @@ module _ (v : ServiceName) (i : ℕ) (d : List ℕ) (ps : List (List ℕ)) (cut 
   back-here : (n : Node) (c : OfPieces) → OneOf v i d ps n c → (p : List ℕ) → Memᴰ p ps → In (part_in p) (under (key_of d) (steps_at (seat_of v n) c)) → Hands i p c
   back-here n (a_datagram e j time memory) own p here q = go (arrival (seat_of v n) e j memory) refl (is_piece (outer_of e)) refl q
     where
-      go : (c : Check) → arrival (seat_of v n) e j memory ≡ c → (b : Bool) → is_piece (outer_of e) ≡ b → In (part_in p) (under (key_of d) (step_by c b (step_at (max n.latest time) e)))
+      go : (c : Result Unit Refusal) → arrival (seat_of v n) e j memory ≡ c → (b : Bool) → is_piece (outer_of e) ≡ b → In (part_in p) (under (key_of d) (step_by c b (step_at (max n.latest time) e)))
           → Repeats e p × (j ≡ i)
-      go Pass a true b q = key-of (is_same (key_of d) (key_of e)) refl q
+      go (Ok tt) a true b q = key-of (is_same (key_of d) (key_of e)) refl q
         where
           key-of : (t : Bool) → is_same (key_of d) (key_of e) ≡ t → In (part_in p) (cond t (part_in e ∷ []) []) → Repeats e p × (j ≡ i)
           key-of true k q =
@@ -253,8 +252,8 @@ module _ (v : ServiceName) (i : ℕ) (d : List ℕ) (ps : List (List ℕ)) (cut 
               let same : part_in e ≡ part_in p = ⊎_elim (λ z. sym z) (λ z. absurd z) q in
               (parts_same e p f.right (key_trans (same-is e d k) (key_back (cut.pieces p here).2)) same, (own_step n e j time memory own a b k).1)
           key-of false k q = absurd q
-      go Pass a false b q = absurd q
-      go (Stop r) a b z q = absurd q
+      go (Ok tt) a false b q = absurd q
+      go (Err r) a b z q = absurd q
   back-here n no_datagram own p here q = absurd q
 
   -- what comes under the key was handed in as one of the pieces

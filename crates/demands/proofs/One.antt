@@ -1,4 +1,5 @@
 -- Demand 1 holds of every call. Assumes nothing.
+use Rattle.std.specs.Prelude.{Result, Ok, Err}
 use Prim.Native.Nat.{ℕ, max}
 use mathlib.Core.Path.{◌≡◌, refl, sym, ap, subst, ◌∙◌}
 use mathlib.Core.Bool.{Bool, true, false, cond, ◌&&◌}
@@ -13,8 +14,6 @@ use Rattle.refusals.specs.declared.Refusal.{Refusal}
 use Rattle.refusals.specs.declared.Refusal.TheVariants as refusal
 use Rattle.header.specs.Outer.{outer_of}
 use Rattle.header.specs.Wrap.{written_given}
-use Rattle.header.specs.declared.wrap.Written.{Written}
-use Rattle.header.specs.declared.wrap.Written.TheVariants as written
 use Rattle.settings.specs.Settings.{locator_of, are_routers_right}
 use Rattle.pieces.specs.declared.Collection.{Collection}
 use Rattle.receiving.specs.Collect.{is_piece}
@@ -30,12 +29,8 @@ use Rattle.reports.specs.declared.ReportAnswer.{ReportAnswer}
 use Rattle.reports.specs.declared.ReportAnswer.TheVariants as reported
 use Rattle.asking.specs.Ask.{ask_given}
 use Rattle.asking.proofs.Laws as asking
-use Rattle.asking.specs.declared.AskAnswer.{AskAnswer}
-use Rattle.asking.specs.declared.AskAnswer.TheVariants as asked
 use Rattle.hearing.specs.Heard.{heard_given}
 use Rattle.hearing.proofs.Laws as hearing
-use Rattle.hearing.specs.declared.HeardAnswer.{HeardAnswer}
-use Rattle.hearing.specs.declared.HeardAnswer.TheVariants as heard
 use Rattle.advertisements.specs.declared.Advertisement.{Advertisement}
 use Rattle.advertising.specs.Advertise.{advertised_of, advertised_output}
 use Rattle.advertising.proofs.Laws as advertising
@@ -228,46 +223,46 @@ relisting_refusing n w addresses count time false e =
 
 -- what a service leaves of its routers, and of the output, where it is there or not
 module _ (q : Service) (now : ℕ) where
-  refused-asking : (there : Bool) (k : ℕ) (out : List ℕ) (r : Refusal) → (asked_by there q now k (length out)).answer ≡ asked.Refused r
+  refused-asking : (there : Bool) (k : ℕ) (out : List ℕ) (r : Refusal) → (asked_by there q now k (length out)).answer ≡ Err r
       → ((asked_by there q now k (length out)).routers ≡ q.routers) × (asked_through there q now k out ≡ out)
   unfolding asked_by asked_through
   refused-asking true k out r e = asking.refused-unchanged q.settings q.routers now k out r e
   refused-asking false k out r e = (refl, refl)
 
-  refused-hearing : (there : Bool) (packet : List ℕ) (r : Refusal) → (heard_by there q now packet).answer ≡ heard.Refused r → (heard_by there q now packet).routers ≡ q.routers
+  refused-hearing : (there : Bool) (packet : List ℕ) (r : Refusal) → (heard_by there q now packet).answer ≡ Err r → (heard_by there q now packet).routers ≡ q.routers
   unfolding heard_by
   refused-hearing true packet r e = hearing.refused-unchanged q.settings q.routers now packet r e
   refused-hearing false packet r e = refl
 
-asking_refusing : (n : Node) (w : ServiceName) (k time : ℕ) (out : List ℕ) (a : AskAnswer) → (asked_by (has_service n w) (service_of n w) (max n.latest time) k (length out)).answer ≡ a
+asking_refusing : (n : Node) (w : ServiceName) (k time : ℕ) (out : List ℕ) (a : Result ℕ Refusal) → (asked_by (has_service n w) (service_of n w) (max n.latest time) k (length out)).answer ≡ a
     → Refusing n (view_of (asking w k time out)) (outcome_of n (asking w k time out))
 unfolding ask_of ask_output
-asking_refusing n w k time out (asked.Router v) e = answers n (view_of (asking w k time out)) _ (v ∷ []) (ap ask_given e)
-asking_refusing n w k time out (asked.Refused r) e =
+asking_refusing n w k time out (Ok v) e = answers n (view_of (asking w k time out)) _ (v ∷ []) (ap ask_given e)
+asking_refusing n w k time out (Err r) e =
     let l = refused-asking (service_of n w) (max n.latest time) (has_service n w) k out r e in
     refuses n (view_of (asking w k time out)) _ r (ap ask_given e) (same-routers n w time _ l.0) l.1
 
-hearing_refusing : (n : Node) (w : ServiceName) (packet : List ℕ) (time : ℕ) (a : HeardAnswer) → (heard_by (has_service n w) (service_of n w) (max n.latest time) packet).answer ≡ a
+hearing_refusing : (n : Node) (w : ServiceName) (packet : List ℕ) (time : ℕ) (a : Result ℕ Refusal) → (heard_by (has_service n w) (service_of n w) (max n.latest time) packet).answer ≡ a
     → Refusing n (view_of (hearing w packet time)) (outcome_of n (hearing w packet time))
 unfolding hear_of
-hearing_refusing n w packet time (heard.Router v) e = answers n (view_of (hearing w packet time)) _ (v ∷ []) (ap heard_given e)
-hearing_refusing n w packet time (heard.Refused r) e =
+hearing_refusing n w packet time (Ok v) e = answers n (view_of (hearing w packet time)) _ (v ∷ []) (ap heard_given e)
+hearing_refusing n w packet time (Err r) e =
     refuses n (view_of (hearing w packet time)) _ r (ap heard_given e) (same-routers n w time _ (refused-hearing (service_of n w) (max n.latest time) (has_service n w) packet r e)) refl
 
-refused-advertising : (n : Node) (w : ServiceName) (packet : List ℕ) (k : ℕ) (a : Advertisement) (out : List ℕ) (r : Refusal) → advertise_of n w packet k a (length out) ≡ written.Refused r
+refused-advertising : (n : Node) (w : ServiceName) (packet : List ℕ) (k : ℕ) (a : Advertisement) (out : List ℕ) (r : Refusal) → advertise_of n w packet k a (length out) ≡ Err r
     → advertise_output n w packet k a out ≡ out
 unfolding advertise_of advertise_output
 refused-advertising n w packet k a out r e = go (has_service n w) e
   where
-    go : (b : Bool) → cond b (advertised_of (locator_of (service_of n w).settings k) packet a (length out)) (written.Refused refusal.NoLocator) ≡ written.Refused r
+    go : (b : Bool) → cond b (advertised_of (locator_of (service_of n w).settings k) packet a (length out)) (Err refusal.NoLocator) ≡ Err r
         → cond b (advertised_output (locator_of (service_of n w).settings k) packet a out) out ≡ out
     go true h = advertising.refused-untouched (locator_of (service_of n w).settings k) packet a out r h
     go false h = refl
 
-advertising_refusing : (n : Node) (w : ServiceName) (packet : List ℕ) (k : ℕ) (a : Advertisement) (out : List ℕ) (x : Written) → advertise_of n w packet k a (length out) ≡ x
+advertising_refusing : (n : Node) (w : ServiceName) (packet : List ℕ) (k : ℕ) (a : Advertisement) (out : List ℕ) (x : Result ℕ Refusal) → advertise_of n w packet k a (length out) ≡ x
     → Refusing n (view_of (advertising w packet k a out)) (outcome_of n (advertising w packet k a out))
-advertising_refusing n w packet k a out (written.Length len) e = answers n (view_of (advertising w packet k a out)) _ (len ∷ []) (ap written_given e)
-advertising_refusing n w packet k a out (written.Refused r) e =
+advertising_refusing n w packet k a out (Ok len) e = answers n (view_of (advertising w packet k a out)) _ (len ∷ []) (ap written_given e)
+advertising_refusing n w packet k a out (Err r) e =
     refuses n (view_of (advertising w packet k a out)) _ r (ap written_given e) (raised-zero n) (refused-advertising n w packet k a out r e)
 
 pub demand_one : DemandOne

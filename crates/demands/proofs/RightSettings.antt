@@ -1,4 +1,5 @@
 -- Settings, of one service or of both, are accepted exactly if they keep the rules. Assumes nothing.
+use Rattle.std.specs.Prelude.{Ok, Err}
 use Prim.Native.Nat.{ℕ}
 use mathlib.Core.Path.{◌≡◌, refl, sym, ap, ◌∙◌}
 use native.Mathlib.Omega.{arith}
@@ -17,7 +18,6 @@ use Rattle.settings.specs.declared.Settings.{Settings}
 use Rattle.settings.proofs.Facts.{decides_forbidden_to, decides_ours}
 use Rattle.node.specs.Node.{service_from, no_settings, node_of, pair_of, setup_of, setup_pair_of}
 use Rattle.node.specs.declared.Node.{Node}
-use Rattle.node.specs.declared.SetupAnswer.TheVariants.{Made, Refused}
 use Rattle.demands.specs.Two.{DistinctPairs, RightSettings, NewService, NewNode, NoNode, Sets, RightPair, SetsPair}
 use Rattle.demands.proofs.RightList.{decides_right}
 use Rattle.demands.proofs.NewList.{new-list}
@@ -95,7 +95,7 @@ new-pair a b = record { latest = refl; no_report = refl }
 
 -- where the test passes, the answer and the node are the first ones
 module _ (s : Settings) (h : is_accepted s ≡ true) where
-  made-answer : (setup_of s).answer ≡ Made
+  made-answer : (setup_of s).answer ≡ Ok tt
   unfolding setup_of
   made-answer = rw h
 
@@ -104,7 +104,7 @@ module _ (s : Settings) (h : is_accepted s ≡ true) where
   made-node = rw h
 
 module _ (a b : Settings) (h : are_pair_accepted a b ≡ true) where
-  paired_answer : (setup_pair_of a b).answer ≡ Made
+  paired_answer : (setup_pair_of a b).answer ≡ Ok tt
   unfolding setup_pair_of
   paired_answer = rw h
 
@@ -112,11 +112,11 @@ module _ (a b : Settings) (h : are_pair_accepted a b ≡ true) where
   unfolding setup_pair_of
   paired_node = rw h
 
-one-refused : (s : Settings) → is_accepted s ≡ false → (setup_of s).answer ≡ Refused refusal.Settings
+one-refused : (s : Settings) → is_accepted s ≡ false → (setup_of s).answer ≡ Err refusal.Settings
 unfolding setup_of
 one-refused s h = rw h
 
-pair-refused : (a b : Settings) → are_pair_accepted a b ≡ false → (setup_pair_of a b).answer ≡ Refused refusal.Settings
+pair-refused : (a b : Settings) → are_pair_accepted a b ≡ false → (setup_pair_of a b).answer ≡ Err refusal.Settings
 unfolding setup_pair_of
 pair-refused a b h = rw h
 

@@ -1,4 +1,5 @@
 -- What a node advertises, any node that lists it accepts. Assumes nothing.
+use Rattle.std.specs.Prelude.{Ok, Err}
 use Prim.Native.Nat.{ℕ, zero, suc, ◌+◌, ◌*◌, ◌/◌, ◌%◌, ◌≤◌, ◌<◌, max}
 use mathlib.Core.Path.{◌≡◌, refl, sym, ap, subst, ◌∙◌}
 use mathlib.Core.Logic.{⊎_elim, inl, inr}
@@ -16,7 +17,6 @@ use Rattle.lent.specs.Written.{written}
 use Rattle.header.specs.Fields.{bytes_from, address_at}
 use Rattle.refusals.specs.declared.Refusal.TheVariants.{NoLocator}
 use Rattle.header.specs.declared.wrap.Written as wrap
-use Rattle.header.specs.declared.wrap.Written.TheVariants.{Length, Refused}
 use Rattle.messages.specs.Icmp.{icmp_message, icmp_packet}
 use Rattle.options.specs.Facts.{WholeOptions, IsLifetime, Counts, DueBy}
 use Rattle.options.proofs.Facts.{due-same}
@@ -27,7 +27,6 @@ use Rattle.settings.specs.Settings.{locator_of}
 use Rattle.settings.specs.declared.Settings.{Settings}
 use Rattle.hearing.specs.Facts.{fields_of}
 use Rattle.hearing.specs.Heard.{heard_of}
-use Rattle.hearing.specs.declared.HeardAnswer.TheVariants.{Router}
 use Rattle.hearing.proofs.ReadBack.{length_back, heard-back}
 use Rattle.advertisements.specs.Options.{route_units}
 use Rattle.advertisements.specs.Advertisement.{are_options_bad, written_options, advertisement_body, advertisement_of, routes_length, advertisement_length}
@@ -83,7 +82,7 @@ number x h = omega arith
 
 module _ (w : Node) (u : ServiceName) (packet : List ℕ) (k : ℕ) (a : Advertisement) (out : List ℕ) (n v : ℕ) (bytes : (i : ℕ) → get_or packet i 0 < 256)
     (small : v < 4294967296) (fits : AdvertisementFits a) (located : LocatorAt (service_of w u).settings k v)
-    (e : advertise_of w u packet k a (length out) ≡ Length n) where
+    (e : advertise_of w u packet k a (length out) ≡ Ok n) where
   abbrev s : Settings
   s = (service_of w u).settings
 
@@ -96,22 +95,22 @@ module _ (w : Node) (u : ServiceName) (packet : List ℕ) (k : ℕ) (a : Adverti
 
   -- an answered length says that the service is there
   abbrev advertised_by : Bool → wrap.Written
-  advertised_by b = cond b (advertised_of (locator_of s k) packet a (length out)) (Refused NoLocator)
+  advertised_by b = cond b (advertised_of (locator_of s k) packet a (length out)) (Err NoLocator)
 
-  own : advertised_by (has_service w u) ≡ Length n
+  own : advertised_by (has_service w u) ≡ Ok n
   unfolding advertise_of
   own = e
 
-  by_there : (b : Bool) → advertised_by b ≡ Length n → (b ≡ true) × (advertised_of (locator_of s k) packet a (length out) ≡ Length n)
+  by_there : (b : Bool) → advertised_by b ≡ Ok n → (b ≡ true) × (advertised_of (locator_of s k) packet a (length out) ≡ Ok n)
   by_there true h = (refl, h)
   by_there false h = absurd (never h)
     where
-      never : Refused NoLocator ≡ Length n → ⊥
+      never : Err NoLocator ≡ Ok n → ⊥
       never q = let z : ◌≡◌ {A = ℕ} 0 1 = ap marked q in omega arith
         where
           marked : wrap.Written → ℕ
-          marked (Refused r) = 0
-          marked (Length l) = 1
+          marked (Err r) = 0
+          marked (Ok l) = 1
 
   wrote : (n ≡ advertisement_length a) × MayAdvertise s packet k a v × (advertise_output w u packet k a out ≡ written packet_out out)
   unfolding advertise_output
@@ -160,7 +159,7 @@ module _ (w : Node) (u : ServiceName) (packet : List ℕ) (k : ℕ) (a : Adverti
     abbrev interval : ℕ
     interval = (service_of r q).settings.interval
 
-    heard : ((heard_of (service_of r q).settings (service_of r q).routers now packet_out).answer ≡ Router v)
+    heard : ((heard_of (service_of r q).settings (service_of r q).routers now packet_out).answer ≡ Ok v)
         × ((due : ℕ)
         × DueBy now interval a.lifetime (written_options a) due
         × OnlyDue (service_of r q).routers v due (heard_of (service_of r q).settings (service_of r q).routers now packet_out).routers)

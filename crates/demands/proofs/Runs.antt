@@ -1,11 +1,11 @@
 -- A list of calls is a list of steps of a service's collection, each piece with the memory that the last one left. Assumes nothing.
+use Rattle.std.specs.Prelude.{Result, Ok, Err}
+use Rattle.refusals.specs.declared.Refusal.{Refusal}
 use Prim.Native.Nat.{ℕ, max}
 use mathlib.Core.Path.{◌≡◌, refl, sym, ap, subst, ◌∙◌}
 use mathlib.Core.Bool.{Bool, true, false}
 use mathlib.Core.List.{List, [], ◌∷◌, ◌++◌, Memᴰ}
 use Rattle.refusals.specs.Given.{Given}
-use Rattle.refusals.specs.declared.Check.{Check}
-use Rattle.refusals.specs.declared.Check.TheVariants.{Pass, Stop}
 use Rattle.header.specs.Outer.{outer_of}
 use Rattle.pieces.specs.History.{Handed}
 use Rattle.pieces.specs.declared.Collection.{Collection}
@@ -33,12 +33,12 @@ module _ (n : Seat) (m : List ℕ) (e : List ℕ) (j time : ℕ) (memory : List 
   abbrev left : State
   left = record { collection = (collected_at n e j time memory).pieces; memory = memory_at n e j time memory }
 
-  by_handed : (c : Check) (b : Bool) → left ≡ after_all (state_of n memory) (step_by c b y)
+  by_handed : (c : Result Unit Refusal) (b : Bool) → left ≡ after_all (state_of n memory) (step_by c b y)
       → ((h : Handed) → Memᴰ h (handed_at c b (here n e j time memory)) → h.memory ≡ m)
       → ◌≡◌ {A = State} (record { collection = left.collection; memory = memory_by (handed_at c b (here n e j time memory)) m left.memory }) (after_all (state_of n m) (step_by c b y))
-  by_handed Pass true s lent = s ∙ ap (λ (l : List ℕ). after (state_of n l) y) (lent (here n e j time memory) (Memᴰ.head refl))
-  by_handed Pass false s lent = ap (λ (t : State). record { collection = t.collection; memory = m }) s
-  by_handed (Stop r) b s lent = ap (λ (t : State). record { collection = t.collection; memory = m }) s
+  by_handed (Ok tt) true s lent = s ∙ ap (λ (l : List ℕ). after (state_of n l) y) (lent (here n e j time memory) (Memᴰ.head refl))
+  by_handed (Ok tt) false s lent = ap (λ (t : State). record { collection = t.collection; memory = m }) s
+  by_handed (Err r) b s lent = ap (λ (t : State). record { collection = t.collection; memory = m }) s
 
   -- a datagram is its steps, with its own memory where it hands in a piece
   datagram_steps : Lends n m (a_datagram e j time memory)
@@ -46,15 +46,15 @@ module _ (n : Seat) (m : List ℕ) (e : List ℕ) (j time : ℕ) (memory : List 
   datagram_steps lent = by_handed (arrival n e j memory) (is_piece (outer_of e)) (received n e j time memory) lent
 
   -- a piece that passes is one step
-  module _ (a : arrival n e j memory ≡ Pass) (b : is_piece (outer_of e) ≡ true) where
+  module _ (a : arrival n e j memory ≡ Ok tt) (b : is_piece (outer_of e) ≡ true) where
     pub one_step : steps_at n (a_datagram e j time memory) ≡ step_at (max n.latest time) e ∷ []
-    one_step = ap (λ (c : Check). step_by c (is_piece (outer_of e)) y) a ∙ ap (λ (t : Bool). step_by Pass t y) b
+    one_step = ap (λ (c : Result Unit Refusal). step_by c (is_piece (outer_of e)) y) a ∙ ap (λ (t : Bool). step_by (Ok tt) t y) b
 
     -- and is lent the memory m
     pub lent_step : Lends n m (a_datagram e j time memory) → memory ≡ m
     lent_step lent =
         let own : hands_at n (a_datagram e j time memory) ≡ here n e j time memory ∷ [] =
-        ap (λ (c : Check). handed_at c (is_piece (outer_of e)) (here n e j time memory)) a ∙ ap (λ (t : Bool). handed_at Pass t (here n e j time memory)) b in
+        ap (λ (c : Result Unit Refusal). handed_at c (is_piece (outer_of e)) (here n e j time memory)) a ∙ ap (λ (t : Bool). handed_at (Ok tt) t (here n e j time memory)) b in
         lent (here n e j time memory) (subst (λ (hs : List Handed). Memᴰ (here n e j time memory) hs) (sym own) (Memᴰ.head refl))
 
 -- ---- on a node

@@ -1,5 +1,6 @@
 -- Each call of the node is at most one step of a service's collection: a piece that passes 11, 15, 2, 3, 4, 6, 7 and is handed in for the number.
 -- Assumes nothing.
+use Rattle.std.specs.Prelude.{Result, Ok, Err}
 use Prim.Native.Nat.{ℕ, max}
 use mathlib.Core.Path.{◌≡◌, refl, ap, ◌∙◌}
 use mathlib.Core.Bool.{Bool, true, false, cond, not}
@@ -9,8 +10,6 @@ use Rattle.refusals.specs.Refusals.{first_of, stop_or}
 use Rattle.refusals.proofs.Laws.{stop_append}
 use Rattle.refusals.specs.declared.Refusal.{Refusal}
 use Rattle.refusals.specs.declared.Refusal.TheVariants.{NoLocator}
-use Rattle.refusals.specs.declared.Check.{Check}
-use Rattle.refusals.specs.declared.Check.TheVariants.{Pass, Stop}
 use Rattle.header.specs.Fields.{quad_at}
 use Rattle.header.specs.Outer.{outer_of, payload_of}
 use Rattle.header.specs.Inner.{inner_of}
@@ -37,7 +36,7 @@ abbrev pub arrivals : Seat → List ℕ → ℕ → List ℕ → List (Bool × R
 arrivals n e interface memory = arrives_at n.there n e interface memory
 
 -- the first of them
-abbrev pub arrival : Seat → List ℕ → ℕ → List ℕ → Check
+abbrev pub arrival : Seat → List ℕ → ℕ → List ℕ → Result Unit Refusal
 arrival n e interface memory = first_of (arrivals n e interface memory)
 
 -- the step that a piece is at a time
@@ -45,10 +44,10 @@ abbrev pub step_at : ℕ → List ℕ → Step
 step_at now e = record { key = key_of e; piece = part_in e; time = now }
 
 -- one step where the check passes and it is a piece
-abbrev pub step_by : Check → Bool → Step → List Step
-step_by Pass true x = x ∷ []
-step_by Pass false x = []
-step_by (Stop r) b x = []
+abbrev pub step_by : Result Unit Refusal → Bool → Step → List Step
+step_by (Ok tt) true x = x ∷ []
+step_by (Ok tt) false x = []
+step_by (Err r) b x = []
 
 -- the steps that a call is, by what it is to the collection
 abbrev pub steps_at : Seat → OfPieces → List Step
@@ -82,31 +81,31 @@ module _ (n : Seat) (e : List ℕ) (now : ℕ) (memory : List ℕ) where
   taken-answer = refl
 
 -- what a check leaves, and what a step does
-by_check : (c : Check) (b : Bool) (s : State) (x : Step) (f g : Collected) (m : List ℕ) → f.pieces ≡ (after s x).collection → g.pieces ≡ s.collection → m ≡ (after s x).memory
+by_check : (c : Result Unit Refusal) (b : Bool) (s : State) (x : Step) (f g : Collected) (m : List ℕ) → f.pieces ≡ (after s x).collection → g.pieces ≡ s.collection → m ≡ (after s x).memory
     → ◌≡◌ {A = State}
     (record {
       collection = (cond b (stop_or (λ (r : Refusal). record { answer = Refused r; pieces = s.collection }) c f) g).pieces;
       memory = cond b (stop_or (λ (r : Refusal). s.memory) c m) s.memory;
     })
     (after_all s (step_by c b x))
-by_check Pass true s x f g m e h k = rw (e, k)
-by_check Pass false s x f g m e h k = rw h
-by_check (Stop r) true s x f g m e h k = refl
-by_check (Stop r) false s x f g m e h k = rw h
+by_check (Ok tt) true s x f g m e h k = rw (e, k)
+by_check (Ok tt) false s x f g m e h k = rw h
+by_check (Err r) true s x f g m e h k = refl
+by_check (Err r) false s x f g m e h k = rw h
 
 -- rows that stop, or pass, before others
-rows_stop : (xs ys : List (Bool × Refusal)) (a : Received) (r : Refusal) → first_of xs ≡ Stop r → stop_or Refused (first_of (xs ++ ys)) a ≡ Refused r
-rows_stop xs ys a r h = stop_append Refused xs ys a ∙ ap (λ (c : Check). stop_or Refused c (stop_or Refused (first_of ys) a)) h
+rows_stop : (xs ys : List (Bool × Refusal)) (a : Received) (r : Refusal) → first_of xs ≡ Err r → stop_or Refused (first_of (xs ++ ys)) a ≡ Refused r
+rows_stop xs ys a r h = stop_append Refused xs ys a ∙ ap (λ (c : Result Unit Refusal). stop_or Refused c (stop_or Refused (first_of ys) a)) h
 
-rows_pass : (xs ys : List (Bool × Refusal)) (a : Received) → first_of xs ≡ Pass → stop_or Refused (first_of (xs ++ ys)) a ≡ stop_or Refused (first_of ys) a
-rows_pass xs ys a h = stop_append Refused xs ys a ∙ ap (λ (c : Check). stop_or Refused c (stop_or Refused (first_of ys) a)) h
+rows_pass : (xs ys : List (Bool × Refusal)) (a : Received) → first_of xs ≡ Ok tt → stop_or Refused (first_of (xs ++ ys)) a ≡ stop_or Refused (first_of ys) a
+rows_pass xs ys a h = stop_append Refused xs ys a ∙ ap (λ (c : Result Unit Refusal). stop_or Refused c (stop_or Refused (first_of ys) a)) h
 
 -- 8 to 10 of the payload p, from an outer source
 abbrev pub inward_rows : Seat → ℕ → List ℕ → List (Bool × Refusal)
 inward_rows n source p = inner_rows n.service.settings (listed source (live n.service.routers)) source (length p) (inner_of p)
 
 -- the first of them
-abbrev pub inward : Seat → ℕ → List ℕ → Check
+abbrev pub inward : Seat → ℕ → List ℕ → Result Unit Refusal
 inward n source p = first_of (inward_rows n source p)
 
 module _ (n : Seat) (e : List ℕ) (interface : ℕ) (memory : List ℕ) where
@@ -118,10 +117,10 @@ module _ (n : Seat) (e : List ℕ) (interface : ℕ) (memory : List ℕ) where
   unfolding whole_of outer_of payload_of inner_of
   whole-rows = refl
 
-  whole_stop : (r : Refusal) → first_of (arrival_rows n.service.settings interface (length memory) e (outer_of e)) ≡ Stop r → whole_of n.service.settings (live n.service.routers) (length memory) e interface ≡ Refused r
+  whole_stop : (r : Refusal) → first_of (arrival_rows n.service.settings interface (length memory) e (outer_of e)) ≡ Err r → whole_of n.service.settings (live n.service.routers) (length memory) e interface ≡ Refused r
   whole_stop r h = whole-rows ∙ rows_stop (arrival_rows n.service.settings interface (length memory) e (outer_of e)) (inward_rows n (quad_at e 12) (encapsulated e)) (Delivered (header_length e) (inner_length (encapsulated e))) r h
 
-  whole_pass : first_of (arrival_rows n.service.settings interface (length memory) e (outer_of e)) ≡ Pass
+  whole_pass : first_of (arrival_rows n.service.settings interface (length memory) e (outer_of e)) ≡ Ok tt
       → whole_of n.service.settings (live n.service.routers) (length memory) e interface ≡ stop_or Refused (inward n (quad_at e 12) (encapsulated e)) (Delivered (header_length e) (inner_length (encapsulated e)))
   whole_pass h = whole-rows ∙ rows_pass (arrival_rows n.service.settings interface (length memory) e (outer_of e)) (inward_rows n (quad_at e 12) (encapsulated e)) (Delivered (header_length e) (inner_length (encapsulated e))) h
 
@@ -150,40 +149,40 @@ module _ (n : Seat) (e : List ℕ) (interface time : ℕ) (memory : List ℕ) wh
       go false = refl
 
   -- a number of the arrival is the answer, of a whole datagram and of a piece
-  by_stop : (b : Bool) (c : Check) (r : Refusal) (f : Collected) (p : Collection) (a : Received) → c ≡ Stop r → a ≡ Refused r
+  by_stop : (b : Bool) (c : Result Unit Refusal) (r : Refusal) (f : Collected) (p : Collection) (a : Received) → c ≡ Err r → a ≡ Refused r
       → (cond b (stop_or (λ (q : Refusal). record { answer = Refused q; pieces = p }) c f) (record { answer = a; pieces = p })).answer ≡ Refused r
   by_stop true c r f p a e h = rw e
   by_stop false c r f p a e h = h
 
-  pub stopped : (r : Refusal) → arrival n e interface memory ≡ Stop r → (collected_at n e interface time memory).answer ≡ Refused r
+  pub stopped : (r : Refusal) → arrival n e interface memory ≡ Err r → (collected_at n e interface time memory).answer ≡ Refused r
   unfolding collected_by collected_of fragment_of
   stopped r h = go n.there h
     where
-      go : (there : Bool) → first_of (arrives_at there n e interface memory) ≡ Stop r → (came there).answer ≡ Refused r
+      go : (there : Bool) → first_of (arrives_at there n e interface memory) ≡ Err r → (came there).answer ≡ Refused r
       go true h =
           by_stop (is_piece (outer_of e)) (first_of (arrival_rows n.service.settings interface (length memory) e (outer_of e))) r _ n.service.pieces _ h
           (whole_stop n e interface memory r h)
-      go false h = ap (λ (c : Check). stop_or Refused c (Refused NoLocator)) h
+      go false h = ap (λ (c : Result Unit Refusal). stop_or Refused c (Refused NoLocator)) h
 
   -- a piece that passes is answered by the step
-  pub answered_step : arrival n e interface memory ≡ Pass → is_piece (outer_of e) ≡ true
+  pub answered_step : arrival n e interface memory ≡ Ok tt → is_piece (outer_of e) ≡ true
       → (collected_at n e interface time memory).answer
       ≡ joined_by n.service.settings (live n.service.routers) (quad_at e 12) (answer (state_of n memory) (step_at (max n.latest time) e)) (after (state_of n memory) (step_at (max n.latest time) e)).memory
   unfolding collected_by collected_of fragment_of
   answered_step h b = go n.there h
     where
-      go : (there : Bool) → first_of (arrives_at there n e interface memory) ≡ Pass
+      go : (there : Bool) → first_of (arrives_at there n e interface memory) ≡ Ok tt
           → (came there).answer ≡ joined_by n.service.settings (live n.service.routers) (quad_at e 12) (answer (state_of n memory) x) (after (state_of n memory) x).memory
       go true h = rw (b, h) (taken-answer n e now memory)
       go false h = cc
 
   -- a whole datagram that passes is judged by 8 to 10
-  pub answered-whole : arrival n e interface memory ≡ Pass → is_piece (outer_of e) ≡ false
+  pub answered-whole : arrival n e interface memory ≡ Ok tt → is_piece (outer_of e) ≡ false
       → (collected_at n e interface time memory).answer ≡ stop_or Refused (inward n (quad_at e 12) (encapsulated e)) (Delivered (header_length e) (inner_length (encapsulated e)))
   unfolding collected_by collected_of
   answered-whole h b = go n.there h
     where
-      go : (there : Bool) → first_of (arrives_at there n e interface memory) ≡ Pass
+      go : (there : Bool) → first_of (arrives_at there n e interface memory) ≡ Ok tt
           → (came there).answer ≡ stop_or Refused (inward n (quad_at e 12) (encapsulated e)) (Delivered (header_length e) (inner_length (encapsulated e)))
       go true h = rw b (whole_pass n e interface memory h)
       go false h = cc

@@ -1,12 +1,11 @@
 -- What facts and tests both read by, said once more in the bytes and members themselves: a reading that is bent breaks this, though a rule
 -- and its test would go on agreeing.
-use Rattle.std.specs.Prelude.{ℕ, ◌+◌, ◌*◌, ◌<◌, min, ◌≡◌, ◌⊎◌, ◌↔◌, true, false, List, [], ◌∷◌, map, length, get_or, take, drop}
+use Rattle.std.specs.Prelude.{ℕ, ◌+◌, ◌*◌, ◌<◌, min, ◌≡◌, ◌⊎◌, ◌↔◌, true, false, List, [], ◌∷◌, map, length, get_or, take, drop, Some, None}
 use Rattle.address.specs.Address.{quad_of, last_quad, link_local_prefix}
 use Rattle.address.specs.Prefixes.{rows_of}
 use Rattle.header.specs.Fields.{word_at, quad_at}
 use Rattle.header.specs.Outer.{quote_of}
 use Rattle.paths.specs.Kept.{in_force}
-use Rattle.paths.specs.declared.Kept.TheVariants as kept
 use Rattle.refusals.specs.Refusals.{number_of}
 use Rattle.refusals.specs.declared.Refusal.TheVariants as refusal
 use Rattle.routers.specs.Routers.{live, places_of}
@@ -39,5 +38,5 @@ pub record Readings : Type 0 where
       ≡ 1 ∷ 2 ∷ 3 ∷ 4 ∷ 5 ∷ 6 ∷ 7 ∷ 8 ∷ 9 ∷ 10 ∷ 11 ∷ 12 ∷ 13 ∷ 15 ∷ 16 ∷ 17 ∷ 18 ∷ 19 ∷ 20 ∷ 21 ∷ 22 ∷ 23 ∷ 24 ∷ 25 ∷ 26 ∷ 27 ∷ 28 ∷ 29 ∷ 30 ∷ 31 ∷ []
   pub unit : (h : Held) (u : ℕ) → u < 256 → (get_or (marks_in h) u false ≡ true) ↔ Holds h u
   pub units_besides : (h : Held) (from n u : ℕ) → u < 256 → Holds (held_with h from n) u ↔ (Holds h u ⊎ Among from n u)
-  pub smaller : (link size : ℕ) → in_force link (kept.Size size) ≡ min link size
-  pub none_kept : (link : ℕ) → in_force link kept.Nothing ≡ link
+  pub smaller : (link size : ℕ) → in_force link (Some size) ≡ min link size
+  pub none_kept : (link : ℕ) → in_force link None ≡ link

@@ -1,13 +1,11 @@
 -- The round trip (R22.14): the advertisement that a node writes, any node that lists the writer accepts, and asks it again when the
 -- operator's lifetimes say. Nothing is assumed of how the two nodes came about.
-use Rattle.std.specs.Prelude.{ℕ, ◌+◌, ◌*◌, ◌≤◌, ◌<◌, max, ◌≡◌, cond, length, get_or, take, eqb, leb}
+use Rattle.std.specs.Prelude.{ℕ, ◌+◌, ◌*◌, ◌≤◌, ◌<◌, max, ◌≡◌, cond, length, get_or, take, eqb, leb, Ok}
 use mathlib.Core.List.{List, [], ◌∷◌, ◌++◌, map, Memᴰ}
-use Rattle.header.specs.declared.wrap.Written.TheVariants.{Length}
 use Rattle.options.specs.Facts.{DueFrom}
 use Rattle.routers.specs.Routers.{live}
 use Rattle.routers.specs.Facts.{Listed, OnlyDue}
 use Rattle.settings.specs.Facts.{LocatorAt}
-use Rattle.hearing.specs.declared.HeardAnswer.TheVariants.{Router}
 use Rattle.advertisements.specs.Fits.{AdvertisementFits}
 use Rattle.advertisements.specs.declared.Advertisement.{Advertisement}
 use Rattle.advertisements.specs.declared.prefix.Prefix.{Prefix}
@@ -39,7 +37,7 @@ module _ (w : Node) (u : ServiceName) (packet : List ℕ) (k : ℕ) (a : Adverti
 
   -- the service q of the reader r accepts them at a time and names the writer; it alone is then due when the operator's lifetimes say
   pub record Accepted (r : Node) (q : ServiceName) (time : ℕ) : Type 0 where
-    pub answer : (hear_of r q sent time).answer ≡ Router v
+    pub answer : (hear_of r q sent time).answer ≡ Ok v
     pub due : (due : ℕ)
         × DueFrom (max r.latest time) (service_of r q).settings.interval (λ (l : ℕ). Memᴰ l (lifetimes_set a)) due
         × OnlyDue (service_of r q).routers v due (service_of (hear_of r q sent time).node q).routers
@@ -57,4 +55,4 @@ unfoldable pub RoundTrip : Type 0
 RoundTrip =
     (w : Node) (u : ServiceName) (packet : List ℕ) (k : ℕ) (a : Advertisement) (out : List ℕ) (n v : ℕ)
     → ((i : ℕ) → get_or packet i 0 < 256) → v < 4294967296 → AdvertisementFits a
-    → LocatorAt (service_of w u).settings k v → advertise_of w u packet k a (length out) ≡ Length n → Returns w u packet k a out n v
+    → LocatorAt (service_of w u).settings k v → advertise_of w u packet k a (length out) ≡ Ok n → Returns w u packet k a out n v

@@ -1,6 +1,6 @@
 -- The starred values (R18.1 to R18.9) in one statement: a node of the program's example, L 1,500, with one
 -- neighbour 10.0.0.2.
-use Rattle.std.specs.Prelude.{ℕ, ◌-◌, ◌≡◌, true, false, List, [], ◌∷◌, ◌++◌, get_or, replicate}
+use Rattle.std.specs.Prelude.{ℕ, ◌-◌, ◌≡◌, true, false, List, [], ◌∷◌, ◌++◌, get_or, replicate, Ok}
 use Rattle.checksum.specs.Sum.{ones_sum, ones_complement}
 use Rattle.address.specs.Address.{quad_of, link_local_of}
 use Rattle.refusals.specs.Given.{Given, answered, refused}
@@ -13,7 +13,6 @@ use Rattle.node.specs.Node.{setup_of}
 use Rattle.node.specs.Size.{path_size_of}
 use Rattle.node.specs.declared.Node.{Node}
 use Rattle.node.specs.declared.ServiceName.TheVariants.{First}
-use Rattle.node.specs.declared.size.SizeAnswer.TheVariants.{Size}
 use Rattle.demands.specs.Calls.{NodeCall, receiving, sending, reporting, asking, outcome_of, node_after}
 
 -- our locator
@@ -106,8 +105,8 @@ pub record Starred : Type 0 where
       × (given_last node [] (size_report 67 1500) ≡ refused SizeUnusable)
       × (given_last node [] (size_report 1500 1500) ≡ refused SizeNotBelow)
   -- accepted at 1,000: in force at 1,599, gone at 1,600
-  pub ages : (path_size_of (node_after node (asking First 0 1000 [] ∷ size_report 1300 1500 ∷ asking First 0 1599 [] ∷ [])) First neighbour ≡ Size 1300)
-      × (path_size_of (node_after node (asking First 0 1000 [] ∷ size_report 1300 1500 ∷ asking First 0 1600 [] ∷ [])) First neighbour ≡ Size 1500)
+  pub ages : (path_size_of (node_after node (asking First 0 1000 [] ∷ size_report 1300 1500 ∷ asking First 0 1599 [] ∷ [])) First neighbour ≡ Ok 1300)
+      × (path_size_of (node_after node (asking First 0 1000 [] ∷ size_report 1300 1500 ∷ asking First 0 1600 [] ∷ [])) First neighbour ≡ Ok 1500)
   -- the header of the program's example gets checksum 6696
   pub checksum : outer_bytes 60 (record { identification = 1; dont_fragment = false; ttl = 64; protocol = 41; source = neighbour; destination = us })
       ≡ 0x45 ∷ 0x00 ∷ 0x00 ∷ 0x3C ∷ 0x00 ∷ 0x01 ∷ 0x00 ∷ 0x00 ∷ 0x40 ∷ 0x29 ∷ 0x66 ∷ 0x96 ∷ be32 neighbour (be32 us [])

@@ -1,6 +1,6 @@
 -- Demand 2 at the node: each call does exactly what the rules say, with the settings, the router list and the path size that are in force
 -- at the call's time. The rules stand as plain facts over bytes and members beside each call; here each call of the node is joined to them.
-use Rattle.std.specs.Prelude.{ℕ, ◌≤◌, ◌<◌, max, ◌≡◌, length, get_or, take, replicate}
+use Rattle.std.specs.Prelude.{ℕ, ◌≤◌, ◌<◌, max, ◌≡◌, length, get_or, take, replicate, Ok, Err}
 use mathlib.Core.List.{List, [], ◌∷◌, ◌++◌, Memᴰ}
 use Rattle.lists.specs.Any.{Some}
 use Rattle.refusals.specs.declared.Refusal.TheVariants as refusal
@@ -22,7 +22,6 @@ use Rattle.settings.specs.declared.locators.Locator.{Locator}
 use Rattle.settings.specs.declared.Settings.{Settings}
 use Rattle.header.specs.Fields.{quad_at}
 use Rattle.header.specs.Outer.{quote_of}
-use Rattle.header.specs.declared.wrap.Written.TheVariants as written
 use Rattle.reports.specs.Accepts.{WellFormed, ReportedExactly}
 use Rattle.reports.specs.declared.ReportAnswer.TheVariants as report
 use Rattle.sending.specs.Exactly.{SentExactly}
@@ -34,10 +33,8 @@ use Rattle.receiving.specs.Receive.{received_of, part_of}
 use Rattle.receiving.specs.declared.Received.TheVariants as received
 use Rattle.asking.specs.Ask.{asked_of, asked_output}
 use Rattle.asking.specs.Facts.{AskedExactly}
-use Rattle.asking.specs.declared.AskAnswer.TheVariants as asked
 use Rattle.hearing.specs.Facts.{HeardExactly}
 use Rattle.hearing.specs.Heard.{heard_of}
-use Rattle.hearing.specs.declared.HeardAnswer.TheVariants as heard
 use Rattle.advertisements.specs.Fits.{AdvertisementFits}
 use Rattle.advertisements.specs.declared.Advertisement.{Advertisement}
 use Rattle.advertising.specs.Facts.{AdvertisedExactly}
@@ -54,9 +51,6 @@ use Rattle.node.specs.declared.Node.{Node}
 use Rattle.node.specs.declared.Service.{Service}
 use Rattle.node.specs.declared.ServiceName.{ServiceName}
 use Rattle.node.specs.declared.ServiceName.TheVariants.{First, Second}
-use Rattle.node.specs.declared.size.SizeAnswer.TheVariants as size
-use Rattle.node.specs.declared.SetupAnswer.TheVariants as setup
-use Rattle.node.specs.declared.router_list.ListAnswer.TheVariants as list
 use Rattle.demands.specs.Collecting.{CollectedByHistory}
 use Rattle.demands.specs.Readings.{Readings}
 
@@ -132,8 +126,8 @@ pub record NoNode (n : Node) : Type 0 where
 
 -- settings make a node of one service exactly when they keep the rules; otherwise 1 is given
 pub record Sets (s : Settings) : Type 0 where
-  pub made : RightSettings s → (setup_of s).answer ≡ setup.Made
-  pub refused : (RightSettings s → ⊥) → (setup_of s).answer ≡ setup.Refused refusal.Settings
+  pub made : RightSettings s → (setup_of s).answer ≡ Ok tt
+  pub refused : (RightSettings s → ⊥) → (setup_of s).answer ≡ Err refusal.Settings
   pub nothing : (RightSettings s → ⊥) → NoNode (setup_of s).node
   pub new : RightSettings s → NewNode (setup_of s).node
   pub first : RightSettings s → NewService s (setup_of s).node.first
@@ -147,8 +141,8 @@ pub record RightPair (a b : Settings) : Type 0 where
 
 -- they make a node of two services exactly then; otherwise 1 is given
 pub record SetsPair (a b : Settings) : Type 0 where
-  pub made : RightPair a b → (setup_pair_of a b).answer ≡ setup.Made
-  pub refused : (RightPair a b → ⊥) → (setup_pair_of a b).answer ≡ setup.Refused refusal.Settings
+  pub made : RightPair a b → (setup_pair_of a b).answer ≡ Ok tt
+  pub refused : (RightPair a b → ⊥) → (setup_pair_of a b).answer ≡ Err refusal.Settings
   pub nothing : (RightPair a b → ⊥) → NoNode (setup_pair_of a b).node
   pub new : RightPair a b → NewNode (setup_pair_of a b).node
   pub first : RightPair a b → NewService a (setup_pair_of a b).node.first
@@ -226,13 +220,13 @@ module _ (n : Node) (w : ServiceName) where
     pub taken : RightList its addresses count
         → replace_of n w addresses count time
         ≡ record {
-          answer = list.Replaced;
+          answer = Ok tt;
           node = node_with n w (with_routers (service_of n w) (replaced_of addresses count (max n.latest time) its_routers)) time;
         }
     pub replaced : RightList its addresses count
         → NewList (max n.latest time) (live its_routers) addresses count (service_of (replace_of n w addresses count time).node w).routers
     pub refused : (RightList its addresses count → ⊥)
-        → replace_of n w addresses count time ≡ record { answer = list.Refused refusal.Settings; node = raised_to n time }
+        → replace_of n w addresses count time ≡ record { answer = Err refusal.Settings; node = raised_to n time }
 
   -- every call on the node that names a service which it has
   pub record Present : Type 0 where
@@ -243,7 +237,7 @@ module _ (n : Node) (w : ServiceName) where
     pub asks : (k time : ℕ) (out : List ℕ) → Asks k time out
     pub hears : (packet : List ℕ) (time : ℕ) → Hears packet time
     pub advertises : (packet : List ℕ) (k : ℕ) (a : Advertisement) (out : List ℕ) → Advertises packet k a out
-    pub sizes : (v : ℕ) → path_size_of n w v ≡ size.Size (path_size_at n w v n.latest)
+    pub sizes : (v : ℕ) → path_size_of n w v ≡ Ok (path_size_at n w v n.latest)
 
   -- a call that names a service which the node has not gets 11, whatever its arguments are: the latest time is raised, and nothing is written
   pub record Absent : Type 0 where
@@ -255,14 +249,14 @@ module _ (n : Node) (w : ServiceName) where
         → (send_of n w packet hop k time (length out) ≡ record { answer = sent.Refused refusal.NoLocator; node = raised_to n time })
         × (send_output n w packet hop k time out ≡ out)
     pub relists : (addresses : List ℕ) (count time : ℕ)
-        → replace_of n w addresses count time ≡ record { answer = list.Refused refusal.NoLocator; node = raised_to n time }
+        → replace_of n w addresses count time ≡ record { answer = Err refusal.NoLocator; node = raised_to n time }
     pub asks : (k time : ℕ) (out : List ℕ)
-        → (ask_of n w k time (length out) ≡ record { answer = asked.Refused refusal.NoLocator; node = raised_to n time })
+        → (ask_of n w k time (length out) ≡ record { answer = Err refusal.NoLocator; node = raised_to n time })
         × (ask_output n w k time out ≡ out)
-    pub hears : (packet : List ℕ) (time : ℕ) → hear_of n w packet time ≡ record { answer = heard.Refused refusal.NoLocator; node = raised_to n time }
+    pub hears : (packet : List ℕ) (time : ℕ) → hear_of n w packet time ≡ record { answer = Err refusal.NoLocator; node = raised_to n time }
     pub advertises : (packet : List ℕ) (k : ℕ) (a : Advertisement) (out : List ℕ)
-        → (advertise_of n w packet k a (length out) ≡ written.Refused refusal.NoLocator) × (advertise_output n w packet k a out ≡ out)
-    pub sizes : (v : ℕ) → path_size_of n w v ≡ size.Refused refusal.NoLocator
+        → (advertise_of n w packet k a (length out) ≡ Err refusal.NoLocator) × (advertise_output n w packet k a out ≡ out)
+    pub sizes : (v : ℕ) → path_size_of n w v ≡ Err refusal.NoLocator
 
 module _ (n : Node) where
   -- the quoted source is a locator address of the service, which the node has

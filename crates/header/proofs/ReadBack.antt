@@ -1,4 +1,5 @@
 -- What the writer writes, the reader reads: a wrapped packet, with or without padding behind it. Assumes nothing.
+use Rattle.std.specs.Prelude.{Ok}
 use Prim.Native.Nat.{ℕ, ◌+◌, ◌*◌, ◌/◌, ◌%◌, ◌≤◌}
 use mathlib.Core.Path.{◌≡◌, refl}
 use mathlib.Core.Bool.{Bool, true, false, cond}
@@ -8,7 +9,6 @@ use borrow.Author.Tests.{le-ltb, eq-eqb}
 use lib.ListN.{length, length-append}
 use lib.Seq.{take_at, drop_at}
 use Rattle.address.specs.Address.{quad_of}
-use Rattle.refusals.specs.declared.Check.TheVariants.{Pass}
 use Rattle.header.specs.Fields.{word_at, quad_at}
 use Rattle.header.specs.Outer.{outer_of, is_outer_malformed, is_sum_wrong, outer_check, payload_of}
 use Rattle.header.specs.Wrap.{outer_bytes, wrapped}
@@ -63,7 +63,7 @@ module _ (h : OuterFields) (packet padding : List ℕ) (f : Fits h) (most : 20 +
       rw (append_assoc (outer_bytes n h) packet padding, take_at (outer_bytes n h) (packet ++ padding) 20 (length-outer_bytes n h), outer_right n h (omega arith) f)
 
   -- the header of a wrapped packet passes 2 to 5
-  pub wrapped-passes : h.protocol ≡ 41 → outer_check (length (wrapped h packet ++ padding)) (wrapped h packet ++ padding) (outer_of (wrapped h packet ++ padding)) ≡ Pass
+  pub wrapped-passes : h.protocol ≡ 41 → outer_check (length (wrapped h packet ++ padding)) (wrapped h packet ++ padding) (outer_of (wrapped h packet ++ padding)) ≡ Ok tt
   unfolding outer_check
   wrapped-passes p = rw wrapped_fields (simp (wrapped-malformed, wrapped_sum, eq-eqb h.protocol 41 p))
 

@@ -1,16 +1,13 @@
 -- The outer header (R5; RFC 791, 3.1): its fields, and the rules of numbers 2 to 5.
-use Rattle.std.specs.Prelude.{ℕ, ◌*◌, ◌/◌, ◌%◌, Bool, not, ◌||◌, List, [], ◌∷◌, ◌++◌, get_or, length, take, drop, eqb, ltb}
+use Rattle.std.specs.Prelude.{ℕ, ◌*◌, ◌/◌, ◌%◌, Bool, not, ◌||◌, List, [], ◌∷◌, ◌++◌, get_or, length, take, drop, eqb, ltb, Result, Ok, Err}
 use Rattle.checksum.specs.Sum.{is_right}
 use Rattle.refusals.specs.Refusals.{first_of, stop_or}
 use Rattle.refusals.specs.Given.{Given, answered, refused}
 use Rattle.refusals.specs.declared.Refusal.{Refusal}
 use Rattle.refusals.specs.declared.Refusal.TheVariants.{OuterMalformed, OuterChecksum, OtherProtocol, Piece}
-use Rattle.refusals.specs.declared.Check.{Check}
 use Rattle.header.specs.Numbers.{outer_header, ipv6}
 use Rattle.header.specs.Fields.{word_at, quad_at}
 use Rattle.header.specs.declared.outer.Outer.{Outer}
-use Rattle.header.specs.declared.outer.OuterRead.{OuterRead}
-use Rattle.header.specs.declared.outer.OuterRead.TheVariants.{Header, Refused}
 
 -- the fields; the more-fragments flag and the offset are the low 14 bits behind the identification
 unfoldable pub outer_of : List ℕ → Outer
@@ -52,38 +49,38 @@ abbrev pub piece_rows : Outer → List (Bool × Refusal)
 piece_rows o = (not (eqb o.fragment 0), Piece) ∷ []
 
 -- the first of 3 and 4 that a datagram gets which starts with d and has the fields o
-unfoldable pub sum_check : List ℕ → Outer → Check
+unfoldable pub sum_check : List ℕ → Outer → Result Unit Refusal
 sum_check d o = first_of ((is_sum_wrong d o, OuterChecksum) ∷ protocol_rows o)
 
 -- the first of 2 to 4 that a datagram of n bytes gets, which starts with d and has the fields o
-unfoldable pub header_check : ℕ → List ℕ → Outer → Check
+unfoldable pub header_check : ℕ → List ℕ → Outer → Result Unit Refusal
 header_check n d o = first_of (header_rows n d o ++ protocol_rows o)
 
 -- the first of 2 to 5 that it gets
-unfoldable pub outer_check : ℕ → List ℕ → Outer → Check
+unfoldable pub outer_check : ℕ → List ℕ → Outer → Result Unit Refusal
 outer_check n d o = first_of (header_rows n d o ++ (protocol_rows o ++ piece_rows o))
 
 -- number and values (R1.17): the fields of a header that passes
-abbrev pub outer_given : OuterRead → Given
-outer_given (Header o) = answered (o.header ∷ o.total ∷ o.source ∷ o.destination ∷ o.protocol ∷ o.fragment ∷ [])
-outer_given (Refused refusal) = refused refusal
+abbrev pub outer_given : Result Outer Refusal → Given
+outer_given (Ok o) = answered (o.header ∷ o.total ∷ o.source ∷ o.destination ∷ o.protocol ∷ o.fragment ∷ [])
+outer_given (Err refusal) = refused refusal
 
 -- the fields of a header that passes, or the refusal
-abbrev pub read_with : Check → Outer → OuterRead
-read_with check o = stop_or Refused check (Header o)
+abbrev pub read_with : Result Unit Refusal → Outer → Result Outer Refusal
+read_with check o = stop_or Err check (Ok o)
 
 -- the fields of a datagram's outer header, a piece's too, or the first of 2 to 4
-unfoldable pub header_read_of : List ℕ → OuterRead
+unfoldable pub header_read_of : List ℕ → Result Outer Refusal
 header_read_of d = read_with (header_check (length d) d (outer_of d)) (outer_of d)
 
 -- the fields of a datagram's outer header, or the first of 2 to 5
-unfoldable pub outer_read_of : List ℕ → OuterRead
+unfoldable pub outer_read_of : List ℕ → Result Outer Refusal
 outer_read_of d = read_with (outer_check (length d) d (outer_of d)) (outer_of d)
 
 -- what follows from a header that is read; of a refusal, that refusal in the form of the call's answer
-abbrev pub read_or : {A : Type 0} → (Refusal → A) → OuterRead → (Outer → A) → A
-read_or refuse (Header o) follows = follows o
-read_or refuse (Refused refusal) follows = refuse refusal
+abbrev pub read_or : {A : Type 0} → (Refusal → A) → Result Outer Refusal → (Outer → A) → A
+read_or refuse (Ok o) follows = follows o
+read_or refuse (Err refusal) follows = refuse refusal
 
 -- bytes after the total length are padding. The inner packet starts after the header, options included (R5.3, R5.9).
 unfoldable pub payload_of : List ℕ → Outer → List ℕ

@@ -1,15 +1,13 @@
 -- The outer header that we write (R7.10), and a packet wrapped in it.
-use Rattle.std.specs.Prelude.{ℕ, ◌+◌, ◌/◌, ◌%◌, cond, List, [], ◌∷◌, ◌++◌, length, ltb}
+use Rattle.refusals.specs.declared.Refusal.{Refusal}
+use Rattle.std.specs.Prelude.{ℕ, ◌+◌, ◌/◌, ◌%◌, cond, List, [], ◌∷◌, ◌++◌, length, ltb, Result, Ok, Err}
 use Rattle.checksum.specs.Sum.{ones_sum, ones_complement}
 use Rattle.lent.specs.Written.{written}
 use Rattle.refusals.specs.Refusals.{first_of, stop_or}
 use Rattle.refusals.specs.Given.{Given, answered, refused}
 use Rattle.refusals.specs.declared.Refusal.TheVariants.{WrappedTooLong, OutputShort}
-use Rattle.refusals.specs.declared.Check.{Check}
 use Rattle.header.specs.Numbers.{outer_header}
 use Rattle.header.specs.declared.wrap.OuterFields.{OuterFields}
-use Rattle.header.specs.declared.wrap.Written.{Written}
-use Rattle.header.specs.declared.wrap.Written.TheVariants.{Length, Refused}
 
 -- the two bytes of a 16-bit number, and then a list
 abbrev pub be16 : ℕ → List ℕ → List ℕ
@@ -46,24 +44,24 @@ abbrev pub longest_total : ℕ
 longest_total = 65535
 
 -- 23, then 15, for a packet of n bytes
-unfoldable pub wrap_check : ℕ → ℕ → Check
+unfoldable pub wrap_check : ℕ → ℕ → Result Unit Refusal
 wrap_check n room = first_of ((ltb longest_total (outer_header + n), WrappedTooLong) ∷ ((ltb room (outer_header + n), OutputShort) ∷ []))
 
 -- number and values (R1.17): the length written
-abbrev pub written_given : Written → Given
-written_given (Length n) = answered (n ∷ [])
-written_given (Refused refusal) = refused refusal
+abbrev pub written_given : Result ℕ Refusal → Given
+written_given (Ok n) = answered (n ∷ [])
+written_given (Err refusal) = refused refusal
 
 -- what a writer answers that would write n bytes
-abbrev pub writer_answer : Check → ℕ → Written
-writer_answer check n = stop_or Refused check (Length n)
+abbrev pub writer_answer : Result Unit Refusal → ℕ → Result ℕ Refusal
+writer_answer check n = stop_or Err check (Ok n)
 
 -- what a writer leaves in the output that would write w: the lent output is untouched (R1.15) after a refusal
-abbrev pub writer_output : Check → List ℕ → List ℕ → List ℕ
+abbrev pub writer_output : Result Unit Refusal → List ℕ → List ℕ → List ℕ
 writer_output check w out = stop_or (λ refusal. out) check (written w out)
 
 -- the length written, or the refusal
-unfoldable pub wrap_answer : ℕ → ℕ → Written
+unfoldable pub wrap_answer : ℕ → ℕ → Result ℕ Refusal
 wrap_answer n room = writer_answer (wrap_check n room) (outer_header + n)
 
 -- what stands in the output afterwards

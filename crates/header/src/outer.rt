@@ -5,7 +5,7 @@ ghost use Rattle.header.specs.Numbers.{outer_header};
 ghost use Rattle.header.specs.Outer.{outer_of, is_outer_malformed, is_sum_wrong, sum_check, header_check, outer_given, header_read_of, outer_read_of, payload_of, quote_of, is_quote_malformed};
 
 use crate::{IPV6, OUTER_HEADER, fields};
-use refusals::{Check, Refusal};
+use refusals::Refusal;
 
 // The first byte of an IPv4 header: version 4, and from 5 to 15 words.
 const LEAST_FIRST: u8 = 0x45;
@@ -23,24 +23,6 @@ pub struct Outer {
     pub protocol: u8,
     pub source: u32,
     pub destination: u32,
-}
-
-#[derive(Clone, Copy)]
-pub enum OuterRead {
-    Header(Outer),
-    Refused(Refusal),
-}
-
-impl OuterRead {
-    // The number (R4), 0 for a header that passes 2 to 5.
-    pub fn number(self) -> u8
-        ensures { result ≡ (outer_given self).number }
-    {
-        match self {
-            OuterRead::Header(_) => 0,
-            OuterRead::Refused(refusal) => refusal.number(),
-        }
-    }
 }
 
 pub fn outer_header(d: &[u8]) -> Outer
@@ -124,67 +106,67 @@ pub fn sum_wrong(d: &[u8], o: Outer) -> bool
 }
 
 // Numbers 3 and 4 of a datagram that starts with d.
-fn check_sum(d: &[u8], o: Outer) -> Check
+fn check_sum(d: &[u8], o: Outer) -> Result<(), Refusal>
     ensures { result ≡ sum_check d.now o }
 {
     if sum_wrong(d, o) {
-        return Check::Stop(Refusal::OuterChecksum);
+        return Err(Refusal::OuterChecksum);
     }
     if o.protocol != IPV6 {
-        return Check::Stop(Refusal::OtherProtocol);
+        return Err(Refusal::OtherProtocol);
     }
-    Check::Pass
+    Ok(())
 }
 
 // Numbers 2 to 4 of a datagram of n bytes that starts with d.
-pub fn check_header(n: usize, d: &[u8], o: Outer) -> Check
+pub fn check_header(n: usize, d: &[u8], o: Outer) -> Result<(), Refusal>
     ensures { result ≡ header_check n d.now o }
 {
     if malformed(n, o) {
-        return Check::Stop(Refusal::OuterMalformed);
+        return Err(Refusal::OuterMalformed);
     }
     check_sum(d, o)
 }
 
 // The same of the whole datagram d, which the header o was read from.
-fn check_read(d: &[u8], o: Outer) -> Check
+fn check_read(d: &[u8], o: Outer) -> Result<(), Refusal>
     requires { o ≡ outer_of d.now }
     ensures { result ≡ header_check (length d.now) d.now o }
 {
     if malformed_by(d.len(), fields::byte(d, 0), o) {
-        return Check::Stop(Refusal::OuterMalformed);
+        return Err(Refusal::OuterMalformed);
     }
     check_sum(d, o)
 }
 
 // The outer header of a datagram, a piece's too, or the first of the numbers 2 to 4.
-pub fn read_header(d: &[u8]) -> OuterRead
+pub fn read_header(d: &[u8]) -> Result<Outer, Refusal>
     ensures { result ≡ header_read_of d.now }
 {
     if d.len() < OUTER_HEADER {
-        return OuterRead::Refused(Refusal::OuterMalformed);
+        return Err(Refusal::OuterMalformed);
     }
     let o = full_header(d);
     let check = check_read(d, o);
     match check {
-        Check::Pass => OuterRead::Header(o),
-        Check::Stop(refusal) => OuterRead::Refused(refusal),
+        Ok(()) => Ok(o),
+        Err(refusal) => Err(refusal),
     }
 }
 
 // The outer header of a datagram, or the first of the numbers 2 to 5.
-pub fn read_outer(d: &[u8]) -> OuterRead
+pub fn read_outer(d: &[u8]) -> Result<Outer, Refusal>
     ensures { result ≡ outer_read_of d.now }
 {
     let read = read_header(d);
     match read {
-        OuterRead::Header(o) => {
+        Ok(o) => {
             if o.fragment != 0 {
-                return OuterRead::Refused(Refusal::Piece);
+                return Err(Refusal::Piece);
             }
-            OuterRead::Header(o)
+            Ok(o)
         }
-        OuterRead::Refused(refusal) => OuterRead::Refused(refusal),
+        Err(refusal) => Err(refusal),
     }
 }
 

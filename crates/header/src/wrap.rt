@@ -22,42 +22,23 @@ pub struct OuterFields {
     pub destination: u32,
 }
 
-// What a writer answers: how much it wrote, or why it wrote nothing.
-#[derive(Clone, Copy)]
-pub enum Written {
-    Length(usize),
-    Refused(Refusal),
-}
-
-impl Written {
-    // The number (R4), 0 where something is written.
-    pub fn number(self) -> u8
-        ensures { result ≡ (written_given self).number }
-    {
-        match self {
-            Written::Length(_) => 0,
-            Written::Refused(refusal) => refusal.number(),
-        }
-    }
-}
-
 // Writes an outer header and then the packet into out.
-pub fn wrap(h: OuterFields, packet: &[u8], out: &mut [u8]) -> Written
+pub fn wrap(h: OuterFields, packet: &[u8], out: &mut [u8]) -> Result<usize, Refusal>
     ensures value { result ≡ wrap_answer (length packet.now) (length out.old) }
     ensures out_after { out.new ≡ wrap_output h packet.now out.old }
 {
     let n = packet.len();
     if LONGEST < n {
-        return Written::Refused(Refusal::WrappedTooLong);
+        return Err(Refusal::WrappedTooLong);
     }
     let total = OUTER_HEADER + n;
     if out.len() < total {
-        return Written::Refused(Refusal::OutputShort);
+        return Err(Refusal::OutputShort);
     }
     let header = outer_bytes(total as u16, h);
     write_at(&header, out, 0);
     write_at(packet, out, OUTER_HEADER);
-    Written::Length(total)
+    Ok(total)
 }
 
 // The 20 bytes of an outer header of the total length, with their checksum. A number of several bytes is put in its place as

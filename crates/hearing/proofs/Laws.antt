@@ -1,4 +1,5 @@
 -- An advertisement is accepted exactly if the rules hold; what an accepted and a refused one leave. Assumes nothing.
+use Rattle.std.specs.Prelude.{Option, Some, None, Result, Ok, Err}
 use Prim.Native.Nat.{ℕ, ◌+◌, ◌≤◌}
 use mathlib.Core.Path.{◌≡◌, refl, sym, ap, subst, ◌∙◌}
 use mathlib.Core.Bool.{Bool, true, false, cond}
@@ -9,15 +10,11 @@ use lib.ListN.{length, take, drop}
 use Rattle.lists.proofs.Tests.{and_left, and_right}
 use Rattle.lists.proofs.Decides.{refutes}
 use Rattle.address.specs.Address.{is_link_local}
-use Rattle.address.specs.declared.Embedded.{Embedded}
-use Rattle.address.specs.declared.Embedded.TheVariants.{Ipv4, Nothing}
 use Rattle.address.proofs.Facts.{decides_link_local}
 use Rattle.refusals.specs.Refusals.{first_of, stop_or}
 use Rattle.refusals.proofs.Laws.{all_false, stop_passed}
 use Rattle.refusals.specs.declared.Refusal.{Refusal}
 use Rattle.refusals.specs.declared.Refusal.TheVariants.{InnerMalformed, AdvertisementInvalid, AdvertiserNotListed}
-use Rattle.refusals.specs.declared.Check.{Check}
-use Rattle.refusals.specs.declared.Check.TheVariants.{Pass, Stop}
 use Rattle.header.specs.Fields.{word_at}
 use Rattle.header.specs.Inner.{inner_of, is_inner_malformed}
 use Rattle.header.specs.Whole.{WholeInner}
@@ -42,48 +39,47 @@ use Rattle.hearing.specs.Message.{message_of, is_valid_message}
 use Rattle.hearing.specs.Heard.{options_start, options_in, is_valid_advertisement, refused_by, heard_of_router, heard_from, heard_rows, heard_of}
 use Rattle.hearing.specs.Facts.{fields_of, IsAdvertisement, ValidAdvertisement, router_lifetime, HeardExactly}
 use Rattle.hearing.proofs.MessageLaws.{message_rules, rules_message}
-use Rattle.hearing.specs.declared.HeardAnswer.TheVariants.{Router, Refused}
 use Rattle.hearing.specs.declared.Heard.{Heard}
 
 -- the last stage, of what the source embeds
 
 module _ (routers : RouterList) (due : ℕ) where
-  known : (t : Bool) (b a : ℕ) (l : RouterList) → (cond t (record { answer = Router b; routers = l }) (refused_by AdvertiserNotListed routers)).answer ≡ Router a
-      → (t ≡ true) × (b ≡ a) × ((cond t (record { answer = Router b; routers = l }) (refused_by AdvertiserNotListed routers)).routers ≡ l)
+  known : (t : Bool) (b a : ℕ) (l : RouterList) → (cond t (record { answer = Ok b; routers = l }) (refused_by AdvertiserNotListed routers)).answer ≡ Ok a
+      → (t ≡ true) × (b ≡ a) × ((cond t (record { answer = Ok b; routers = l }) (refused_by AdvertiserNotListed routers)).routers ≡ l)
   known true b a l h = (refl, cc, refl)
   known false b a l h = (cc, cc, cc)
 
-  unknown : (t : Bool) (b : ℕ) (l : RouterList) (r : Refusal) → (cond t (record { answer = Router b; routers = l }) (refused_by AdvertiserNotListed routers)).answer ≡ Refused r
-      → (cond t (record { answer = Router b; routers = l }) (refused_by AdvertiserNotListed routers)).routers ≡ routers
+  unknown : (t : Bool) (b : ℕ) (l : RouterList) (r : Refusal) → (cond t (record { answer = Ok b; routers = l }) (refused_by AdvertiserNotListed routers)).answer ≡ Err r
+      → (cond t (record { answer = Ok b; routers = l }) (refused_by AdvertiserNotListed routers)).routers ≡ routers
   unknown true b l r h = cc
   unknown false b l r h = refl
 
-  router_known : (e : Embedded) (a : ℕ) → (heard_of_router e routers due).answer ≡ Router a
-      → (e ≡ Ipv4 a) × (listed a (live routers) ≡ true) × ((heard_of_router e routers due).routers ≡ rescheduled_of a due routers)
-  router_known (Ipv4 b) a h =
+  router_known : (e : Option ℕ) (a : ℕ) → (heard_of_router e routers due).answer ≡ Ok a
+      → (e ≡ Some a) × (listed a (live routers) ≡ true) × ((heard_of_router e routers due).routers ≡ rescheduled_of a due routers)
+  router_known (Some b) a h =
       let k = known (listed b (live routers)) b a (rescheduled_of b due routers) h in
-      (ap Ipv4 k.1, rw k.1 at k.0, k.2 ∙ ap (λ (x : ℕ). rescheduled_of x due routers) k.1)
-  router_known Nothing a h = (cc, cc, cc)
+      (ap Some k.1, rw k.1 at k.0, k.2 ∙ ap (λ (x : ℕ). rescheduled_of x due routers) k.1)
+  router_known None a h = (cc, cc, cc)
 
-  router_unknown : (e : Embedded) (r : Refusal) → (heard_of_router e routers due).answer ≡ Refused r → (heard_of_router e routers due).routers ≡ routers
-  router_unknown (Ipv4 b) r h = unknown (listed b (live routers)) b (rescheduled_of b due routers) r h
-  router_unknown Nothing r h = refl
+  router_unknown : (e : Option ℕ) (r : Refusal) → (heard_of_router e routers due).answer ≡ Err r → (heard_of_router e routers due).routers ≡ routers
+  router_unknown (Some b) r h = unknown (listed b (live routers)) b (rescheduled_of b due routers) r h
+  router_unknown None r h = refl
 
 -- what is answered with a router has passed the stages before the router is looked up
-passed : (c : Check) (routers : RouterList) (x : Heard) (a : ℕ) → (stop_or (λ r. refused_by r routers) c x).answer ≡ Router a
-    → (c ≡ Pass) × (x ≡ stop_or (λ r. refused_by r routers) c x)
+passed : (c : Result Unit Refusal) (routers : RouterList) (x : Heard) (a : ℕ) → (stop_or (λ r. refused_by r routers) c x).answer ≡ Ok a
+    → (c ≡ Ok tt) × (x ≡ stop_or (λ r. refused_by r routers) c x)
 passed c routers x a h =
     let refuse : Refusal → Heard = λ r. refused_by r routers in
     let none : (r : Refusal) → refuse r ≡ stop_or refuse c x → ⊥ = λ r e. refused-not-router r a (ap (λ (y : Heard). y.answer) e ∙ h) in
     stop_passed refuse c x (stop_or refuse c x) none refl
   where
-    refused-not-router : (r : Refusal) (a : ℕ) → Refused r ≡ Router a → ⊥
+    refused-not-router : (r : Refusal) (a : ℕ) → Err r ≡ Ok a → ⊥
     refused-not-router r a e = let z : ◌≡◌ {A = ℕ} 0 1 = cc in omega arith
 
-stopped : (c : Check) (routers : RouterList) (x : Heard) (r : Refusal) → (x.answer ≡ Refused r → x.routers ≡ routers)
-    → (stop_or (λ q. refused_by q routers) c x).answer ≡ Refused r → (stop_or (λ q. refused_by q routers) c x).routers ≡ routers
-stopped Pass routers x r f h = f h
-stopped (Stop q) routers x r f h = refl
+stopped : (c : Result Unit Refusal) (routers : RouterList) (x : Heard) (r : Refusal) → (x.answer ≡ Err r → x.routers ≡ routers)
+    → (stop_or (λ q. refused_by q routers) c x).answer ≡ Err r → (stop_or (λ q. refused_by q routers) c x).routers ≡ routers
+stopped (Ok tt) routers x r f h = f h
+stopped (Err q) routers x r f h = refl
 
 -- a valid advertisement is one of the facts
 
@@ -113,10 +109,10 @@ none-whole n i w = go (is_inner_malformed n i) refl
     go true e = refl
     go false e = absurd (w (inner-whole n i e))
 
-router-unlisted : (routers : RouterList) (due : ℕ) (e : Embedded) → ((a : ℕ) → e ≡ Ipv4 a → Listed a (live routers) → ⊥)
-    → (heard_of_router e routers due).answer ≡ Refused AdvertiserNotListed
-router-unlisted routers due (Ipv4 a) n = rw (refutes _ (decides_listed a (live routers)) (n a refl))
-router-unlisted routers due Nothing n = refl
+router-unlisted : (routers : RouterList) (due : ℕ) (e : Option ℕ) → ((a : ℕ) → e ≡ Some a → Listed a (live routers) → ⊥)
+    → (heard_of_router e routers due).answer ≡ Err AdvertiserNotListed
+router-unlisted routers due (Some a) n = rw (refutes _ (decides_listed a (live routers)) (n a refl))
+router-unlisted routers due None n = refl
 
 -- an accepted advertisement puts its router, and no other, off, by the interval at least
 pub record PutOff (s : Settings) (routers : RouterList) (now : ℕ) (p : List ℕ) (router : ℕ) : Type 0 where
@@ -126,7 +122,7 @@ pub record PutOff (s : Settings) (routers : RouterList) (now : ℕ) (p : List �
 
 module _ (s : Settings) (routers : RouterList) (now : ℕ) (p : List ℕ) where
   -- after a refusal the router list is as before
-  pub refused-unchanged : (r : Refusal) → (heard_of s routers now p).answer ≡ Refused r → (heard_of s routers now p).routers ≡ routers
+  pub refused-unchanged : (r : Refusal) → (heard_of s routers now p).answer ≡ Err r → (heard_of s routers now p).routers ≡ routers
   unfolding heard_of heard_from
   refused-unchanged r h =
       let i = inner_of p in
@@ -136,9 +132,9 @@ module _ (s : Settings) (routers : RouterList) (now : ℕ) (p : List ℕ) where
       h
 
   -- what an accepted advertisement passed, and what it leaves
-  accepted_parts : (router : ℕ) → (heard_of s routers now p).answer ≡ Router router
-      → (first_of (heard_rows p) ≡ Pass)
-      × (embedded_to s (inner_of p).source ≡ Ipv4 router)
+  accepted_parts : (router : ℕ) → (heard_of s routers now p).answer ≡ Ok router
+      → (first_of (heard_rows p) ≡ Ok tt)
+      × (embedded_to s (inner_of p).source ≡ Some router)
       × (listed router (live routers) ≡ true)
       × ((heard_of s routers now p).routers ≡ rescheduled_of router (due_after now s.interval (options_in (take (inner_of p).length p)).smallest) routers)
   unfolding heard_of heard_from
@@ -151,7 +147,7 @@ module _ (s : Settings) (routers : RouterList) (now : ℕ) (p : List ℕ) where
       (g.0, k.0, k.1, ap (λ (y : Heard). y.routers) (sym g.1) ∙ k.2)
 
   -- an advertisement is accepted only if the rules hold
-  accepted_only_if : (router : ℕ) → (heard_of s routers now p).answer ≡ Router router → ValidAdvertisement s routers p router
+  accepted_only_if : (router : ℕ) → (heard_of s routers now p).answer ≡ Ok router → ValidAdvertisement s routers p router
   unfolding inner_of
   accepted_only_if router h =
       let i = inner_of p in
@@ -167,7 +163,7 @@ module _ (s : Settings) (routers : RouterList) (now : ℕ) (p : List ℕ) where
       }
 
   -- an advertisement is accepted whenever its rules hold
-  accepted-if : (router : ℕ) → ValidAdvertisement s routers p router → (heard_of s routers now p).answer ≡ Router router
+  accepted-if : (router : ℕ) → ValidAdvertisement s routers p router → (heard_of s routers now p).answer ≡ Ok router
   unfolding heard_of heard_from inner_of
   accepted-if router a =
       let i = inner_of p in
@@ -195,18 +191,18 @@ module _ (s : Settings) (routers : RouterList) (now : ℕ) (p : List ℕ) where
       subst (λ (os : List (List ℕ)). DueBy now s.interval (router_lifetime q) os due) (sym read) (due_by (router_lifetime q) (options_of bs) now s.interval) in
       (due, by, subst (OnlyDue routers router due) (sym parts.3) (only_due routers router due))
 
-  malformed : (WholeInner (length p) (inner_of p) → ⊥) → (heard_of s routers now p).answer ≡ Refused InnerMalformed
+  malformed : (WholeInner (length p) (inner_of p) → ⊥) → (heard_of s routers now p).answer ≡ Err InnerMalformed
   unfolding heard_of
   malformed n = rw (none-whole (length p) (inner_of p) n)
 
   invalid : WholeInner (length p) (inner_of p) → ((os : List (List ℕ)) → IsAdvertisement (inner_of p) (take (inner_of p).length p) os → ⊥)
-      → (heard_of s routers now p).answer ≡ Refused AdvertisementInvalid
+      → (heard_of s routers now p).answer ≡ Err AdvertisementInvalid
   unfolding heard_of
   invalid w n = rw (whole-inner (length p) (inner_of p) w, none-valid (inner_of p) (take (inner_of p).length p) n)
 
   unlisted : WholeInner (length p) (inner_of p) → (os : List (List ℕ)) → IsAdvertisement (inner_of p) (take (inner_of p).length p) os
       → ((router : ℕ) → IsatapTo s (inner_of p).source router → Listed router (live routers) → ⊥)
-      → (heard_of s routers now p).answer ≡ Refused AdvertiserNotListed
+      → (heard_of s routers now p).answer ≡ Err AdvertiserNotListed
   unfolding heard_of heard_from
   unlisted w os a n =
       let i = inner_of p in
@@ -226,7 +222,7 @@ module _ (s : Settings) (routers : RouterList) (now : ℕ) (p : List ℕ) where
     unlisted = unlisted;
   }
 
-  pub accepted_puts_off : (router : ℕ) → (heard_of s routers now p).answer ≡ Router router → PutOff s routers now p router
+  pub accepted_puts_off : (router : ℕ) → (heard_of s routers now p).answer ≡ Ok router → PutOff s routers now p router
   accepted_puts_off router h =
       let lifetime = (options_in (take (inner_of p).length p)).smallest in
       record {

@@ -1,4 +1,5 @@
 -- A neighbour discovery message that we write is valid where it is read. Assumes nothing.
+use Rattle.std.specs.Prelude.{Some, Ok}
 use Prim.Native.Nat.{ℕ, ◌+◌, ◌*◌, ◌≤◌, ◌<◌}
 use mathlib.Core.Path.{◌≡◌, refl, sym, ap, subst, ◌∙◌}
 use mathlib.Core.List.{List, ◌∷◌, ◌++◌, append_assoc}
@@ -19,7 +20,6 @@ use Rattle.address.specs.Facts.{LinkLocal}
 use Rattle.address.proofs.Laws.{formed-embeds}
 use Rattle.address.proofs.Facts.{decides_link_local}
 use Rattle.address.specs.Prefixes.{rows_of}
-use Rattle.address.specs.declared.Embedded.TheVariants.{Ipv4}
 use Rattle.settings.specs.Settings.{embedded_to}
 use Rattle.settings.specs.declared.Settings.{Settings}
 use Rattle.settings.proofs.Facts.{embedded_to_lem}
@@ -29,7 +29,6 @@ use Rattle.routers.specs.declared.RouterList.{RouterList}
 use Rattle.settings.specs.Facts.{IsatapTo}
 use Rattle.header.specs.Whole.{WholeInner}
 use Rattle.hearing.specs.Heard.{heard_of}
-use Rattle.hearing.specs.declared.HeardAnswer.TheVariants.{Router}
 use Rattle.hearing.specs.Facts.{fields_of, both_addresses, message_behind, ValidMessage, IsAdvertisement, ValidAdvertisement, router_lifetime}
 use Rattle.hearing.proofs.Laws.{heard-exactly}
 
@@ -126,7 +125,7 @@ module _ (s : Settings) (routers : RouterList) (v : ℕ) (to body : List ℕ) (o
   unfolding link_local_of is_under
   link_local_lem = (decides_link_local (link_local_of v)).holds refl
 
-  embeds : embedded_to s (link_local_of v) ≡ Ipv4 v
+  embeds : embedded_to s (link_local_of v) ≡ Some v
   unfolding embedded_to
   embeds = formed-embeds (rows_of s.prefixes) s.prefix_count v small
 
@@ -169,7 +168,7 @@ module _ (s : Settings) (routers : RouterList) (v : ℕ) (to body : List ℕ) (o
 
   -- it is accepted at any time, and its router is due when its lifetimes say
   pub heard-back : (now : ℕ)
-      → ((heard_of s routers now advertisement).answer ≡ Router v)
+      → ((heard_of s routers now advertisement).answer ≡ Ok v)
       × ((due : ℕ)
       × DueBy now s.interval (get_or body 2 0 * 256 + get_or body 3 0) os due
       × OnlyDue routers v due (heard_of s routers now advertisement).routers)

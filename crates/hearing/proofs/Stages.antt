@@ -1,4 +1,5 @@
 -- Hearing in stages: what the tests before the walk over the options leave to it. Assumes nothing.
+use Rattle.std.specs.Prelude.{Ok, Err}
 use Prim.Native.Nat.{ℕ, ◌≤◌}
 use mathlib.Core.Path.{◌≡◌, refl, subst}
 use mathlib.Core.Bool.{Bool, true, false, cond, not, ◌&&◌}
@@ -9,7 +10,6 @@ use Rattle.checksum.proofs.Bytes.{Bytes, bytes-at}
 use Rattle.address.specs.Address.{is_link_local}
 use Rattle.refusals.specs.Refusals.{stop_or}
 use Rattle.refusals.specs.declared.Refusal.TheVariants.{AdvertisementInvalid}
-use Rattle.refusals.specs.declared.Check.TheVariants.{Pass, Stop}
 use Rattle.header.specs.Fields.{word_at}
 use Rattle.header.specs.Inner.{inner_of, is_inner_malformed}
 use Rattle.header.specs.declared.inner.Inner.{Inner}
@@ -46,7 +46,7 @@ whole-last i p = go (is_link_local i.source) (has_fields advertisement_type opti
     go false f s o = refl
 
 stage : (routers : RouterList) (x : Heard) (o : Bool)
-    → cond o x (refused_by AdvertisementInvalid routers) ≡ stop_or (λ r. refused_by r routers) (cond (not o) (Stop AdvertisementInvalid) Pass) x
+    → cond o x (refused_by AdvertisementInvalid routers) ≡ stop_or (λ r. refused_by r routers) (cond (not o) (Err AdvertisementInvalid) (Ok tt)) x
 stage routers x true = refl
 stage routers x false = refl
 

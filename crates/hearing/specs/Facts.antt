@@ -1,6 +1,6 @@
 -- The rules of a neighbour discovery message, of a solicitation and of an advertisement, and what comes of an advertisement that keeps them,
 -- in plain facts.
-use Rattle.std.specs.Prelude.{ℕ, ◌*◌, ◌+◌, ◌/◌, ◌≤◌, ◌≡◌, List, ◌∷◌, ◌++◌, length, take, drop, get_or}
+use Rattle.std.specs.Prelude.{ℕ, ◌*◌, ◌+◌, ◌/◌, ◌≤◌, ◌≡◌, List, ◌∷◌, ◌++◌, length, take, drop, get_or, Ok, Err}
 use Rattle.lists.specs.Any.{Some}
 use Rattle.checksum.specs.Sum.{ones_sum}
 use Rattle.address.specs.Facts.{LinkLocal, Unspecified}
@@ -16,7 +16,6 @@ use Rattle.routers.specs.declared.RouterList.{RouterList}
 use Rattle.settings.specs.Facts.{IsatapTo}
 use Rattle.settings.specs.declared.Settings.{Settings}
 use Rattle.hearing.specs.Heard.{heard_of}
-use Rattle.hearing.specs.declared.HeardAnswer.TheVariants.{Router, Refused}
 
 -- RFC 2460, 3: the fields of the packet's header, of which the payload length stands at byte 4 and the source at byte 8
 abbrev pub fields_of : List ℕ → Inner
@@ -89,18 +88,18 @@ router_lifetime p = get_or (message_behind p) 6 0 * 256 + get_or (message_behind
 -- an advertisement is accepted exactly when it is valid and its source embeds a listed router; then that router, and no other, is due when
 -- the lifetimes say
 pub record HeardExactly (s : Settings) (routers : RouterList) (now : ℕ) (p : List ℕ) : Type 0 where
-  pub only_if : (router : ℕ) → (heard_of s routers now p).answer ≡ Router router → ValidAdvertisement s routers p router
-  pub whenever : (router : ℕ) → ValidAdvertisement s routers p router → (heard_of s routers now p).answer ≡ Router router
+  pub only_if : (router : ℕ) → (heard_of s routers now p).answer ≡ Ok router → ValidAdvertisement s routers p router
+  pub whenever : (router : ℕ) → ValidAdvertisement s routers p router → (heard_of s routers now p).answer ≡ Ok router
   pub due : (router : ℕ) (a : ValidAdvertisement s routers p router)
       → (due : ℕ)
       × DueBy now s.interval (router_lifetime (take (fields_of p).length p)) a.options due
       × OnlyDue routers router due (heard_of s routers now p).routers
   -- 8: no whole IPv6 packet
-  pub malformed : (WholeInner (length p) (fields_of p) → ⊥) → (heard_of s routers now p).answer ≡ Refused InnerMalformed
+  pub malformed : (WholeInner (length p) (fields_of p) → ⊥) → (heard_of s routers now p).answer ≡ Err InnerMalformed
   -- 20: no valid advertisement in it
   pub invalid : WholeInner (length p) (fields_of p) → ((os : List (List ℕ)) → IsAdvertisement (fields_of p) (take (fields_of p).length p) os → ⊥)
-      → (heard_of s routers now p).answer ≡ Refused AdvertisementInvalid
+      → (heard_of s routers now p).answer ≡ Err AdvertisementInvalid
   -- 21: the advertiser is not listed
   pub unlisted : WholeInner (length p) (fields_of p) → (os : List (List ℕ)) → IsAdvertisement (fields_of p) (take (fields_of p).length p) os
       → ((router : ℕ) → IsatapTo s (fields_of p).source router → Listed router (live routers) → ⊥)
-      → (heard_of s routers now p).answer ≡ Refused AdvertiserNotListed
+      → (heard_of s routers now p).answer ≡ Err AdvertiserNotListed

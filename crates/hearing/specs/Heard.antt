@@ -1,8 +1,6 @@
 -- Advertisements (R15): the order 8, 20, 21, and the router's next due time.
-use Rattle.std.specs.Prelude.{ℕ, Bool, cond, not, ◌&&◌, List, [], ◌∷◌, length, take, drop}
+use Rattle.std.specs.Prelude.{ℕ, Bool, cond, not, ◌&&◌, List, [], ◌∷◌, length, take, drop, Option, Some, None, Result, Ok, Err}
 use Rattle.address.specs.Address.{is_link_local}
-use Rattle.address.specs.declared.Embedded.{Embedded}
-use Rattle.address.specs.declared.Embedded.TheVariants.{Ipv4, Nothing}
 use Rattle.refusals.specs.Refusals.{first_of, stop_or}
 use Rattle.refusals.specs.Given.{Given, answered, refused}
 use Rattle.refusals.specs.declared.Refusal.{Refusal}
@@ -12,15 +10,12 @@ use Rattle.header.specs.Inner.{inner_of, is_inner_malformed}
 use Rattle.header.specs.declared.inner.Inner.{Inner}
 use Rattle.messages.specs.Icmp.{advertisement_type}
 use Rattle.options.specs.Lifetimes.{options_read_of, due_after}
-use Rattle.options.specs.declared.Smallest.{Smallest}
 use Rattle.options.specs.declared.Options.{Options}
 use Rattle.routers.specs.Routers.{live, listed, rescheduled_of}
 use Rattle.routers.specs.declared.RouterList.{RouterList}
 use Rattle.settings.specs.Settings.{embedded_to}
 use Rattle.settings.specs.declared.Settings.{Settings}
 use Rattle.hearing.specs.Message.{message_of, is_sum_right, has_fields, is_valid_message}
-use Rattle.hearing.specs.declared.HeardAnswer.{HeardAnswer}
-use Rattle.hearing.specs.declared.HeardAnswer.TheVariants.{Router, Refused}
 use Rattle.hearing.specs.declared.Judged.{Judged}
 use Rattle.hearing.specs.declared.Heard.{Heard}
 
@@ -42,12 +37,12 @@ is_valid_advertisement i p = is_link_local i.source && is_valid_message advertis
 
 -- after a refusal the router list is as before
 abbrev pub refused_by : Refusal → RouterList → Heard
-refused_by refusal routers = record { answer = Refused refusal; routers = routers }
+refused_by refusal routers = record { answer = Err refusal; routers = routers }
 
 -- an answer, and the router list after it: the due time of the router whose advertisement is accepted becomes `due`
-abbrev pub heard_as : HeardAnswer → ℕ → RouterList → Heard
-heard_as (Router a) due routers = record { answer = Router a; routers = rescheduled_of a due routers }
-heard_as (Refused refusal) due routers = refused_by refusal routers
+abbrev pub heard_as : Result ℕ Refusal → ℕ → RouterList → Heard
+heard_as (Ok a) due routers = record { answer = Ok a; routers = rescheduled_of a due routers }
+heard_as (Err refusal) due routers = refused_by refusal routers
 
 -- what was judged of a packet, and the router list after it
 abbrev pub heard_with : Judged → RouterList → Heard
@@ -55,16 +50,16 @@ heard_with j routers = heard_as j.answer j.due routers
 
 -- what is judged of a packet that is refused
 abbrev pub judged_by : Refusal → Judged
-judged_by refusal = record { answer = Refused refusal; due = 0 }
+judged_by refusal = record { answer = Err refusal; due = 0 }
 
 -- 21: the source embeds no listed router; else the answer is that router, and its due time is set
-abbrev pub heard_of_router : Embedded → RouterList → ℕ → Heard
-heard_of_router (Ipv4 a) routers due =
-    cond (listed a (live routers)) (heard_as (Router a) due routers) (refused_by AdvertiserNotListed routers)
-heard_of_router Nothing routers due = refused_by AdvertiserNotListed routers
+abbrev pub heard_of_router : Option ℕ → RouterList → ℕ → Heard
+heard_of_router (Some a) routers due =
+    cond (listed a (live routers)) (heard_as (Ok a) due routers) (refused_by AdvertiserNotListed routers)
+heard_of_router None routers due = refused_by AdvertiserNotListed routers
 
 -- what comes of a valid advertisement from a source, with its smallest lifetime: 21, or its router's due time
-unfoldable pub heard_from : Settings → RouterList → ℕ → List ℕ → Smallest → Heard
+unfoldable pub heard_from : Settings → RouterList → ℕ → List ℕ → Option ℕ → Heard
 heard_from s routers now source smallest = heard_of_router (embedded_to s source) routers (due_after now s.interval smallest)
 
 -- 20, where its options are not whole
@@ -86,6 +81,6 @@ heard_of s routers now p =
     (heard_from s routers now (inner_of p).source (options_in (take (inner_of p).length p)).smallest)
 
 -- number and values (R1.17): the router's IPv4 address
-abbrev pub heard_given : HeardAnswer → Given
-heard_given (Router a) = answered (a ∷ [])
-heard_given (Refused refusal) = refused refusal
+abbrev pub heard_given : Result ℕ Refusal → Given
+heard_given (Ok a) = answered (a ∷ [])
+heard_given (Err refusal) = refused refusal

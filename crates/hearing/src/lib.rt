@@ -8,11 +8,10 @@ pub mod solicitation;
 ghost use Rattle.std.specs.Prelude.{◌≡◌, ◌≤◌, length};
 ghost use Rattle.hearing.specs.Heard.{is_advertisement, judged_by, heard_with, heard_from, heard_message, heard_of, heard_given};
 
-use address::{Embedded, prefixes};
+use address::prefixes;
 use header::inner::Inner;
 use header::{ICMPV6, INNER_HEADER, fields, inner};
 use messages::ROUTER_ADVERTISEMENT;
-use options::Smallest;
 use refusals::Refusal;
 use routers::RouterList;
 use settings::Settings;
@@ -20,37 +19,18 @@ use settings::Settings;
 // Where the options of an advertisement start (RFC 4861, 4.2).
 const OPTIONS: usize = 16;
 
-// The advertising router, by its address, or the number.
-#[derive(Clone, Copy)]
-pub enum HeardAnswer {
-    Router(u32),
-    Refused(Refusal),
-}
-
 // The answer, and the due time of the router whose advertisement is accepted.
 #[derive(Clone, Copy)]
 pub struct Judged {
-    pub answer: HeardAnswer,
+    pub answer: Result<u32, Refusal>,
     pub due: u64,
 }
 
 // The answer, and the router list after the advertisement.
 #[derive(Clone, Copy)]
 pub struct Heard {
-    pub answer: HeardAnswer,
+    pub answer: Result<u32, Refusal>,
     pub routers: RouterList,
-}
-
-impl HeardAnswer {
-    // The number (R4), 0 where the advertisement is accepted.
-    pub fn number(self) -> u8
-        ensures { result ≡ (heard_given self).number }
-    {
-        match self {
-            HeardAnswer::Router(_) => 0,
-            HeardAnswer::Refused(refusal) => refusal.number(),
-        }
-    }
 }
 
 // Whether a packet with the header i is a router advertisement, its options aside. What most other packets lack is asked first, and the
@@ -76,7 +56,7 @@ fn refused(refusal: Refusal) -> Judged
     ensures { result ≡ judged_by refusal }
 {
     Judged {
-        answer: HeardAnswer::Refused(refusal),
+        answer: Err(refusal),
         due: 0,
     }
 }
@@ -87,24 +67,24 @@ fn judge_from(
     routers: RouterList,
     time: u32,
     source: [u8; 16],
-    smallest: Smallest,
+    smallest: Option<u32>,
 ) -> Judged
     ensures { heard_with result routers ≡ heard_from settings routers time source smallest }
 {
     let on_link = settings.prefixes;
     let found = address::isatap(prefixes::rows(on_link), settings.prefix_count, source);
     match found {
-        Embedded::Ipv4(router) => {
+        Some(router) => {
             if routers.lists(router) {
                 let due = options::due_after(time, settings.interval, smallest);
                 return Judged {
-                    answer: HeardAnswer::Router(router),
+                    answer: Ok(router),
                     due,
                 };
             }
             refused(Refusal::AdvertiserNotListed)
         }
-        Embedded::Nothing => refused(Refusal::AdvertiserNotListed),
+        None => refused(Refusal::AdvertiserNotListed),
     }
 }
 
@@ -153,12 +133,12 @@ pub fn heard_with(judged: Judged, routers: RouterList) -> Heard
 {
     let answer = judged.answer;
     match answer {
-        HeardAnswer::Router(router) => Heard {
-            answer: HeardAnswer::Router(router),
+        Ok(router) => Heard {
+            answer: Ok(router),
             routers: routers.rescheduled(router, judged.due),
         },
-        HeardAnswer::Refused(refusal) => Heard {
-            answer: HeardAnswer::Refused(refusal),
+        Err(refusal) => Heard {
+            answer: Err(refusal),
             routers,
         },
     }

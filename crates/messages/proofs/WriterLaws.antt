@@ -1,4 +1,5 @@
 -- When a message is written, and how long its header is. Assumes nothing.
+use Rattle.std.specs.Prelude.{Ok, Err}
 use Prim.Native.Nat.{ℕ, ◌+◌, ◌%◌, ◌≤◌, ◌<◌}
 use mathlib.Core.Path.{◌≡◌, ap, ◌∙◌}
 use mathlib.Core.Bool.{cond}
@@ -15,32 +16,31 @@ use Rattle.header.specs.Numbers.{inner_header}
 use Rattle.header.specs.Fields.{address_at}
 use Rattle.header.proofs.Words.{bytes-taken}
 use Rattle.refusals.specs.declared.Refusal.TheVariants.{InnerMalformed, OutputShort}
-use Rattle.refusals.specs.declared.Check.TheVariants.{Pass, Stop}
 use Rattle.messages.specs.Icmp.{solicitation_type, ipv6_header, icmp_sum, icmp_with, too_big_length, too_big_check, solicitation_length, solicitation_check}
 
 module _ (n room : ℕ) where
-  pub too_big_headless : n < 40 → too_big_check n room ≡ Stop InnerMalformed
+  pub too_big_headless : n < 40 → too_big_check n room ≡ Err InnerMalformed
   unfolding too_big_check
   too_big_headless h = simp (lt-ltb _ _ h)
 
-  pub too_big_short : 40 ≤ n → room < too_big_length n → too_big_check n room ≡ Stop OutputShort
+  pub too_big_short : 40 ≤ n → room < too_big_length n → too_big_check n room ≡ Err OutputShort
   unfolding too_big_check
   too_big_short h k = simp (le-ltb _ _ h, lt-ltb _ _ k)
 
-  pub too_big_pass : 40 ≤ n → too_big_length n ≤ room → too_big_check n room ≡ Pass
+  pub too_big_pass : 40 ≤ n → too_big_length n ≤ room → too_big_check n room ≡ Ok tt
   unfolding too_big_check
   too_big_pass h k = simp (le-ltb _ _ h, le-ltb _ _ k)
 
 -- of a packet that has its header 15 alone is asked
-pub too_big_room : (n room : ℕ) → inner_header ≤ n → too_big_check n room ≡ cond (ltb room (too_big_length n)) (Stop OutputShort) Pass
+pub too_big_room : (n room : ℕ) → inner_header ≤ n → too_big_check n room ≡ cond (ltb room (too_big_length n)) (Err OutputShort) (Ok tt)
 unfolding too_big_check
 too_big_room n room h = simp (le-ltb _ _ h)
 
-pub solicitation-short : (room : ℕ) → room < solicitation_length → solicitation_check room ≡ Stop OutputShort
+pub solicitation-short : (room : ℕ) → room < solicitation_length → solicitation_check room ≡ Err OutputShort
 unfolding solicitation_check
 solicitation-short room h = simp (lt-ltb _ _ h)
 
-pub solicitation_pass : (room : ℕ) → solicitation_length ≤ room → solicitation_check room ≡ Pass
+pub solicitation_pass : (room : ℕ) → solicitation_length ≤ room → solicitation_check room ≡ Ok tt
 unfolding solicitation_check
 solicitation_pass room h = simp (le-ltb _ _ h)
 

@@ -1,14 +1,13 @@
 -- The ICMPv6 messages that we write: Packet Too Big (R8.1; RFC 4443, 3.2) and the router solicitation (R14.1; RFC 4861, 4.1).
-use Rattle.std.specs.Prelude.{ℕ, ◌+◌, min, List, [], ◌∷◌, ◌++◌, cond, ◌&&◌, length, take, drop, ltb, leb}
+use Rattle.refusals.specs.declared.Refusal.{Refusal}
+use Rattle.std.specs.Prelude.{ℕ, ◌+◌, min, List, [], ◌∷◌, ◌++◌, cond, ◌&&◌, length, take, drop, ltb, leb, Result}
 use Rattle.lent.specs.Written.{written}
 use Rattle.checksum.specs.Sum.{ones_sum, ones_complement}
 use Rattle.refusals.specs.Refusals.{first_of}
 use Rattle.refusals.specs.declared.Refusal.TheVariants.{InnerMalformed, OutputShort}
-use Rattle.refusals.specs.declared.Check.{Check}
 use Rattle.header.specs.Numbers.{inner_header, icmpv6}
 use Rattle.header.specs.Fields.{address_at}
 use Rattle.header.specs.Wrap.{be16, be32, writer_answer, writer_output}
-use Rattle.header.specs.declared.wrap.Written.{Written}
 
 -- RFC 4861, 4.1: the type of a router solicitation
 abbrev pub solicitation_type : ℕ
@@ -74,11 +73,11 @@ abbrev pub too_big_length : ℕ → ℕ
 too_big_length n = message_headers + min most_quoted n
 
 -- without an IPv6 header there is no source to write to: 8; then 15
-unfoldable pub too_big_check : ℕ → ℕ → Check
+unfoldable pub too_big_check : ℕ → ℕ → Result Unit Refusal
 too_big_check n room = first_of ((ltb n inner_header, InnerMalformed) ∷ ((ltb room (too_big_length n), OutputShort) ∷ []))
 
 -- the length written, or the refusal
-unfoldable pub too_big_answer : ℕ → ℕ → Written
+unfoldable pub too_big_answer : ℕ → ℕ → Result ℕ Refusal
 too_big_answer n room = writer_answer (too_big_check n room) (too_big_length n)
 
 -- what stands in the output afterwards
@@ -95,11 +94,11 @@ abbrev pub solicitation_length : ℕ
 solicitation_length = message_headers
 
 -- 15
-unfoldable pub solicitation_check : ℕ → Check
+unfoldable pub solicitation_check : ℕ → Result Unit Refusal
 solicitation_check room = first_of ((ltb room solicitation_length, OutputShort) ∷ [])
 
 -- the length written, or the refusal
-unfoldable pub solicitation_answer : ℕ → Written
+unfoldable pub solicitation_answer : ℕ → Result ℕ Refusal
 solicitation_answer room = writer_answer (solicitation_check room) solicitation_length
 
 -- what stands in the output afterwards

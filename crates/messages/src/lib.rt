@@ -9,7 +9,6 @@ ghost use Rattle.messages.specs.Icmp.{solicitation_type, message_headers, longes
 ghost use Rattle.messages.specs.Sealed.{sealed};
 
 use address::quads;
-use header::wrap::Written;
 use header::{ICMPV6, INNER_HEADER, fields};
 use lent::write_at;
 use refusals::Refusal;
@@ -38,31 +37,31 @@ pub const SOLICITATION: usize = HEADERS;
 const LENGTH: u16 = (SOLICITATION - INNER_HEADER) as u16;
 
 // Writes the Packet Too Big that names the size, from the reporting address to the packet's source.
-pub fn too_big(reporting: [u8; 16], size: u16, packet: &[u8], out: &mut [u8]) -> Written
+pub fn too_big(reporting: [u8; 16], size: u16, packet: &[u8], out: &mut [u8]) -> Result<usize, Refusal>
     ensures value { result ≡ too_big_answer (length packet.now) (length out.old) }
     ensures out_after { out.new ≡ too_big_output reporting size packet.now out.old }
 {
     if packet.len() < INNER_HEADER {
-        return Written::Refused(Refusal::InnerMalformed);
+        return Err(Refusal::InnerMalformed);
     }
     let quoted = lists::least(QUOTE, packet.len());
     if out.len() < HEADERS + quoted {
-        return Written::Refused(Refusal::OutputShort);
+        return Err(Refusal::OutputShort);
     }
     let to = fields::address(packet, 8);
     write_at(&packet[..quoted], out, HEADERS);
     let four = [0, 0, fields::high(size), fields::low(size)];
     enclose(64, reporting, to, 2, four, HEADERS + quoted, out);
-    Written::Length(HEADERS + quoted)
+    Ok(HEADERS + quoted)
 }
 
 // Writes a router solicitation.
-pub fn solicitation(from: [u8; 16], to: [u8; 16], out: &mut [u8]) -> Written
+pub fn solicitation(from: [u8; 16], to: [u8; 16], out: &mut [u8]) -> Result<usize, Refusal>
     ensures value { result ≡ solicitation_answer (length out.old) }
     ensures out_after { out.new ≡ solicitation_output from to out.old }
 {
     if out.len() < SOLICITATION {
-        return Written::Refused(Refusal::OutputShort);
+        return Err(Refusal::OutputShort);
     }
     let sum = checksum::complement(solicitation_sum(from, to));
     let high = fields::high(sum);
@@ -70,7 +69,7 @@ pub fn solicitation(from: [u8; 16], to: [u8; 16], out: &mut [u8]) -> Written
     write_ipv6_header(LENGTH, HOP_LIMIT, from, to, out);
     let front = [ROUTER_SOLICITATION, 0, high, low, 0, 0, 0, 0];
     write_at(&front, out, INNER_HEADER);
-    Written::Length(SOLICITATION)
+    Ok(SOLICITATION)
 }
 
 // The exact sum of the words of an address.

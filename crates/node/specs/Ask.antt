@@ -1,9 +1,8 @@
 -- Asking on a node (R13): answer, next node and output.
-use Rattle.std.specs.Prelude.{ℕ, max, Bool, cond, List}
+use Rattle.std.specs.Prelude.{ℕ, max, Bool, cond, List, Err}
 use Rattle.refusals.specs.declared.Refusal.TheVariants.{NoLocator}
 use Rattle.asking.specs.Ask.{asked_of, asked_output}
 use Rattle.asking.specs.declared.Asked as asking
-use Rattle.asking.specs.declared.AskAnswer.TheVariants.{Refused}
 use Rattle.node.specs.Node.{service_of, has_service, node_with}
 use Rattle.node.specs.RouterList.{with_routers}
 use Rattle.node.specs.declared.Node.{Node}
@@ -14,7 +13,7 @@ use Rattle.node.specs.declared.ask.Asked.{Asked}
 -- what a service makes of it, now; 11 where it is not there
 unfoldable pub asked_by : Bool → Service → ℕ → ℕ → ℕ → asking.Asked
 asked_by there service now locator room =
-    cond there (asked_of service.settings service.routers now locator room) (record { answer = Refused NoLocator; routers = service.routers })
+    cond there (asked_of service.settings service.routers now locator room) (record { answer = Err NoLocator; routers = service.routers })
 
 -- what stands in the lent output afterwards
 unfoldable pub asked_through : Bool → Service → ℕ → ℕ → List ℕ → List ℕ

@@ -1,9 +1,8 @@
 -- A router advertisement on a node (R15): answer and next node.
-use Rattle.std.specs.Prelude.{ℕ, max, Bool, cond, List}
+use Rattle.std.specs.Prelude.{ℕ, max, Bool, cond, List, Err}
 use Rattle.refusals.specs.declared.Refusal.TheVariants.{NoLocator}
 use Rattle.hearing.specs.Heard.{heard_of}
 use Rattle.hearing.specs.declared.Heard as hearing
-use Rattle.hearing.specs.declared.HeardAnswer.TheVariants.{Refused}
 use Rattle.node.specs.Node.{service_of, has_service, node_with}
 use Rattle.node.specs.RouterList.{with_routers}
 use Rattle.node.specs.declared.Node.{Node}
@@ -14,7 +13,7 @@ use Rattle.node.specs.declared.hear.Heard.{Heard}
 -- what a service makes of it, now; 11 where it is not there
 unfoldable pub heard_by : Bool → Service → ℕ → List ℕ → hearing.Heard
 heard_by there service now packet =
-    cond there (heard_of service.settings service.routers now packet) (record { answer = Refused NoLocator; routers = service.routers })
+    cond there (heard_of service.settings service.routers now packet) (record { answer = Err NoLocator; routers = service.routers })
 
 -- the answer and the next node, whose service has the router list that the advertisement leaves
 unfoldable pub hear_of : Node → ServiceName → List ℕ → ℕ → Heard

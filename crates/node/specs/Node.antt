@@ -1,5 +1,6 @@
 -- The node: its services, how it is made, its latest time and its sizes.
-use Rattle.std.specs.Prelude.{ℕ, max, Bool, true, cond, [], ltb, replicate}
+use Rattle.refusals.specs.declared.Refusal.{Refusal}
+use Rattle.std.specs.Prelude.{ℕ, max, Bool, true, cond, [], ltb, replicate, Result, Ok, Err}
 use Rattle.paths.specs.Kept.{in_force}
 use Rattle.paths.specs.Table.{no_reports, kept_in}
 use Rattle.paths.specs.declared.PathTable.{PathTable}
@@ -15,8 +16,6 @@ use Rattle.node.specs.declared.Service.{Service}
 use Rattle.node.specs.declared.ServiceName.{ServiceName}
 use Rattle.node.specs.declared.ServiceName.TheVariants.{First, Second}
 use Rattle.node.specs.declared.Setup.{Setup}
-use Rattle.node.specs.declared.SetupAnswer.{SetupAnswer}
-use Rattle.node.specs.declared.SetupAnswer.TheVariants.{Made, Refused}
 
 -- of two things, the one of that service
 abbrev pub pick : {A : Type 0} → ServiceName → A → A → A
@@ -60,19 +59,19 @@ unfoldable pub pair_of : Settings → Settings → Node
 pair_of a b = record { first = service_from a; second = service_from b; paths = no_reports; latest = 0; both = 1 }
 
 -- the number (R4): a node that is made has no values
-abbrev pub setup_given : SetupAnswer → Given
-setup_given Made = answered []
-setup_given (Refused r) = refused r
+abbrev pub setup_given : Result Unit Refusal → Given
+setup_given (Ok tt) = answered []
+setup_given (Err r) = refused r
 
 -- 1: the settings break the rules; refused settings make no state, and a node that has nothing of them stands in its place
 unfoldable pub setup_of : Settings → Setup
 setup_of s =
-    cond (is_accepted s) (record { answer = Made; node = node_of s }) (record { answer = Refused refusal.Settings; node = node_of no_settings })
+    cond (is_accepted s) (record { answer = Ok tt; node = node_of s }) (record { answer = Err refusal.Settings; node = node_of no_settings })
 
 -- R26.2: likewise of two services' settings
 unfoldable pub setup_pair_of : Settings → Settings → Setup
 setup_pair_of a b =
-    cond (are_pair_accepted a b) (record { answer = Made; node = pair_of a b }) (record { answer = Refused refusal.Settings; node = node_of no_settings })
+    cond (are_pair_accepted a b) (record { answer = Ok tt; node = pair_of a b }) (record { answer = Err refusal.Settings; node = node_of no_settings })
 
 -- the next node of a call with a time that names a service: the service as the call leaves it, and the latest time raised; an earlier one is
 -- read as the latest (R1.10)

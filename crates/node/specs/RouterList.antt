@@ -1,5 +1,5 @@
 -- The call with a new router list (R2.13): answer and next node.
-use Rattle.std.specs.Prelude.{ℕ, max, Bool, cond, ◌&&◌, List, []}
+use Rattle.std.specs.Prelude.{ℕ, max, Bool, cond, ◌&&◌, List, [], Result, Ok, Err}
 use Rattle.refusals.specs.Given.{Given, answered, refused}
 use Rattle.refusals.specs.declared.Refusal.{Refusal}
 use Rattle.refusals.specs.declared.Refusal.TheVariants as refusal
@@ -10,15 +10,13 @@ use Rattle.node.specs.Node.{service_of, has_service, node_with}
 use Rattle.node.specs.declared.Node.{Node}
 use Rattle.node.specs.declared.Service.{Service}
 use Rattle.node.specs.declared.ServiceName.{ServiceName}
-use Rattle.node.specs.declared.router_list.ListAnswer.{ListAnswer}
-use Rattle.node.specs.declared.router_list.ListAnswer.TheVariants.{Replaced, Refused}
 use Rattle.node.specs.declared.router_list.ListStep as step
 use Rattle.node.specs.declared.router_list.Replaced as replaced
 
 -- the number (R4): a list that is taken has no values
-abbrev pub list_given : ListAnswer → Given
-list_given Replaced = answered []
-list_given (Refused r) = refused r
+abbrev pub list_given : Result Unit Refusal → Given
+list_given (Ok tt) = answered []
+list_given (Err r) = refused r
 
 -- the service with another router list
 abbrev pub with_routers : Service → RouterList → Service
@@ -32,8 +30,8 @@ list_refusal there = cond there refusal.Settings refusal.NoLocator
 abbrev pub replaced_by : Bool → Service → ℕ → List ℕ → ℕ → step.ListStep
 replaced_by there service now addresses count =
     cond (there && are_routers_right service.settings addresses count)
-    (record { answer = Replaced; routers = replaced_of addresses count now service.routers })
-    (record { answer = Refused (list_refusal there); routers = service.routers })
+    (record { answer = Ok tt; routers = replaced_of addresses count now service.routers })
+    (record { answer = Err (list_refusal there); routers = service.routers })
 
 -- the answer and the next node, whose service has the list in force afterwards
 unfoldable pub replace_of : Node → ServiceName → List ℕ → ℕ → ℕ → replaced.Replaced

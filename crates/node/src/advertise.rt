@@ -4,7 +4,6 @@ ghost use Rattle.node.specs.Advertise.{advertised_by, advertised_through, advert
 
 use super::{Node, Service, ServiceName};
 use advertisements::Advertisement;
-use header::wrap::Written;
 use refusals::Refusal;
 
 // What a service makes of it; 11 where the node has none such.
@@ -15,7 +14,7 @@ pub fn advertised_by(
     locator: usize,
     advertisement: Advertisement,
     out: &mut [u8],
-) -> Written
+) -> Result<usize, Refusal>
     ensures value { result ≡ advertised_by there service packet.now locator advertisement (length out.old) }
     ensures out_after { out.new ≡ advertised_through there service packet.now locator advertisement out.old }
 {
@@ -24,7 +23,7 @@ pub fn advertised_by(
         let found = settings.locator(locator);
         advertising::advertise(found, packet, advertisement, out)
     } else {
-        Written::Refused(Refusal::NoLocator)
+        Err(Refusal::NoLocator)
     }
 }
 
@@ -37,7 +36,7 @@ impl Node {
         locator: usize,
         advertisement: Advertisement,
         out: &mut [u8],
-    ) -> Written
+    ) -> Result<usize, Refusal>
         ensures value { result ≡ advertise_of self name packet.now locator advertisement (length out.old) }
         ensures out_after { out.new ≡ advertise_output self name packet.now locator advertisement out.old }
     {

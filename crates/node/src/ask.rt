@@ -4,12 +4,11 @@ ghost use Rattle.asking.specs.Ask.{answered_with};
 ghost use Rattle.node.specs.Ask.{asked_by, asked_through, ask_of, ask_output};
 
 use super::{Node, Service, ServiceName, later};
-use asking::AskAnswer;
 use refusals::Refusal;
 
 #[derive(Clone, Copy)]
 pub struct Asked {
-    pub answer: AskAnswer,
+    pub answer: Result<u32, Refusal>,
     pub node: Node,
 }
 
@@ -30,7 +29,7 @@ pub fn asked_by(
         asking::ask(settings, routers, latest, locator, out)
     } else {
         asking::Asked {
-            answer: AskAnswer::Refused(Refusal::NoLocator),
+            answer: Err(Refusal::NoLocator),
             routers,
         }
     }
@@ -43,7 +42,7 @@ pub fn answered_by(
     latest: u32,
     locator: usize,
     out: &mut [u8],
-) -> AskAnswer
+) -> Result<u32, Refusal>
     ensures routers_value { answered_with result (latest + service.settings.interval) service.routers ≡ asked_by there service latest locator (length out.old) }
     ensures out_after { out.new ≡ asked_through there service latest locator out.old }
 {
@@ -52,7 +51,7 @@ pub fn answered_by(
         let settings = service.settings;
         asking::answer(settings, routers, latest, locator, out)
     } else {
-        AskAnswer::Refused(Refusal::NoLocator)
+        Err(Refusal::NoLocator)
     }
 }
 

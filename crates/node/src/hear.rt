@@ -4,12 +4,12 @@ ghost use Rattle.hearing.specs.Heard.{heard_with};
 ghost use Rattle.node.specs.Hear.{heard_by, hear_of};
 
 use super::{Node, Service, ServiceName, later};
-use hearing::{HeardAnswer, Judged};
+use hearing::Judged;
 use refusals::Refusal;
 
 #[derive(Clone, Copy)]
 pub struct Heard {
-    pub answer: HeardAnswer,
+    pub answer: Result<u32, Refusal>,
     pub node: Node,
 }
 
@@ -23,7 +23,7 @@ pub fn heard_by(there: bool, service: Service, latest: u32, packet: &[u8]) -> he
         hearing::hear(settings, routers, latest, packet)
     } else {
         hearing::Heard {
-            answer: HeardAnswer::Refused(Refusal::NoLocator),
+            answer: Err(Refusal::NoLocator),
             routers,
         }
     }
@@ -39,7 +39,7 @@ pub fn judged_by(there: bool, service: Service, latest: u32, packet: &[u8]) -> J
         hearing::judge(settings, routers, latest, packet)
     } else {
         Judged {
-            answer: HeardAnswer::Refused(Refusal::NoLocator),
+            answer: Err(Refusal::NoLocator),
             due: 0,
         }
     }

@@ -55,27 +55,9 @@ pub enum ServiceName {
 }
 
 #[derive(Clone, Copy)]
-pub enum SetupAnswer {
-    Made,
-    Refused(Refusal),
-}
-
-#[derive(Clone, Copy)]
 pub struct Setup {
-    pub answer: SetupAnswer,
+    pub answer: Result<(), Refusal>,
     pub node: Node,
-}
-
-impl SetupAnswer {
-    // The number (R4), 0 where a node is made.
-    pub fn number(self) -> u8
-        ensures { result ≡ (setup_given self).number }
-    {
-        match self {
-            SetupAnswer::Made => 0,
-            SetupAnswer::Refused(refusal) => refusal.number(),
-        }
-    }
 }
 
 fn no_settings() -> Settings
@@ -162,13 +144,13 @@ impl Node {
         if settings.accepted() {
             let node = Node::of(settings);
             Setup {
-                answer: SetupAnswer::Made,
+                answer: Ok(()),
                 node,
             }
         } else {
             let node = Node::of(no_settings());
             Setup {
-                answer: SetupAnswer::Refused(Refusal::Settings),
+                answer: Err(Refusal::Settings),
                 node,
             }
         }
@@ -181,13 +163,13 @@ impl Node {
         if first.accepted_with(second) {
             let node = Node::of_pair(first, second);
             Setup {
-                answer: SetupAnswer::Made,
+                answer: Ok(()),
                 node,
             }
         } else {
             let node = Node::of(no_settings());
             Setup {
-                answer: SetupAnswer::Refused(Refusal::Settings),
+                answer: Err(Refusal::Settings),
                 node,
             }
         }

@@ -7,27 +7,9 @@ use refusals::Refusal;
 use routers::RouterList;
 
 #[derive(Clone, Copy)]
-pub enum ListAnswer {
-    Replaced,
-    Refused(Refusal),
-}
-
-#[derive(Clone, Copy)]
 pub struct Replaced {
-    pub answer: ListAnswer,
+    pub answer: Result<(), Refusal>,
     pub node: Node,
-}
-
-impl ListAnswer {
-    // The number (R4), 0 for a list that is taken.
-    pub fn number(self) -> u8
-        ensures { result ≡ (list_given self).number }
-    {
-        match self {
-            ListAnswer::Replaced => 0,
-            ListAnswer::Refused(refusal) => refusal.number(),
-        }
-    }
 }
 
 // The number of a list that is not taken: 11 where the node has no such service, else 1.
@@ -44,7 +26,7 @@ fn list_refusal(there: bool) -> Refusal
 // The answer to a new list, and the list in force afterwards.
 #[derive(Clone, Copy)]
 pub struct ListStep {
-    pub answer: ListAnswer,
+    pub answer: Result<(), Refusal>,
     pub routers: RouterList,
 }
 
@@ -63,12 +45,12 @@ pub fn replaced_by(
     if there & settings.routers_right(addresses, count) {
         let routers = old.replaced(addresses, count, latest);
         return ListStep {
-            answer: ListAnswer::Replaced,
+            answer: Ok(()),
             routers,
         };
     }
     ListStep {
-        answer: ListAnswer::Refused(list_refusal(there)),
+        answer: Err(list_refusal(there)),
         routers: old,
     }
 }

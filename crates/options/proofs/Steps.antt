@@ -1,5 +1,6 @@
 -- What the options say, an option at a time.
 -- Assumes nothing.
+use Rattle.std.specs.Prelude.{Option, Some, None}
 use mathlib.Core.Path.{◌≡◌, refl, sym, ap, ◌∙◌}
 use mathlib.Core.List.{List, [], ◌∷◌, ◌++◌, map, flatten, append-nil}
 use mathlib.Core.Bool.{Bool, true, false, cond, or-false, or_assoc}
@@ -10,8 +11,6 @@ use lib.ListN.{length, take, drop, length-append, length-take, length-drop}
 use lib.Seq.{get_or-take}
 use lib.Dec.{eqb}
 use borrow.Author.Tests.{eq-eqb, ne_eqb}
-use Rattle.options.specs.declared.Smallest.{Smallest}
-use Rattle.options.specs.declared.Smallest.TheVariants.{Seconds, NoneCounts}
 use Rattle.options.specs.declared.Options.{Options}
 use Rattle.options.specs.declared.Found.{Found}
 use Rattle.options.specs.Options.{option_size, options_from, options_of, are_options_whole}
@@ -19,35 +18,35 @@ use Rattle.options.specs.Lifetimes.{lifetime_of, is_counted, counted, least_of, 
 use Rattle.options.specs.SoFar.{so_far, shorter_of, found_with, read_of}
 use Rattle.options.proofs.Sizes.{size_fits, size-least, options-none, options-cons}
 
-pub so_far_lem : (s : Smallest) → smallest_of (so_far s) ≡ s
+pub so_far_lem : (s : Option ℕ) → smallest_of (so_far s) ≡ s
 unfolding least_of
-so_far_lem (Seconds s) = refl
-so_far_lem NoneCounts = refl
+so_far_lem (Some s) = refl
+so_far_lem None = refl
 
 -- one lifetime more, by whether it counts
-pub shorter-kept : (s : Smallest) (l : ℕ) → is_counted l ≡ false → s ≡ shorter_of s l
+pub shorter-kept : (s : Option ℕ) (l : ℕ) → is_counted l ≡ false → s ≡ shorter_of s l
 unfolding shorter_of counted
 shorter-kept s l e = sym (so_far_lem s) ∙ cc (append-nil (so_far s))
 
-pub shorter-first : (l : ℕ) → is_counted l ≡ true → Seconds l ≡ shorter_of NoneCounts l
+pub shorter-first : (l : ℕ) → is_counted l ≡ true → Some l ≡ shorter_of None l
 unfolding shorter_of counted least_of
 shorter-first l e = cc
 
-pub shorter-more : (s l : ℕ) → is_counted l ≡ true → Seconds (min s l) ≡ shorter_of (Seconds s) l
+pub shorter-more : (s l : ℕ) → is_counted l ≡ true → Some (min s l) ≡ shorter_of (Some s) l
 unfolding shorter_of counted least_of
 shorter-more s l e = cc
 
 -- a lifetime that goes into the smallest so far is one of the lifetimes
-pub shorter-counted : (s : Smallest) (l : ℕ) (ls : List ℕ) → smallest_of (so_far (shorter_of s l) ++ counted ls) ≡ smallest_of (so_far s ++ counted (l ∷ ls))
+pub shorter-counted : (s : Option ℕ) (l : ℕ) (ls : List ℕ) → smallest_of (so_far (shorter_of s l) ++ counted ls) ≡ smallest_of (so_far s ++ counted (l ∷ ls))
 unfolding shorter_of counted least_of
 shorter-counted s l ls = go s (is_counted l)
   where
-    go : (s : Smallest) (t : Bool)
+    go : (s : Option ℕ) (t : Bool)
         → smallest_of (so_far (smallest_of (so_far s ++ cond t (l ∷ []) [])) ++ counted ls) ≡ smallest_of (so_far s ++ cond t (l ∷ counted ls) (counted ls))
-    go (Seconds s) true = refl
-    go (Seconds s) false = refl
-    go NoneCounts true = refl
-    go NoneCounts false = refl
+    go (Some s) true = refl
+    go (Some s) false = refl
+    go None true = refl
+    go None false = refl
 
 eqb_add : (n x y : ℕ) → eqb (n + x) (n + y) ≡ eqb x y
 eqb_add n x y = go (ℕ_discrete x y)

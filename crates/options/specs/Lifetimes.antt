@@ -1,8 +1,6 @@
 -- R16: the lifetimes of a router advertisement, and when its router is due again.
-use Rattle.std.specs.Prelude.{ℕ, ◌+◌, ◌/◌, min, max, List, [], ◌∷◌, map, Bool, cond, not, ◌&&◌, ◌||◌, get_or, leb, eqb}
+use Rattle.std.specs.Prelude.{ℕ, ◌+◌, ◌/◌, min, max, List, [], ◌∷◌, map, Bool, cond, not, ◌&&◌, ◌||◌, get_or, leb, eqb, Option, Some, None}
 use Rattle.address.specs.Address.{quad_of}
-use Rattle.options.specs.declared.Smallest.{Smallest}
-use Rattle.options.specs.declared.Smallest.TheVariants.{Seconds, NoneCounts}
 use Rattle.options.specs.declared.Options.{Options}
 use Rattle.options.specs.Options.{prefix_type, prefix_units, route_type, options_of, are_options_whole, has_source_link_layer}
 
@@ -42,9 +40,9 @@ least_of l [] = l
 least_of l (k ∷ ks) = least_of (min l k) ks
 
 -- R16.3: the smallest lifetime, if there is one
-abbrev pub smallest_of : List ℕ → Smallest
-smallest_of [] = NoneCounts
-smallest_of (l ∷ ls) = Seconds (least_of l ls)
+abbrev pub smallest_of : List ℕ → Option ℕ
+smallest_of [] = None
+smallest_of (l ∷ ls) = Some (least_of l ls)
 
 -- what the options of an advertisement say, with the router's lifetime
 abbrev pub options_read_of : ℕ → List ℕ → Options
@@ -55,10 +53,10 @@ abbrev pub without_lifetime : ℕ
 without_lifetime = 3600
 
 -- R16.3, R16.4: the larger of the interval and half the smallest lifetime, rounded down; 3,600 if none counts
-unfoldable pub delay_of : ℕ → Smallest → ℕ
-delay_of interval (Seconds s) = max interval (s / 2)
-delay_of interval NoneCounts = without_lifetime
+unfoldable pub delay_of : ℕ → Option ℕ → ℕ
+delay_of interval (Some s) = max interval (s / 2)
+delay_of interval None = without_lifetime
 
 -- R16.3: due becomes now + that
-abbrev pub due_after : ℕ → ℕ → Smallest → ℕ
+abbrev pub due_after : ℕ → ℕ → Option ℕ → ℕ
 due_after now interval smallest = now + delay_of interval smallest

@@ -1,8 +1,6 @@
 -- What a walk over the options has found so far. Only functions of the crate's own cite this.
-use Rattle.std.specs.Prelude.{ℕ, List, [], ◌∷◌, ◌++◌, map, ◌||◌}
+use Rattle.std.specs.Prelude.{ℕ, List, [], ◌∷◌, ◌++◌, map, ◌||◌, Option, Some, None}
 use Rattle.lists.specs.Walks.{walked}
-use Rattle.options.specs.declared.Smallest.{Smallest}
-use Rattle.options.specs.declared.Smallest.TheVariants.{Seconds, NoneCounts}
 use Rattle.options.specs.declared.Options.{Options}
 use Rattle.options.specs.declared.Found.{Found}
 use Rattle.options.specs.declared.Walked.{Walked}
@@ -10,12 +8,12 @@ use Rattle.options.specs.Options.{is_source_link_layer, option_size, options_of,
 use Rattle.options.specs.Lifetimes.{lifetime_of, counted, smallest_of}
 
 -- a smallest lifetime as a list
-abbrev pub so_far : Smallest → List ℕ
-so_far (Seconds s) = s ∷ []
-so_far NoneCounts = []
+abbrev pub so_far : Option ℕ → List ℕ
+so_far (Some s) = s ∷ []
+so_far None = []
 
 -- the smallest of the lifetimes so far and one more
-unfoldable pub shorter_of : Smallest → ℕ → Smallest
+unfoldable pub shorter_of : Option ℕ → ℕ → Option ℕ
 shorter_of smallest l = smallest_of (so_far smallest ++ counted (l ∷ []))
 
 -- what is found so far, and then the first option

@@ -32,18 +32,11 @@ const WITHOUT_LIFETIME: u32 = 3600;
 // How many options one walk passes at most. A walk makes a call for each of them, and so needs the same stack whatever the message is.
 const MOST: usize = 12;
 
-// The smallest of the lifetimes that count.
-#[derive(Clone, Copy)]
-pub enum Smallest {
-    Seconds(u32),
-    NoneCounts,
-}
-
 // What the options say: whether they are walked to the exact end, none of length 0, and the smallest lifetime up to there.
 #[derive(Clone, Copy)]
 pub struct Options {
     pub whole: bool,
-    pub smallest: Smallest,
+    pub smallest: Option<u32>,
     // Whether one of them is a source link-layer address.
     pub source_link_layer: bool,
 }
@@ -98,13 +91,13 @@ fn larger(a: u32, b: u32) -> u32
 }
 
 // The smallest lifetime once another one is known.
-fn shorter(smallest: Smallest, lifetime: u32) -> Smallest
+fn shorter(smallest: Option<u32>, lifetime: u32) -> Option<u32>
     ensures { result ≡ shorter_of smallest lifetime }
 {
     if counts(lifetime) {
         match smallest {
-            Smallest::Seconds(seconds) => Smallest::Seconds(smaller(seconds, lifetime)),
-            Smallest::NoneCounts => Smallest::Seconds(lifetime),
+            Some(seconds) => Some(smaller(seconds, lifetime)),
+            None => Some(lifetime),
         }
     } else {
         smallest
@@ -114,7 +107,7 @@ fn shorter(smallest: Smallest, lifetime: u32) -> Smallest
 // What is found up to an option: the smallest lifetime, and whether there was a source link-layer address.
 #[derive(Clone, Copy)]
 struct Found {
-    smallest: Smallest,
+    smallest: Option<u32>,
     source_link_layer: bool,
 }
 
@@ -184,7 +177,7 @@ pub fn options_whole(options: &[u8]) -> bool
     ensures { result ≡ are_options_whole options.now }
 {
     let before = Found {
-        smallest: Smallest::NoneCounts,
+        smallest: None,
         source_link_layer: false,
     };
     let all = read(options, before);
@@ -196,24 +189,24 @@ pub fn options_read(router: u16, options: &[u8]) -> Options
     ensures { result ≡ options_read_of router options.now }
 {
     let before = Found {
-        smallest: shorter(Smallest::NoneCounts, router as u32),
+        smallest: shorter(None, router as u32),
         source_link_layer: false,
     };
     read(options, before)
 }
 
 // For how many seconds the router is not asked again.
-fn delay(interval: u16, smallest: Smallest) -> u32
+fn delay(interval: u16, smallest: Option<u32>) -> u32
     ensures { result ≡ delay_of interval smallest }
 {
     match smallest {
-        Smallest::Seconds(seconds) => larger(interval as u32, seconds / 2),
-        Smallest::NoneCounts => WITHOUT_LIFETIME,
+        Some(seconds) => larger(interval as u32, seconds / 2),
+        None => WITHOUT_LIFETIME,
     }
 }
 
 // When the router is due again.
-pub fn due_after(now: u32, interval: u16, smallest: Smallest) -> u64
+pub fn due_after(now: u32, interval: u16, smallest: Option<u32>) -> u64
     ensures { result ≡ due_after now interval smallest }
 {
     now as u64 + delay(interval, smallest) as u64

@@ -1,4 +1,5 @@
 -- The table's three arrays against its reports: what the code reads of the arrays is so of the reports.
+use Rattle.std.specs.Prelude.{None}
 use mathlib.Core.Path.{◌≡◌, refl, sym, ap, ◌∙◌}
 use mathlib.Core.Logic.{⊎_elim}
 use mathlib.Core.Bool.{Bool, true, false, cond}
@@ -15,8 +16,6 @@ use Rattle.paths.specs.Look.{last_row, row_for, look_among, pushed_in}
 use Rattle.paths.specs.Table.{rows, held_in, row_of, row_in, pushed, kept_among, kept_in, table_after}
 use Rattle.paths.specs.declared.PathTable.{PathTable}
 use Rattle.paths.specs.declared.Look.{Look}
-use Rattle.paths.specs.declared.Kept.{Kept}
-use Rattle.paths.specs.declared.Kept.TheVariants.{Nothing}
 use Rattle.paths.proofs.Reports.{tested, kept_from-cond}
 use Rattle.paths.proofs.Scan.{row-take}
 
@@ -54,7 +53,7 @@ pub pushed-there : (x p : ℕ) (xs : List ℕ) → p < length xs → pushed_in x
 pushed-there x p xs inside = rw (lt-ltb _ _ inside)
 
 -- where no report is kept the size in force is the link's
-in-force-cond : (t : Bool) (link : ℕ) (k : Kept) → in_force link (cond t k Nothing) ≡ cond t (in_force link k) link
+in-force-cond : (t : Bool) (link : ℕ) (k : Option ℕ) → in_force link (cond t k None) ≡ cond t (in_force link k) link
 unfolding in_force
 in-force-cond true link k = refl
 in-force-cond false link k = refl
@@ -82,7 +81,7 @@ module _ {vs ss ts : List ℕ} {count v n p : ℕ} (c : Scanned vs ss ts count v
   reads : (row_in v (held_in vs ss ts count) ≡ p) × (last_of v (held_in vs ss ts count) ≡ cond (ltb p n) (some (row_at vs ss ts p)) none)
   reads = rw (c.row, number) (found v count vs ss ts)
 
-  pub kept_at : kept_among vs ss ts count v now ≡ cond (ltb p n) (while_young (get_or ss p 0) (get_or ts p 0) now) Nothing
+  pub kept_at : kept_among vs ss ts count v now ≡ cond (ltb p n) (while_young (get_or ss p 0) (get_or ts p 0) now) None
   kept_at = ap (λ (o : Option Report). kept_from o now) reads.1 ∙ kept_from-cond (ltb p n) (some (row_at vs ss ts p)) now
 
   -- the size in force by the row that was found
@@ -108,6 +107,6 @@ module _ {vs ss ts : List ℕ} {count v n p : ℕ} (c : Scanned vs ss ts count v
       cc
 
 -- an empty table keeps nothing
-pub kept_in_none : (t : PathTable) (v now : ℕ) → t.count ≡ 0 → Nothing ≡ kept_in t v now
+pub kept_in_none : (t : PathTable) (v now : ℕ) → t.count ≡ 0 → None ≡ kept_in t v now
 unfolding kept_in
 kept_in_none t v now empty = rw empty

@@ -1,5 +1,6 @@
 -- A list of calls on one node, as far as the path sizes go, and their answers. What remembers the reports is a parameter,
 -- the table or the plain record, and so are the links of its services, which are numbered, and the rule that says what a path of a given size lets through.
+use Rattle.std.specs.Prelude.{Option}
 use Prim.Native.Nat.{ℕ, max}
 use mathlib.Core.Bool.{Bool, cond, ◌&&◌}
 use mathlib.Core.List.{List, [], ◌∷◌}
@@ -8,7 +9,6 @@ use Rattle.paths.specs.Candidate.{is_below}
 use Rattle.paths.specs.Kept.{Report, in_force}
 use Rattle.paths.specs.Table.{no_reports, kept_in, table_after}
 use Rattle.paths.specs.Record.{record_kept, record_after}
-use Rattle.paths.specs.declared.Kept.{Kept}
 use Rattle.paths.specs.declared.PathTable.{PathTable}
 
 pub data PathCall : Type 0 where
@@ -33,7 +33,7 @@ pub data Answer : Type 0 where
 -- what remembers accepted reports: none of them, the size kept toward a neighbour at a time, and one more of a neighbour, a size and a time
 pub record Memory (M : Type 0) : Type 0 where
   pub fresh : M
-  pub kept : M → ℕ → ℕ → Kept
+  pub kept : M → ℕ → ℕ → Option ℕ
   pub after : M → ℕ → ℕ → ℕ → M
 
 abbrev pub table : Memory PathTable
@@ -81,7 +81,7 @@ module _ {M : Type 0} (K : Memory M) (limit : ℕ → ℕ) (links : ℕ → ℕ)
   history m now (x ∷ xs) = let a : Answer = answer m now x in (x, a) ∷ history (remembered K m now a) (latest now x) xs
 
   -- the size kept toward v after the calls
-  abbrev pub kept_after : M → ℕ → List PathCall → ℕ → Kept
+  abbrev pub kept_after : M → ℕ → List PathCall → ℕ → Option ℕ
   kept_after m now [] v = K.kept m v now
   kept_after m now (x ∷ xs) v = kept_after (remembered K m now (answer m now x)) (latest now x) xs v
 
@@ -89,5 +89,5 @@ module _ {M : Type 0} (K : Memory M) (limit : ℕ → ℕ) (links : ℕ → ℕ)
   abbrev pub history_of : List PathCall → List (PathCall × Answer)
   history_of calls = history K.fresh 0 calls
 
-  abbrev pub kept_of : List PathCall → ℕ → Kept
+  abbrev pub kept_of : List PathCall → ℕ → Option ℕ
   kept_of calls v = kept_after K.fresh 0 calls v

@@ -1,4 +1,5 @@
 -- Lists of reports: a neighbour's last and those since, the last of each, and a list without one element.
+use Rattle.std.specs.Prelude.{None}
 use mathlib.Core.Path.{◌≡◌, refl, ap, ◌∙◌}
 use mathlib.Core.Logic.{◌⊎◌, ⊎_elim, inl, inr}
 use mathlib.Core.Bool.{Bool, true, false, cond}
@@ -13,14 +14,13 @@ use lib.ListN.{length, take}
 use Rattle.paths.specs.Kept.{Report, last_of, kept_from}
 use Rattle.paths.specs.Table.{row_in, cut}
 use Rattle.paths.specs.Record.{since, without, last_of_each, others_since}
-use Rattle.paths.specs.declared.Kept.TheVariants.{Nothing}
 
 -- a test came out one way or the other
 pub tested : (b : Bool) → (b ≡ true) ⊎ (b ≡ false)
 tested true = inl refl
 tested false = inr refl
 
-pub kept_from-cond : (b : Bool) (o : Option Report) (now : ℕ) → kept_from (cond b o none) now ≡ cond b (kept_from o now) Nothing
+pub kept_from-cond : (b : Bool) (o : Option Report) (now : ℕ) → kept_from (cond b o none) now ≡ cond b (kept_from o now) None
 kept_from-cond true o now = refl
 kept_from-cond false o now = refl
 

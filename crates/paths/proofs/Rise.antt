@@ -1,4 +1,5 @@
 -- The size toward a neighbour falls by a report of its own alone: time and other neighbours' reports only end what is kept.
+use Rattle.std.specs.Prelude.{Some, None}
 use mathlib.Core.Path.{◌≡◌, refl}
 use mathlib.Core.Logic.{◌⊎◌, ⊎_elim, inl, inr}
 use mathlib.Core.Bool.{Bool, true, false, cond, false≢true}
@@ -13,16 +14,14 @@ use Rattle.paths.specs.Kept.{Report, lifetime, most_neighbours, last_of, while_y
 use Rattle.paths.specs.Table.{row_in, cut}
 use Rattle.paths.specs.Record.{last_of_each, others_since, record_kept}
 use Rattle.paths.proofs.Calls.{plain, size_toward}
-use Rattle.paths.specs.declared.Kept.{Kept}
-use Rattle.paths.specs.declared.Kept.TheVariants.{Size, Nothing}
 use Rattle.paths.proofs.Reports.{tested, others-row, without_each}
 
 -- ---- what is kept stays or ends
 
-abbrev Fades : Kept → Kept → Type 0
-Fades k l = (l ≡ k) ⊎ (l ≡ Nothing)
+abbrev Fades : Option ℕ → Option ℕ → Type 0
+Fades k l = (l ≡ k) ⊎ (l ≡ None)
 
-fades_cond : (a b : Bool) (k l : Kept) → (b ≡ true → a ≡ true) → Fades k l → Fades (cond a k Nothing) (cond b l Nothing)
+fades_cond : (a b : Bool) (k l : Option ℕ) → (b ≡ true → a ≡ true) → Fades k l → Fades (cond a k None) (cond b l None)
 fades_cond true true k l h f = f
 fades_cond true false k l h f = inr refl
 fades_cond false true k l h f = absurd (false≢true (h refl))
@@ -33,7 +32,7 @@ kept_from-later : (o : Option Report) (now then : ℕ) → now ≤ then → Fade
 unfolding while_young
 kept_from-later none now then l = inl refl
 kept_from-later (some e) now then l =
-    fades_cond (ltb now (e.time + lifetime)) (ltb then (e.time + lifetime)) (Size e.size) (Size e.size)
+    fades_cond (ltb now (e.time + lifetime)) (ltb then (e.time + lifetime)) (Some e.size) (Some e.size)
     (λ h. lt-ltb now (e.time + lifetime) (omega (arith, ltb-true then (e.time + lifetime) h))) (inl refl)
 
 -- a list without one element has v at most one place further on
@@ -62,7 +61,7 @@ module _ (es : List Report) (v now : ℕ) where
   unfolding record_kept
   kept-others e other =
       let n : last_of v (e ∷ es) ≡ last_of v es = cc in
-      let k : Kept = kept_from (last_of v es) now in
+      let k : Option ℕ = kept_from (last_of v es) now in
       rw n
       (fades_cond (ltb (others_since v es) most_neighbours) (ltb (others_since v (e ∷ es)) most_neighbours) k k
       (λ h. lt-ltb (others_since v es) most_neighbours (omega (arith, others_grow v e es other, ltb-true (others_since v (e ∷ es)) most_neighbours h)))
@@ -71,13 +70,13 @@ module _ (es : List Report) (v now : ℕ) where
 -- ---- so the size over a link only rises
 
 module _ (link : ℕ) where
-  rises : (k l : Kept) → Fades k l → in_force link k ≤ in_force link l
+  rises : (k l : Option ℕ) → Fades k l → in_force link k ≤ in_force link l
   unfolding in_force
   rises k l f = ⊎_elim (λ e. rw e (le_refl _)) (λ e. rw e (small k)) f
     where
-      small : (k : Kept) → in_force link k ≤ link
-      small (Size s) = omega arith
-      small Nothing = le_refl link
+      small : (k : Option ℕ) → in_force link k ≤ link
+      small (Some s) = omega arith
+      small None = le_refl link
 
   module _ (es : List Report) (v now : ℕ) where
     pub size-later : (then : ℕ) → now ≤ then → size_toward plain link es now v ≤ size_toward plain link es then v

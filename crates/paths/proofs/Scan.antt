@@ -1,4 +1,5 @@
 -- What the loops of the code ask: one more turn of a search, and one more turn of the shift.
+use Rattle.std.specs.Prelude.{Some}
 use mathlib.Core.Path.{◌≡◌, refl, sym, ap, ◌∙◌}
 use mathlib.Core.Bool.{Bool, true, false, ◌||◌, or_assoc, or-false, false≢true}
 use mathlib.Core.Logic.{⊎_elim}
@@ -15,7 +16,6 @@ use Rattle.lists.proofs.Tests.{tested, or_left, or_right}
 use Rattle.paths.specs.Search.{is_among, Passed, Within}
 use Rattle.paths.specs.Table.{row_of, cut, pushed}
 use Rattle.paths.specs.Candidate.{first_below}
-use Rattle.paths.specs.declared.Candidate.TheVariants.{Size}
 
 -- ---- the search for a neighbour
 
@@ -94,7 +94,7 @@ row_left v xs i (suc (suc w)) before l = absurd (omega arith)
 -- ---- the search for a plateau
 
 module _ (n : ℕ) (xs : List ℕ) (i : ℕ) (inside : i < length xs) where
-  pub below_hit : get_or xs i 0 < n → first_below n (drop i xs) ≡ Size (get_or xs i 0)
+  pub below_hit : get_or xs i 0 < n → first_below n (drop i xs) ≡ Some (get_or xs i 0)
   below_hit h = rw (drop-cons xs i 0 inside) (rw (lt-ltb _ _ h))
 
   pub below_miss : n ≤ get_or xs i 0 → first_below n (drop i xs) ≡ first_below n (drop (i + 1) xs)

@@ -1,8 +1,6 @@
 -- R10: the size that is kept of a report, and the size in force. Table and record share these words.
-use Rattle.std.specs.Prelude.{ℕ, ◌+◌, min, cond, List, [], ◌∷◌, ltb, eqb}
+use Rattle.std.specs.Prelude.{ℕ, ◌+◌, min, cond, List, [], ◌∷◌, ltb, eqb, Some, None}
 use Rattle.std.proofs.Math.Option.{Option, none, some}
-use Rattle.paths.specs.declared.Kept.{Kept}
-use Rattle.paths.specs.declared.Kept.TheVariants.{Size, Nothing}
 
 -- an accepted report: its neighbour, its candidate, and the time when it was accepted
 pub record Report : Type 0 where
@@ -24,15 +22,15 @@ abbrev pub most_neighbours : ℕ
 most_neighbours = 64
 
 -- a report's size while that is under 600 s old
-unfoldable pub while_young : ℕ → ℕ → ℕ → Kept
-while_young size time now = cond (ltb now (time + lifetime)) (Size size) Nothing
+unfoldable pub while_young : ℕ → ℕ → ℕ → Option ℕ
+while_young size time now = cond (ltb now (time + lifetime)) (Some size) None
 
 -- what is kept of a report, if there is one
-abbrev pub kept_from : Option Report → ℕ → Kept
-kept_from none now = Nothing
+abbrev pub kept_from : Option Report → ℕ → Option ℕ
+kept_from none now = None
 kept_from (some e) now = while_young e.size e.time now
 
 -- the size in force over a link: the smaller of L and the kept one, otherwise L
-unfoldable pub in_force : ℕ → Kept → ℕ
-in_force link (Size size) = min link size
-in_force link Nothing = link
+unfoldable pub in_force : ℕ → Option ℕ → ℕ
+in_force link (Some size) = min link size
+in_force link None = link

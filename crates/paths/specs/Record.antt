@@ -1,8 +1,6 @@
--- R11: every accepted report, the newest first. Nothing is ever dropped from it.
-use Rattle.std.specs.Prelude.{ℕ, cond, List, [], ◌∷◌, ltb, eqb, length}
+-- R11: every accepted report, the newest first. None is ever dropped from it.
+use Rattle.std.specs.Prelude.{ℕ, cond, List, [], ◌∷◌, ltb, eqb, length, Option, None}
 use Rattle.paths.specs.Kept.{Report, most_neighbours, last_of, kept_from}
-use Rattle.paths.specs.declared.Kept.{Kept}
-use Rattle.paths.specs.declared.Kept.TheVariants.{Nothing}
 
 -- the reports since the last of neighbour v: all of other neighbours
 abbrev pub since : ℕ → List Report → List Report
@@ -25,8 +23,8 @@ others_since v es = length (last_of_each (since v es))
 
 -- the size kept toward v: the candidate of its last accepted report while that is under 600 s old
 -- and fewer than 64 other neighbours have had an accepted report since
-unfoldable pub record_kept : List Report → ℕ → ℕ → Kept
-record_kept es v now = cond (ltb (others_since v es) most_neighbours) (kept_from (last_of v es) now) Nothing
+unfoldable pub record_kept : List Report → ℕ → ℕ → Option ℕ
+record_kept es v now = cond (ltb (others_since v es) most_neighbours) (kept_from (last_of v es) now) None
 
 -- the record after an accepted report: neighbour and candidate are, with the latest time, its new last entry
 abbrev pub record_after : List Report → ℕ → ℕ → ℕ → List Report

@@ -1,7 +1,6 @@
 -- The path table: accepted reports, the newest first, at most one of each neighbour and at most 64.
-use Rattle.std.specs.Prelude.{ℕ, suc, ◌-◌, min, max, cond, List, [], ◌∷◌, ◌++◌, map, eqb, length, take, drop, replicate}
+use Rattle.std.specs.Prelude.{ℕ, suc, ◌-◌, min, max, cond, List, [], ◌∷◌, ◌++◌, map, eqb, length, take, drop, replicate, Option}
 use Rattle.paths.specs.Kept.{Report, most_neighbours, last_of, kept_from}
-use Rattle.paths.specs.declared.Kept.{Kept}
 use Rattle.paths.specs.declared.PathTable.{PathTable}
 
 -- the fresh table: none of its 64 places is in use
@@ -26,11 +25,11 @@ abbrev pub held : PathTable → List Report
 held t = held_in t.neighbours t.sizes t.times t.count
 
 -- the size kept toward v in the first n places
-abbrev pub kept_among : List ℕ → List ℕ → List ℕ → ℕ → ℕ → ℕ → Kept
+abbrev pub kept_among : List ℕ → List ℕ → List ℕ → ℕ → ℕ → ℕ → Option ℕ
 kept_among neighbours sizes times n v now = kept_from (last_of v (held_in neighbours sizes times n)) now
 
 -- the size kept toward v
-unfoldable pub kept_in : PathTable → ℕ → ℕ → Kept
+unfoldable pub kept_in : PathTable → ℕ → ℕ → Option ℕ
 kept_in t v now = kept_among t.neighbours t.sizes t.times t.count v now
 
 -- the place of v among neighbours, or their number

@@ -32,13 +32,6 @@ pub struct PathTable {
     pub count: usize,
 }
 
-// The size that is kept toward a neighbour, if there is one.
-#[derive(Clone, Copy)]
-pub enum Kept {
-    Size(u16),
-    Nothing,
-}
-
 // What the rows of a table say of a neighbour: the size in force toward it; the row that makes room for an accepted report of it, and how many
 // rows are in use then.
 #[derive(Clone, Copy)]
@@ -46,13 +39,6 @@ pub struct Look {
     pub in_force: u16,
     pub row: usize,
     pub count: usize,
-}
-
-// The size that a report asks for, if it can be used.
-#[derive(Clone, Copy)]
-pub enum Candidate {
-    Size(u16),
-    Unusable,
 }
 
 impl PathTable {
@@ -68,11 +54,11 @@ impl PathTable {
     }
 
     // The size kept toward a neighbour at a time. Of a table by value a row is copied where it is read; size_among copies none.
-    pub fn kept(self, neighbour: u32, now: u32) -> Kept
+    pub fn kept(self, neighbour: u32, now: u32) -> Option<u16>
         ensures { result ≡ kept_in self neighbour now }
     {
         if self.count == 0 {
-            return Kept::Nothing;
+            return None;
         }
         let count = lists::least(self.count, NEIGHBOURS);
         let neighbours = self.neighbours;
@@ -82,7 +68,7 @@ impl PathTable {
             let times = self.times;
             while_young(sizes[p], times[p], now)
         } else {
-            Kept::Nothing
+            None
         }
     }
 
@@ -107,12 +93,12 @@ impl PathTable {
 }
 
 // The size in force over a link: the smaller of the link's and the kept one, otherwise the link's.
-pub fn in_force(link: u16, kept: Kept) -> u16
+pub fn in_force(link: u16, kept: Option<u16>) -> u16
     ensures { result ≡ in_force link kept }
 {
     match kept {
-        Kept::Size(size) => smaller(link, size),
-        Kept::Nothing => link,
+        Some(size) => smaller(link, size),
+        None => link,
     }
 }
 
@@ -191,13 +177,13 @@ fn size_at<'a>(
 }
 
 // A report's size while that is under 600 s old.
-fn while_young(size: u16, time: u32, now: u32) -> Kept
+fn while_young(size: u16, time: u32, now: u32) -> Option<u16>
     ensures { result ≡ while_young size time now }
 {
     if (now as u64) < (time as u64) + LIFETIME {
-        Kept::Size(size)
+        Some(size)
     } else {
-        Kept::Nothing
+        None
     }
 }
 

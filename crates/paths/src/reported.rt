@@ -2,7 +2,6 @@
 ghost use Rattle.std.specs.Prelude.{◌≡◌};
 ghost use Rattle.paths.specs.Candidate.{plateau_below, candidate_of, is_below};
 
-use crate::Candidate;
 
 // The least size that is usable.
 const LEAST_SIZE: u16 = 68;
@@ -13,31 +12,31 @@ const PLATEAUS: [u16; 11] = [
 ];
 
 // The largest plateau below n.
-fn plateau_below(n: u16) -> Candidate
+fn plateau_below(n: u16) -> Option<u16>
     ensures { result ≡ plateau_below n }
 {
     let mut i: usize = 0;
     while i < PLATEAUS.len() {
         let p = PLATEAUS[i];
         if p < n {
-            return Candidate::Size(p);
+            return Some(p);
         }
         i = i + 1;
     }
-    Candidate::Unusable
+    None
 }
 
 // The reported size, or for 0 the largest plateau below the quoted total length.
-pub fn candidate(reported: u16, total: u16) -> Candidate
+pub fn candidate(reported: u16, total: u16) -> Option<u16>
     ensures { result ≡ candidate_of reported total }
 {
     if reported == 0 {
         return plateau_below(total);
     }
     if reported < LEAST_SIZE {
-        return Candidate::Unusable;
+        return None;
     }
-    Candidate::Size(reported)
+    Some(reported)
 }
 
 // Whether a candidate is accepted at a size in force.

@@ -1,4 +1,5 @@
 -- How long the program's output is: never longer than its room. Assumes nothing.
+use Rattle.std.specs.Prelude.{Result, Ok, Err}
 use Prim.Native.Nat.{ℕ, suc, ◌+◌, ◌*◌, ◌≤◌, ◌<◌, max}
 use mathlib.Core.Path.{◌≡◌, refl, ap, ◌∙◌}
 use mathlib.Core.Bool.{Bool, true, false, cond}
@@ -7,8 +8,6 @@ use native.Mathlib.Omega.{arith}
 use lib.Dec.{ltb}
 use lib.ListN.{length, length-append}
 use Rattle.refusals.specs.Refusals.{number_of, stop_or}
-use Rattle.refusals.specs.declared.Check.{Check}
-use Rattle.refusals.specs.declared.Check.TheVariants.{Stop}
 use Rattle.refusals.specs.declared.Refusal.{Refusal}
 use Rattle.refusals.specs.declared.Refusal.TheVariants as refusal
 use Rattle.header.specs.Outer.{outer_of, is_outer_malformed}
@@ -23,8 +22,6 @@ use Rattle.receiving.specs.declared.Received.{Received}
 use Rattle.receiving.specs.declared.Received.TheVariants.{Refused}
 use Rattle.node.specs.Receive.{collected_by, receive_of}
 use Rattle.node.specs.declared.Node.{Node}
-use Rattle.node.specs.declared.SetupAnswer.{SetupAnswer}
-use Rattle.node.specs.declared.SetupAnswer.TheVariants as setup
 use Rattle.node.specs.Node.{setup_of}
 use Rattle.input.specs.Section.{count_of}
 use Rattle.input.specs.Input.{behind_settings, settings_of, is_well_formed}
@@ -89,8 +86,8 @@ module _ (k : ℕ) (h : k < 100000) (n : ℕ) where
 
   -- what is not refused by 15 or 2 has the bytes of an outer header
   rows_fit : {A : Type 0} (refuse : Refusal → A) (answer : A → Received) → ((r : Refusal) → Fits k (answer (refuse r)) n)
-      → (t u : Bool) (a b : Refusal) (rest : Check) (follows : A) → (u ≡ false → 20 ≤ n)
-      → Fits k (answer (stop_or refuse (cond t (Stop a) (cond u (Stop b) rest)) follows)) n
+      → (t u : Bool) (a b : Refusal) (rest : Result Unit Refusal) (follows : A) → (u ≡ false → 20 ≤ n)
+      → Fits k (answer (stop_or refuse (cond t (Err a) (cond u (Err b) rest)) follows)) n
   rows_fit refuse answer refuses true u a b rest follows g = refuses a
   rows_fit refuse answer refuses false true a b rest follows g = refuses b
   rows_fit refuse answer refuses false false a b rest follows g = long-fits (g refl) (answer (stop_or refuse rest follows))
@@ -146,9 +143,9 @@ pub taken-short : (s : List ℕ) → is_well_formed s ≡ true → length (taken
 unfolding taken_text
 taken-short s h = answered (setup_of (settings_of s)).answer
   where
-    answered : (a : SetupAnswer) → length (setup_text a (setup_of (settings_of s)).node (behind_settings s)) ≤ output_room
-    answered setup.Made = section-short (setup_of (settings_of s)).node own_memory s h
-    answered (setup.Refused r) = omega arith
+    answered : (a : Result Unit Refusal) → length (setup_text a (setup_of (settings_of s)).node (behind_settings s)) ≤ output_room
+    answered (Ok tt) = section-short (setup_of (settings_of s)).node own_memory s h
+    answered (Err r) = omega arith
 
 -- so has the output for any input
 pub text_short : (s : List ℕ) → length (text_for s) ≤ output_room

@@ -1,5 +1,6 @@
 -- The program (R17): the output for any input.
-use Rattle.std.specs.Prelude.{ℕ, ◌+◌, ◌*◌, ◌≤◌, ◌≡◌, cond, List, [], ◌∷◌, ltb, length, take, replicate}
+use Rattle.refusals.specs.declared.Refusal.{Refusal}
+use Rattle.std.specs.Prelude.{ℕ, ◌+◌, ◌*◌, ◌≤◌, ◌≡◌, cond, List, [], ◌∷◌, ltb, length, take, replicate, Result, Ok, Err}
 use Rattle.lent.specs.Written.{written}
 use Rattle.refusals.specs.Refusals.{number_of}
 use Rattle.pieces.specs.Places.{memory_room}
@@ -10,8 +11,6 @@ use Rattle.node.specs.Receive.{receive_of, receive_memory}
 use Rattle.node.specs.declared.Node.{Node}
 use Rattle.node.specs.declared.ServiceName.TheVariants.{First}
 use Rattle.node.specs.declared.receive.Receipt.{Receipt}
-use Rattle.node.specs.declared.SetupAnswer.{SetupAnswer}
-use Rattle.node.specs.declared.SetupAnswer.TheVariants as setup
 use Rattle.input.specs.Input.{behind_settings, settings_of, input_limit, is_well_formed}
 use Rattle.input.specs.Recording.{Datagram, datagrams_of}
 use Rattle.program.specs.declared.lines.Line.{Line}
@@ -47,9 +46,9 @@ unfoldable pub own_memory : List ℕ
 own_memory = replicate memory_room 0
 
 -- on a node that the settings make, `datagrams N` and the lines; `bad input` where they are refused
-abbrev pub setup_text : SetupAnswer → Node → List ℕ → List ℕ
-setup_text setup.Made node r = text_of (lines_of node own_memory r)
-setup_text (setup.Refused refusal) node r = bad_input
+abbrev pub setup_text : Result Unit Refusal → Node → List ℕ → List ℕ
+setup_text (Ok tt) node r = text_of (lines_of node own_memory r)
+setup_text (Err refusal) node r = bad_input
 
 -- the output for a well-formed input
 unfoldable pub taken_text : List ℕ → List ℕ

@@ -12,7 +12,7 @@ ghost use Rattle.program.specs.Program.{input_room, output_room, IsFront, line_w
 
 use input::recording;
 use lines::Line;
-use node::{Node, ServiceName, SetupAnswer};
+use node::{Node, ServiceName};
 use receiving::Received;
 
 // Room for any input, and for one byte more, so that a longer input is seen.
@@ -106,8 +106,8 @@ fn put_taken(s: &[u8], out: &mut [u8]) -> usize
     let setup = Node::new(input::settings(s));
     let answer = setup.answer;
     match answer {
-        SetupAnswer::Made => put_text(setup.node, input::behind_settings(s), out),
-        SetupAnswer::Refused(_) => lines::put_bad_input(out, 0),
+        Ok(()) => put_text(setup.node, input::behind_settings(s), out),
+        Err(_) => lines::put_bad_input(out, 0),
     }
 }
 

@@ -1,4 +1,5 @@
 -- The call for the number in plain terms: what it comes to of a whole datagram and of a piece, by what 15, 2, 3, 4, 6, 7 say. Assumes nothing.
+use Rattle.std.specs.Prelude.{Result, Ok, Err}
 use Prim.Native.Nat.{ℕ, ◌/◌, ◌%◌}
 use mathlib.Core.Path.{◌≡◌, refl}
 use mathlib.Core.List.{List}
@@ -9,8 +10,6 @@ use lib.ListN.{get_or, length}
 use Rattle.lists.proofs.Decides.{Decides}
 use Rattle.refusals.specs.Refusals.{first_of, stop_or}
 use Rattle.refusals.specs.declared.Refusal.{Refusal}
-use Rattle.refusals.specs.declared.Check.{Check}
-use Rattle.refusals.specs.declared.Check.TheVariants.{Pass, Stop}
 use Rattle.header.specs.Fields.{word_at, quad_at}
 use Rattle.header.specs.Outer.{outer_of, payload_of}
 use Rattle.header.specs.Inner.{inner_of}
@@ -29,11 +28,11 @@ use Rattle.receiving.specs.declared.Received.TheVariants.{Refused}
 use Rattle.receiving.proofs.Facts.{decides_piece}
 
 -- 15, 2, 3, 4, 6, 7, of a datagram d
-abbrev pub arrival_check : Settings → ℕ → ℕ → List ℕ → Check
+abbrev pub arrival_check : Settings → ℕ → ℕ → List ℕ → Result Unit Refusal
 arrival_check s interface lent d = first_of (arrival_rows s interface lent d (outer_of d))
 
 -- 8, 9, 10 of what is encapsulated, p, from the outer source v
-abbrev pub packet_check : Settings → List Router → ℕ → List ℕ → Check
+abbrev pub packet_check : Settings → List Router → ℕ → List ℕ → Result Unit Refusal
 packet_check s routers v p = first_of (inner_rows s (listed v routers) v (length p) (inner_of p))
 
 -- the key of a datagram, by its bytes
@@ -59,10 +58,10 @@ decides_more d = record {
 }
 
 -- the same of both parts of a pair
-pub stop_pair : {A B : Type 0} (f : Refusal → A) (g : Refusal → B) (k : Check) (x : A) (y : B)
+pub stop_pair : {A B : Type 0} (f : Refusal → A) (g : Refusal → B) (k : Result Unit Refusal) (x : A) (y : B)
     → ◌≡◌ {A = A × B} (stop_or f k x, stop_or g k y) (stop_or (λ r. (f r, g r)) k (x, y))
-stop_pair f g Pass x y = refl
-stop_pair f g (Stop r) x y = refl
+stop_pair f g (Ok tt) x y = refl
+stop_pair f g (Err r) x y = refl
 
 module _ (s : Settings) (routers : List Router) (c : Collection) (now : ℕ) (d : List ℕ) (interface : ℕ) (memory : List ℕ) where
   -- a whole datagram leaves collection and memory

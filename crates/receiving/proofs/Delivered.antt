@@ -1,4 +1,5 @@
 -- Demand 2 holds of receiving. Assumes nothing.
+use Rattle.std.specs.Prelude.{Ok}
 use Prim.Native.Nat.{ℕ, ◌-◌, ◌≤◌, ◌<◌}
 use mathlib.Core.Path.{◌≡◌, refl, ap, ◌∙◌}
 use mathlib.Core.Bool.{Bool}
@@ -13,7 +14,6 @@ use Rattle.checksum.specs.Sum.{is_right_from}
 use Rattle.refusals.specs.Refusals.{first_of, AnswersFirst}
 use Rattle.refusals.proofs.Laws.{AllFalse, all_false, stop_passed, RowsDecide, row, answers-first}
 use Rattle.refusals.specs.declared.Refusal.{Refusal}
-use Rattle.refusals.specs.declared.Check.TheVariants.{Pass}
 use Rattle.header.specs.Fields.{word_at}
 use Rattle.header.specs.Outer.{outer_of, is_sum_wrong, payload_of}
 use Rattle.header.specs.Inner.{inner_of}
@@ -67,7 +67,7 @@ module _ (s : Settings) (routers : List Router) (d : List ℕ) (interface : ℕ)
         source_matches = (decides_source-right s _ _ routers).holds (not-false _ last.1.1.0);
       }
 
-  passes : Admits s routers d interface → first_of rows ≡ Pass
+  passes : Admits s routers d interface → first_of rows ≡ Ok tt
   unfolding outer_of inner_of payload_of is_sum_wrong is_right_from
   passes a =
       rw (

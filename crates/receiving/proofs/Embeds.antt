@@ -1,4 +1,5 @@
 -- That an address embeds an IPv4 address, as three tests; and what is read of a payload says all that is asked. Assumes nothing.
+use Rattle.std.specs.Prelude.{Some, None, Ok}
 use Prim.Native.Nat.{ℕ, zero, suc, ◌+◌, ◌/◌, ◌<◌}
 use mathlib.Core.Path.{◌≡◌, refl, sym, ◌∙◌}
 use mathlib.Core.Bool.{Bool, true, false, cond, not, ◌&&◌}
@@ -7,7 +8,6 @@ use borrow.Author.Tests.{eqb-true}
 use lib.Dec.{eqb}
 use lib.ListN.{get_or, length}
 use Rattle.lists.proofs.Tests.{and_left, and_right}
-use Rattle.refusals.specs.declared.Check.TheVariants.{Pass}
 use Rattle.header.specs.Numbers.{inner_header}
 use Rattle.header.specs.Fields.{word_at, address_at}
 use Rattle.header.specs.Inner.{inner_of, is_inner_malformed}
@@ -16,7 +16,6 @@ use Rattle.address.specs.Prefixes.{rows_of}
 use Rattle.address.specs.Quads.{bytes_in}
 use Rattle.address.proofs.Bytes.{last-number}
 use Rattle.address.specs.declared.quads.Quads.{Quads}
-use Rattle.address.specs.declared.Embedded.TheVariants.{Ipv4, Nothing}
 use Rattle.settings.specs.Settings.{embedded_to, forbidden_to}
 use Rattle.settings.specs.declared.Settings.{Settings}
 use Rattle.receiving.specs.Receive.{is_embedded, embeds}
@@ -28,7 +27,7 @@ use Rattle.receiving.specs.declared.judging.Standing.{Standing}
 use Rattle.receiving.specs.declared.judging.Stage.TheVariants as stage
 use Rattle.receiving.specs.declared.judging.Opening.{Opening}
 
-by_tests : (on_link identifier : Bool) (last v : ℕ) → is_embedded (cond (on_link && identifier) (Ipv4 last) Nothing) v ≡ cond (identifier && eqb last v) on_link false
+by_tests : (on_link identifier : Bool) (last v : ℕ) → is_embedded (cond (on_link && identifier) (Some last) None) v ≡ cond (identifier && eqb last v) on_link false
 by_tests true true last v = go (eqb last v)
   where
     go : (t : Bool) → t ≡ cond t true false
@@ -63,7 +62,7 @@ link_local_good forbidden a h = rw (first 7 h)
 
 -- what passes anyhow passes 8 to 10
 pub passes : (x : Opening) → x.address.last < 4294967296 → passes_anyhow x ≡ true
-    → (s : Settings) (isListed : Bool) → inner_check s isListed x.source x.length (inner_in x) ≡ Pass
+    → (s : Settings) (isListed : Bool) → inner_check s isListed x.source x.length (inner_in x) ≡ Ok tt
 unfolding passes_anyhow inner_check is_on_link
 passes x h t s isListed =
     let a : List ℕ = bytes_in x.address in

@@ -1,4 +1,5 @@
 -- Each test of receiving decides a plain fact. Assumes nothing.
+use Rattle.std.specs.Prelude.{Option, Some, None}
 use Prim.Native.Nat.{ℕ}
 use mathlib.Core.Path.{◌≡◌, refl, sym, ap, ◌∙◌}
 use mathlib.Core.Logic.{◌⊎◌}
@@ -14,8 +15,6 @@ use Rattle.header.specs.Outer.{outer_of, is_outer_malformed, is_sum_wrong}
 use Rattle.header.proofs.OuterLaws.{outer_whole_lem, whole_outer}
 use Rattle.header.specs.Inner.{inner_of, is_inner_malformed}
 use Rattle.header.proofs.InnerLaws.{inner-whole, whole-inner}
-use Rattle.address.specs.declared.Embedded.{Embedded}
-use Rattle.address.specs.declared.Embedded.TheVariants.{Ipv4, Nothing}
 use Rattle.settings.specs.Settings.{embedded_to}
 use Rattle.settings.specs.Facts.{IsatapTo}
 use Rattle.settings.proofs.Facts.{embedded_to_lem, isatap_to, decides_forbidden_to, decides_our_locator, decides_bad_source_to}
@@ -34,9 +33,9 @@ module _ (s : Settings) (a : List ℕ) (v : ℕ) where
   unfolding embeds
   decides_embeds = record { holds = go (embedded_to s a) refl; passes = λ f. rw (isatap_to s a v f) (eq-eqb v v refl) }
     where
-      go : (e : Embedded) → embedded_to s a ≡ e → is_embedded e v ≡ true → IsatapTo s a v
-      go (Ipv4 b) q h = embedded_to_lem s a v (q ∙ ap Ipv4 (eqb-true b v h))
-      go Nothing q h = absurd (true≢false (sym h))
+      go : (e : Option ℕ) → embedded_to s a ≡ e → is_embedded e v ≡ true → IsatapTo s a v
+      go (Some b) q h = embedded_to_lem s a v (q ∙ ap Some (eqb-true b v h))
+      go None q h = absurd (true≢false (sym h))
 
   pub decides_source-right : (routers : List Router) → Decides (is_source_right s (listed v routers) v a) (IsatapTo s a v ⊎ Listed v routers)
   decides_source-right routers = decides_or _ _ decides_embeds (decides_listed v routers)

@@ -1,4 +1,5 @@
 -- The stages that the code goes through are the tables. Assumes nothing.
+use Rattle.std.specs.Prelude.{Result, Ok, Err}
 use Prim.Native.Nat.{ℕ}
 use mathlib.Core.Path.{◌≡◌, refl, sym, ap, ◌∙◌}
 use mathlib.Core.Bool.{Bool, true, false, cond}
@@ -10,14 +11,11 @@ use Rattle.address.specs.declared.quads.Quads.{Quads}
 use Rattle.refusals.specs.Refusals.{first_of, stop_or}
 use Rattle.refusals.proofs.Laws.{stop_append}
 use Rattle.refusals.specs.declared.Refusal.{Refusal}
-use Rattle.refusals.specs.declared.Check.{Check}
-use Rattle.refusals.specs.declared.Check.TheVariants.{Pass, Stop}
 use Rattle.header.specs.Outer.{outer_of, header_rows, protocol_rows, piece_rows, header_check, outer_check, payload_of, read_with, header_read_of, outer_read_of, read_or}
 use Rattle.header.proofs.Readers.{read_stop}
 use Rattle.header.specs.Inner.{inner_of, is_inner_malformed}
 use Rattle.header.specs.declared.inner.Inner.{Inner}
 use Rattle.header.specs.declared.outer.Outer.{Outer}
-use Rattle.header.specs.declared.outer.OuterRead.TheVariants as read
 use Rattle.settings.specs.declared.Settings.{Settings}
 use Rattle.routers.specs.Routers.{listed}
 use Rattle.routers.specs.declared.Router.{Router}
@@ -41,8 +39,8 @@ module _ (s : Settings) (interface : ℕ) (rows : List (Bool × Refusal)) (o : O
   arrived_rows : arrived_of s interface (read_with (first_of rows) o) ≡ read_with (first_of (rows ++ address_rows s interface o)) o
   unfolding arrived_of address_check
   arrived_rows =
-      read_stop read.Refused (first_of rows) o (λ (q : Outer). read_with (address_check s interface q) q)
-      ∙ sym (stop_append read.Refused rows (address_rows s interface o) (read.Header o))
+      read_stop Err (first_of rows) o (λ (q : Outer). read_with (address_check s interface q) q)
+      ∙ sym (stop_append Err rows (address_rows s interface o) (Ok o))
 
 module _ (s : Settings) (routers : List Router) (d : List ℕ) (rows : List (Bool × Refusal)) (o : Outer) where
   abbrev payload : List ℕ
@@ -82,16 +80,16 @@ module _ (s : Settings) (routers : List Router) (d : List ℕ) (interface : ℕ)
   whole_stages lent = sym (delivered-rows s routers d (arrival_rows s interface lent d (outer_of d)) (outer_of d))
 
 -- what stays, whatever a check says
-stop_same : {A : Type 0} (x : A) (k : Check) → stop_or (λ (r : Refusal). x) k x ≡ x
-stop_same x Pass = refl
-stop_same x (Stop r) = refl
+stop_same : {A : Type 0} (x : A) (k : Result Unit Refusal) → stop_or (λ (r : Refusal). x) k x ≡ x
+stop_same x (Ok tt) = refl
+stop_same x (Err r) = refl
 
 -- an answer behind a check, with what stays collected
-stop_kept : (c : Collection) (k : Check) (x : Received)
+stop_kept : (c : Collection) (k : Result Unit Refusal) (x : Received)
     → ◌≡◌ {A = Collected} (record { answer = stop_or Refused k x; pieces = c })
     (stop_or (λ (r : Refusal). record { answer = Refused r; pieces = c }) k (record { answer = x; pieces = c }))
-stop_kept c Pass x = refl
-stop_kept c (Stop r) x = refl
+stop_kept c (Ok tt) x = refl
+stop_kept c (Err r) x = refl
 
 module _ (s : Settings) (c : Collection) (now : ℕ) (d : List ℕ) (interface : ℕ) (memory : List ℕ) where
   -- a refusal that leaves what is collected
@@ -99,7 +97,7 @@ module _ (s : Settings) (c : Collection) (now : ℕ) (d : List ℕ) (interface :
   refusing r = record { answer = Refused r; pieces = c }
 
   -- 15, 2, 3, 4, 6, 7
-  abbrev check : Check
+  abbrev check : Result Unit Refusal
   check = first_of (arrival_rows s interface (length memory) d (outer_of d))
 
   -- a piece and a whole datagram go through the same stages

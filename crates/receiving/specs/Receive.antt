@@ -1,8 +1,6 @@
 -- Receiving (R5): the order 2 to 10, and what comes of a datagram.
-use Rattle.std.specs.Prelude.{ℕ, Bool, false, not, ◌||◌, List, [], ◌∷◌, length, take, drop, eqb}
+use Rattle.std.specs.Prelude.{ℕ, Bool, false, not, ◌||◌, List, [], ◌∷◌, length, take, drop, eqb, Option, Some, None}
 use Rattle.address.specs.Address.{last_quad, is_bad_source_with}
-use Rattle.address.specs.declared.Embedded.{Embedded}
-use Rattle.address.specs.declared.Embedded.TheVariants.{Ipv4, Nothing}
 use Rattle.refusals.specs.Refusals.{first_of, stop_or}
 use Rattle.refusals.specs.Given.{Given, answered, refused}
 use Rattle.refusals.specs.declared.Refusal.{Refusal}
@@ -20,9 +18,9 @@ use Rattle.receiving.specs.declared.Received.{Received}
 use Rattle.receiving.specs.declared.Received.TheVariants.{Delivered, Joined, Refused}
 
 -- what is embedded is v
-abbrev pub is_embedded : Embedded → ℕ → Bool
-is_embedded (Ipv4 a) v = eqb a v
-is_embedded Nothing v = false
+abbrev pub is_embedded : Option ℕ → ℕ → Bool
+is_embedded (Some a) v = eqb a v
+is_embedded None v = false
 
 -- an ISATAP address that embeds v
 unfoldable pub embeds : Settings → List ℕ → ℕ → Bool

@@ -1,17 +1,14 @@
 -- The orders of receiving in stages, as the code goes through them: 2 to 4, and 2 to 5, are read with the outer header (`header_read_of`,
 -- `outer_read_of`). That they are the tables of `receive_rows` and `arrival_rows` is proved. No contract of node, boundary or program rests on this.
-use Rattle.std.specs.Prelude.{ℕ, ◌<◌, ◌≡◌, Bool, false, cond, not, ◌&&◌, List, [], ◌∷◌, length, eqb}
+use Rattle.std.specs.Prelude.{ℕ, ◌<◌, ◌≡◌, Bool, false, cond, not, ◌&&◌, List, [], ◌∷◌, length, eqb, Result, Err}
 use Rattle.address.specs.Address.{is_link_local, is_identifier}
 use Rattle.address.specs.Quads.{bytes_in}
 use Rattle.refusals.specs.Refusals.{first_of, stop_or}
 use Rattle.refusals.specs.declared.Refusal.{Refusal}
 use Rattle.refusals.specs.declared.Refusal.TheVariants.{NotForUs, OuterSourceForbidden}
-use Rattle.refusals.specs.declared.Check.{Check}
 use Rattle.header.specs.Outer.{outer_of, payload_of, read_with, read_or}
 use Rattle.header.specs.Inner.{inner_of, is_inner_malformed}
 use Rattle.header.specs.declared.outer.Outer.{Outer}
-use Rattle.header.specs.declared.outer.OuterRead.{OuterRead}
-use Rattle.header.specs.declared.outer.OuterRead.TheVariants as read
 use Rattle.header.specs.declared.inner.Inner.{Inner}
 use Rattle.settings.specs.Settings.{forbidden_to, is_our_locator}
 use Rattle.settings.specs.declared.Settings.{Settings}
@@ -36,19 +33,19 @@ abbrev pub address_rows : Settings → ℕ → Outer → List (Bool × Refusal)
 address_rows s interface o = (not (is_our_locator s o.destination interface), NotForUs) ∷ (forbidden_to s o.source, OuterSourceForbidden) ∷ []
 
 -- the first of 6 and 7
-unfoldable pub address_check : Settings → ℕ → Outer → Check
+unfoldable pub address_check : Settings → ℕ → Outer → Result Unit Refusal
 address_check s interface o = first_of (address_rows s interface o)
 
 -- the first of 8, 9 and 10
-unfoldable pub inner_check : Settings → Bool → ℕ → ℕ → Inner → Check
+unfoldable pub inner_check : Settings → Bool → ℕ → ℕ → Inner → Result Unit Refusal
 inner_check s isListed source n i = first_of (inner_rows s isListed source n i)
 
 -- 6 and 7, of a header that is read
-unfoldable pub arrived_of : Settings → ℕ → OuterRead → OuterRead
-arrived_of s interface r = read_or read.Refused r (λ (o : Outer). read_with (address_check s interface o) o)
+unfoldable pub arrived_of : Settings → ℕ → Result Outer Refusal → Result Outer Refusal
+arrived_of s interface r = read_or Err r (λ (o : Outer). read_with (address_check s interface o) o)
 
 -- 15, 2, 3, 4, 6, 7, of a datagram d, where so many bytes of memory are lent
-unfoldable pub arrival_of : Settings → ℕ → ℕ → List ℕ → OuterRead
+unfoldable pub arrival_of : Settings → ℕ → ℕ → List ℕ → Result Outer Refusal
 arrival_of s interface lent d = read_with (first_of (arrival_rows s interface lent d (outer_of d))) (outer_of d)
 
 -- the inner header that is read; of an inner header 8 to 10 ask the version, the length and the source alone
@@ -86,7 +83,7 @@ unfoldable pub whole_opened : Settings → List Router → List ℕ → Outer �
 whole_opened s routers d o = opened_of s routers false o.header o.source (payload_of d o)
 
 -- the same behind the numbers of its arrival
-unfoldable pub delivered_of : Settings → List Router → List ℕ → OuterRead → Received
+unfoldable pub delivered_of : Settings → List Router → List ℕ → Result Outer Refusal → Received
 delivered_of s routers d r = read_or Refused r (λ (o : Outer). whole_opened s routers d o)
 
 -- the place of a joined datagram is one of the eight

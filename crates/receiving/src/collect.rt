@@ -7,7 +7,7 @@ ghost use Rattle.receiving.specs.Stages.{arrival_of, InMemory, ReadAs, judged_wi
 
 use crate::judging::Stage;
 use crate::{arrive, bytes_at, judging, read_whole};
-use header::outer::{Outer, OuterRead};
+use header::outer::Outer;
 use header::{fields, outer};
 use pieces::{Answer, Collection, Key, MEMORY, Piece, Place, ROOM};
 use refusals::Refusal;
@@ -23,11 +23,11 @@ pub struct Gathered {
 }
 
 // The outer header of a datagram that is for us, or the first of the numbers 15, 2, 3, 4, 6 and 7, where so many bytes of memory are lent.
-fn arrival(settings: Settings, d: &[u8], interface: u8, lent: usize) -> OuterRead
+fn arrival(settings: Settings, d: &[u8], interface: u8, lent: usize) -> Result<Outer, Refusal>
     ensures { result ≡ arrival_of settings interface lent d.now }
 {
     if lent < MEMORY {
-        return OuterRead::Refused(Refusal::OutputShort);
+        return Err(Refusal::OutputShort);
     }
     let read = outer::read_header(d);
     arrive(settings, interface, read)
@@ -122,7 +122,7 @@ pub fn gather(
 {
     let arrived = arrival(settings, d, interface, memory.len());
     match arrived {
-        OuterRead::Header(o) => gather_arrived(pieces, time, d, o, memory),
-        OuterRead::Refused(refusal) => unchanged(Stage::Refused(refusal)),
+        Ok(o) => gather_arrived(pieces, time, d, o, memory),
+        Err(refusal) => unchanged(Stage::Refused(refusal)),
     }
 }

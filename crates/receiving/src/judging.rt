@@ -14,7 +14,7 @@ use address::quads::Quads;
 use address::{prefixes, quads};
 use header::inner::Inner;
 use header::{INNER_HEADER, fields, inner};
-use refusals::{Check, Refusal};
+use refusals::Refusal;
 use routers::RouterList;
 use settings::Settings;
 
@@ -132,20 +132,20 @@ fn malformed(x: Opening) -> bool
 }
 
 // Numbers 8, 9 and 10.
-fn check_inner(settings: Settings, routers: RouterList, x: Opening) -> Check
+fn check_inner(settings: Settings, routers: RouterList, x: Opening) -> Result<(), Refusal>
     ensures { result ≡ inner_check settings (listed x.source (live routers)) x.source x.length (inner_in x) }
 {
     if malformed(x) {
-        return Check::Stop(Refusal::InnerMalformed);
+        return Err(Refusal::InnerMalformed);
     }
     let q = x.address;
     if source_bad(settings, q) {
-        return Check::Stop(Refusal::InnerSourceBad);
+        return Err(Refusal::InnerSourceBad);
     }
     if !source_right(settings, routers, x.source, q) {
-        return Check::Stop(Refusal::OuterSourceWrong);
+        return Err(Refusal::OuterSourceWrong);
     }
-    Check::Pass
+    Ok(())
 }
 
 // Where the inner packet stands.
@@ -168,12 +168,12 @@ pub fn judge(settings: Settings, routers: RouterList, stage: Stage) -> Received
         Stage::Open(x) => {
             let check = check_inner(settings, routers, x);
             match check {
-                Check::Pass => placed(Standing {
+                Ok(()) => placed(Standing {
                     joined: x.joined,
                     offset: x.offset,
                     length: x.packet,
                 }),
-                Check::Stop(refusal) => Received::Refused(refusal),
+                Err(refusal) => Received::Refused(refusal),
             }
         }
         Stage::Passed(at) => placed(at),

@@ -10,10 +10,10 @@ ghost use Rattle.routers.specs.Routers.{live};
 ghost use Rattle.receiving.specs.Receive.{received_of, part_of, received_given};
 ghost use Rattle.receiving.specs.Stages.{address_check, arrived_of, whole_opened, delivered_of, ReadAs};
 
-use header::outer::{Outer, OuterRead};
+use header::outer::Outer;
 use header::{fields, outer};
 use judging::Stage;
-use refusals::{Check, Refusal};
+use refusals::Refusal;
 use routers::RouterList;
 use settings::Settings;
 
@@ -45,31 +45,31 @@ impl Received {
 }
 
 // Numbers 6 and 7.
-fn check_addresses(settings: Settings, interface: u8, o: Outer) -> Check
+fn check_addresses(settings: Settings, interface: u8, o: Outer) -> Result<(), Refusal>
     ensures { result ≡ address_check settings interface o }
 {
     if !settings.our_locator(o.destination, interface) {
-        return Check::Stop(Refusal::NotForUs);
+        return Err(Refusal::NotForUs);
     }
     if settings.forbidden_to(o.source) {
-        return Check::Stop(Refusal::OuterSourceForbidden);
+        return Err(Refusal::OuterSourceForbidden);
     }
-    Check::Pass
+    Ok(())
 }
 
 // The outer header of a datagram that is for us, or the number.
-fn arrive(settings: Settings, interface: u8, read: OuterRead) -> OuterRead
+fn arrive(settings: Settings, interface: u8, read: Result<Outer, Refusal>) -> Result<Outer, Refusal>
     ensures { result ≡ arrived_of settings interface read }
 {
     match read {
-        OuterRead::Header(o) => {
+        Ok(o) => {
             let check = check_addresses(settings, interface, o);
             match check {
-                Check::Pass => OuterRead::Header(o),
-                Check::Stop(refusal) => OuterRead::Refused(refusal),
+                Ok(()) => Ok(o),
+                Err(refusal) => Err(refusal),
             }
         }
-        OuterRead::Refused(refusal) => OuterRead::Refused(refusal),
+        Err(refusal) => Err(refusal),
     }
 }
 
@@ -82,12 +82,12 @@ fn read_whole(d: &[u8], o: Outer) -> Stage
 }
 
 // The same, or the number.
-fn stage_whole(d: &[u8], arrived: OuterRead) -> Stage
+fn stage_whole(d: &[u8], arrived: Result<Outer, Refusal>) -> Stage
     ensures { ReadAs (λ s routers. delivered_of s routers d.now arrived) result }
 {
     match arrived {
-        OuterRead::Header(o) => read_whole(d, o),
-        OuterRead::Refused(refusal) => Stage::Refused(refusal),
+        Ok(o) => read_whole(d, o),
+        Err(refusal) => Stage::Refused(refusal),
     }
 }
 

@@ -1,9 +1,7 @@
 -- The numbers given back (R4). 14, Too Big, stands in the answer of sending.
-use Rattle.std.specs.Prelude.{ℕ, ◌≡◌, ◌⊎◌, Bool, cond, List, [], ◌∷◌}
+use Rattle.std.specs.Prelude.{ℕ, ◌≡◌, ◌⊎◌, Bool, cond, List, [], ◌∷◌, Result, Ok, Err}
 use Rattle.refusals.specs.declared.Refusal.{Refusal}
 use Rattle.refusals.specs.declared.Refusal.TheVariants.{Settings, OuterMalformed, OuterChecksum, OtherProtocol, Piece, NotForUs, OuterSourceForbidden, InnerMalformed, InnerSourceBad, OuterSourceWrong, NoLocator, NextHopNotIsatap, TunnelEndForbidden, OutputShort, ReportMalformed, QuoteNotOurs, SizeUnusable, SizeNotBelow, AdvertisementInvalid, AdvertiserNotListed, NoRouterDue, WrappedTooLong, SolicitationInvalid, AskerNotIsatap, OptionsBad, PieceWaits, NoPlace, PiecesDisagree, PieceUnfit, RecordingMalformed}
-use Rattle.refusals.specs.declared.Check.{Check}
-use Rattle.refusals.specs.declared.Check.TheVariants.{Pass, Stop}
 
 -- the number of each row of the table
 abbrev pub number_of : Refusal → ℕ
@@ -39,15 +37,15 @@ number_of PieceUnfit = 30
 number_of RecordingMalformed = 31
 
 -- where several apply, the first in the call's order is given (R1.13)
-abbrev pub first_of : List (Bool × Refusal) → Check
-first_of [] = Pass
-first_of (t ∷ ts) = cond t.0 (Stop t.1) (first_of ts)
+abbrev pub first_of : List (Bool × Refusal) → Result Unit Refusal
+first_of [] = Ok tt
+first_of (t ∷ ts) = cond t.0 (Err t.1) (first_of ts)
 
 module _ {A : Type 0} where
   -- the refusal, where a row of tests has one, in the form of the call's answer; else what follows
-  abbrev pub stop_or : (Refusal → A) → Check → A → A
-  stop_or refuse Pass follows = follows
-  stop_or refuse (Stop refusal) follows = refuse refusal
+  abbrev pub stop_or : (Refusal → A) → Result Unit Refusal → A → A
+  stop_or refuse (Ok passed) follows = follows
+  stop_or refuse (Err refusal) follows = refuse refusal
 
   -- the answer is the refusal of the first fact that holds; where none holds, it is what follows
   abbrev pub AnswersFirst : (Refusal → A) → List (Type 0 × Refusal) → A → A → Type 0

@@ -1,49 +1,43 @@
-// The numbers given back: a name for each refusal of R4, and the first of several tests that refuses.
+// The numbers given back: each refusal of R4 by name.
 #![tactic(auto)]
 
 ghost use Rattle.std.specs.Prelude.{◌≡◌};
+ghost use Rattle.refusals.specs.Given.{number_in};
 ghost use Rattle.refusals.specs.Refusals.{number_of};
 
 // Number 14, Too Big, carries values and stands in the answer of sending.
-#[derive(Clone, Copy)]
+#[derive(Clone, Copy, Debug, PartialEq, Eq)]
 pub enum Refusal {
-    Settings,
-    OuterMalformed,
-    OuterChecksum,
-    OtherProtocol,
-    Piece,
-    NotForUs,
-    OuterSourceForbidden,
-    InnerMalformed,
-    InnerSourceBad,
-    OuterSourceWrong,
-    NoLocator,
-    NextHopNotIsatap,
-    TunnelEndForbidden,
-    OutputShort,
-    ReportMalformed,
-    QuoteNotOurs,
-    SizeUnusable,
-    SizeNotBelow,
-    AdvertisementInvalid,
-    AdvertiserNotListed,
-    NoRouterDue,
-    WrappedTooLong,
-    SolicitationInvalid,
-    AskerNotIsatap,
-    OptionsBad,
-    PieceWaits,
-    NoPlace,
-    PiecesDisagree,
-    PieceUnfit,
-    RecordingMalformed,
-}
-
-// What a row of tests says: nothing against the input, or the first refusal.
-#[derive(Clone, Copy)]
-pub enum Check {
-    Pass,
-    Stop(Refusal),
+    Settings = 1,
+    OuterMalformed = 2,
+    OuterChecksum = 3,
+    OtherProtocol = 4,
+    Piece = 5,
+    NotForUs = 6,
+    OuterSourceForbidden = 7,
+    InnerMalformed = 8,
+    InnerSourceBad = 9,
+    OuterSourceWrong = 10,
+    NoLocator = 11,
+    NextHopNotIsatap = 12,
+    TunnelEndForbidden = 13,
+    OutputShort = 15,
+    ReportMalformed = 16,
+    QuoteNotOurs = 17,
+    SizeUnusable = 18,
+    SizeNotBelow = 19,
+    AdvertisementInvalid = 20,
+    AdvertiserNotListed = 21,
+    NoRouterDue = 22,
+    WrappedTooLong = 23,
+    SolicitationInvalid = 24,
+    AskerNotIsatap = 25,
+    OptionsBad = 26,
+    PieceWaits = 27,
+    NoPlace = 28,
+    PiecesDisagree = 29,
+    PieceUnfit = 30,
+    RecordingMalformed = 31,
 }
 
 impl Refusal {
@@ -51,37 +45,16 @@ impl Refusal {
     pub fn number(self) -> u8
         ensures { result ≡ number_of self }
     {
-        match self {
-            Refusal::Settings => 1,
-            Refusal::OuterMalformed => 2,
-            Refusal::OuterChecksum => 3,
-            Refusal::OtherProtocol => 4,
-            Refusal::Piece => 5,
-            Refusal::NotForUs => 6,
-            Refusal::OuterSourceForbidden => 7,
-            Refusal::InnerMalformed => 8,
-            Refusal::InnerSourceBad => 9,
-            Refusal::OuterSourceWrong => 10,
-            Refusal::NoLocator => 11,
-            Refusal::NextHopNotIsatap => 12,
-            Refusal::TunnelEndForbidden => 13,
-            Refusal::OutputShort => 15,
-            Refusal::ReportMalformed => 16,
-            Refusal::QuoteNotOurs => 17,
-            Refusal::SizeUnusable => 18,
-            Refusal::SizeNotBelow => 19,
-            Refusal::AdvertisementInvalid => 20,
-            Refusal::AdvertiserNotListed => 21,
-            Refusal::NoRouterDue => 22,
-            Refusal::WrappedTooLong => 23,
-            Refusal::SolicitationInvalid => 24,
-            Refusal::AskerNotIsatap => 25,
-            Refusal::OptionsBad => 26,
-            Refusal::PieceWaits => 27,
-            Refusal::NoPlace => 28,
-            Refusal::PiecesDisagree => 29,
-            Refusal::PieceUnfit => 30,
-            Refusal::RecordingMalformed => 31,
-        }
+        self as u8
+    }
+}
+
+// The number of an answer (R4), 0 where the call is not refused.
+pub fn number<T: Drop>(answer: Result<T, Refusal>) -> u8
+    ensures { result ≡ number_in answer }
+{
+    match answer {
+        Ok(_) => 0,
+        Err(refusal) => refusal.number(),
     }
 }

@@ -1,13 +1,8 @@
 // The line of each answer, written from an index on; each function gives the index behind it.
 use crate::line;
 use crate::lines::Text;
-use asking::AskAnswer;
 use header::fields;
-use header::wrap::Written;
-use hearing::HeardAnswer;
 use input::section;
-use node::router_list::ListAnswer;
-use node::size::SizeAnswer;
 use receiving::Received;
 use refusals::Refusal;
 use reports::ReportAnswer;
@@ -84,64 +79,64 @@ pub(crate) fn report(answer: ReportAnswer, at: usize, text: &mut Text) -> usize 
 }
 
 // The count is that of the new list.
-pub(crate) fn routers(answer: ListAnswer, count: usize, at: usize, text: &mut Text) -> usize {
+pub(crate) fn routers(answer: Result<(), Refusal>, count: usize, at: usize, text: &mut Text) -> usize {
     match answer {
-        ListAnswer::Replaced => {
+        Ok(()) => {
             line::number(
                 small(count),
                 line::words(b"routers accepted", at, text),
                 text,
             )
         }
-        ListAnswer::Refused(refusal) => refused(b"routers refuse", refusal, at, text),
+        Err(refusal) => refused(b"routers refuse", refusal, at, text),
     }
 }
 
-pub(crate) fn ask(answer: AskAnswer, out: &[u8], at: usize, text: &mut Text) -> usize {
+pub(crate) fn ask(answer: Result<u32, Refusal>, out: &[u8], at: usize, text: &mut Text) -> usize {
     let end = asked(answer, at, text);
     line::digest(digests::digest(out), end, text)
 }
 
 // Up to the digest.
-fn asked(answer: AskAnswer, at: usize, text: &mut Text) -> usize {
+fn asked(answer: Result<u32, Refusal>, at: usize, text: &mut Text) -> usize {
     match answer {
-        AskAnswer::Router(router) => line::address(router, line::words(b"ask", at, text), text),
-        AskAnswer::Refused(refusal) => refused(b"ask refuse", refusal, at, text),
+        Ok(router) => line::address(router, line::words(b"ask", at, text), text),
+        Err(refusal) => refused(b"ask refuse", refusal, at, text),
     }
 }
 
-pub(crate) fn advertisement(answer: HeardAnswer, at: usize, text: &mut Text) -> usize {
+pub(crate) fn advertisement(answer: Result<u32, Refusal>, at: usize, text: &mut Text) -> usize {
     match answer {
-        HeardAnswer::Router(router) => {
+        Ok(router) => {
             line::address(router, line::words(b"advertisement", at, text), text)
         }
-        HeardAnswer::Refused(refusal) => refused(b"advertisement refuse", refusal, at, text),
+        Err(refusal) => refused(b"advertisement refuse", refusal, at, text),
     }
 }
 
-pub(crate) fn advertise(answer: Written, out: &[u8], at: usize, text: &mut Text) -> usize {
+pub(crate) fn advertise(answer: Result<usize, Refusal>, out: &[u8], at: usize, text: &mut Text) -> usize {
     let end = advertised(answer, at, text);
     line::digest(digests::digest(out), end, text)
 }
 
 // Up to the digest.
-fn advertised(answer: Written, at: usize, text: &mut Text) -> usize {
+fn advertised(answer: Result<usize, Refusal>, at: usize, text: &mut Text) -> usize {
     match answer {
-        Written::Length(length) => {
+        Ok(length) => {
             line::number(
                 small(length),
                 line::words(b"advertise written", at, text),
                 text,
             )
         }
-        Written::Refused(refusal) => refused(b"advertise refuse", refusal, at, text),
+        Err(refusal) => refused(b"advertise refuse", refusal, at, text),
     }
 }
 
-pub(crate) fn size(answer: SizeAnswer, at: usize, text: &mut Text) -> usize {
+pub(crate) fn size(answer: Result<u16, Refusal>, at: usize, text: &mut Text) -> usize {
     match answer {
-        SizeAnswer::Size(size) => line::number(size, line::words(b"size", at, text), text),
-        SizeAnswer::Refused(refusal) => refused(b"size refuse", refusal, at, text),
+        Ok(size) => line::number(size, line::words(b"size", at, text), text),
+        Err(refusal) => refused(b"size refuse", refusal, at, text),
     }
 }
 

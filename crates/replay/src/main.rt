@@ -13,7 +13,7 @@ mod start;
 mod walk;
 mod window;
 
-use node::{Node, Setup, SetupAnswer};
+use node::{Node, Setup};
 use refusals::Refusal;
 use spool::Spool;
 use start::Start;
@@ -57,7 +57,7 @@ fn run(rt: &HostRuntime, spool: &Spool, start: Start) {
     }
     let answer = setup.answer;
     match answer {
-        SetupAnswer::Made => {
+        Ok(()) => {
             let node = setup.node;
             let task = Task {
                 node,
@@ -66,7 +66,7 @@ fn run(rt: &HostRuntime, spool: &Spool, start: Start) {
             };
             walk::make(rt, task, &mut window);
         }
-        SetupAnswer::Refused(refusal) => {
+        Err(refusal) => {
             refused(rt, refusal);
         }
     }

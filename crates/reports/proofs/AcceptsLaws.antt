@@ -1,4 +1,5 @@
 -- A report is accepted exactly when the rules admit it, and refused as they say. Assumes nothing.
+use Rattle.std.specs.Prelude.{Ok}
 use Prim.Native.Nat.{ℕ}
 use mathlib.Core.Path.{◌≡◌, refl}
 use mathlib.Core.Logic.{⊎_elim, inl, inr}
@@ -15,7 +16,6 @@ use Rattle.lists.proofs.Decides.{fails, refutes}
 use Rattle.lists.proofs.Tests.{or_left, or_right, or_three}
 use Rattle.paths.proofs.Largest.{candidate-is, is-candidate, no_candidate}
 use Rattle.refusals.proofs.Laws.{all_false, all_pass}
-use Rattle.refusals.specs.declared.Check.TheVariants.{Pass}
 use Rattle.settings.specs.Settings.{is_ours, is_bad_end}
 use Rattle.settings.proofs.Facts.{decides_ours, decides_bad_end}
 use Rattle.settings.specs.declared.Settings.{Settings}
@@ -92,7 +92,7 @@ module _ (s : Settings) (m : List ℕ) where
         refutes (is_bad_end s v) (decides_bad_end s v) (⊎_elim w.allowed w.foreign),
       )
 
-  passes_check : (v : ℕ) → WellFormed m → OfOurs s m v → report_check s m (outer_of (quote_of m)) ≡ Pass
+  passes_check : (v : ℕ) → WellFormed m → OfOurs s m v → report_check s m (outer_of (quote_of m)) ≡ Ok tt
   unfolding report_check
   passes_check v f o = all_pass (report_rows s m (outer_of (quote_of m))) (formed-passes m f, (ours-passes v o, tt))
 

@@ -1,4 +1,5 @@
 -- What is known of a report that was judged, and of one that is accepted. Assumes nothing.
+use Rattle.std.specs.Prelude.{Option, Some, None, Ok}
 use Prim.Native.Nat.{ℕ, ◌<◌, ◌≤◌}
 use mathlib.Core.Path.{◌≡◌, refl}
 use mathlib.Core.Bool.{Bool, true, false, cond}
@@ -7,25 +8,22 @@ use lib.Dec.{ltb}
 use native.Mathlib.Omega.{arith}
 use borrow.Author.Tests.{lt-ltb, le-ltb, ltb-true}
 use Rattle.header.specs.Outer.{outer_of, quote_of}
-use Rattle.paths.specs.declared.Candidate.{Candidate}
-use Rattle.paths.specs.declared.Candidate.TheVariants.{Size, Unusable}
 use Rattle.refusals.proofs.Laws.{stop_passed}
 use Rattle.refusals.specs.declared.Refusal.TheVariants.{SizeNotBelow}
-use Rattle.refusals.specs.declared.Check.TheVariants.{Pass}
 use Rattle.settings.specs.declared.Settings.{Settings}
 use Rattle.reports.specs.Report.{report_check, neighbour_of, candidate_for, judged_as, judged_of, accepted_below, answer_at}
 use Rattle.reports.specs.declared.Judged.{Judged}
 use Rattle.reports.specs.declared.Judged.TheVariants as judged
 use Rattle.reports.specs.declared.ReportAnswer.TheVariants as answer
 
-judged-size : (k : Candidate) (w v c : ℕ) → judged_as w k ≡ judged.Report v c → (w ≡ v) × (k ≡ Size c)
-judged-size (Size d) w v c e = (cc, cc)
-judged-size Unusable w v c e = (cc, cc)
+judged-size : (k : Option ℕ) (w v c : ℕ) → judged_as w k ≡ judged.Report v c → (w ≡ v) × (k ≡ Some c)
+judged-size (Some d) w v c e = (cc, cc)
+judged-size None w v c e = (cc, cc)
 
 module _ (s : Settings) (m : List ℕ) where
   -- a report has passed 16 and 17; it is of the quoted destination and asks for its candidate
   pub judged-report : (v c : ℕ) → judged_of s m ≡ judged.Report v c
-      → (report_check s m (outer_of (quote_of m)) ≡ Pass) × (neighbour_of m ≡ v) × (candidate_for m ≡ Size c)
+      → (report_check s m (outer_of (quote_of m)) ≡ Ok tt) × (neighbour_of m ≡ v) × (candidate_for m ≡ Some c)
   unfolding judged_of
   judged-report v c e =
       let p = stop_passed judged.Refused (report_check s m (outer_of (quote_of m))) (judged_as (neighbour_of m) (candidate_for m)) (judged.Report v c) (λ r x. let z : ◌≡◌ {A = ℕ} 0 1 = cc in omega arith) e in
@@ -33,7 +31,7 @@ module _ (s : Settings) (m : List ℕ) where
       (p.0, j.0, j.1)
 
   -- what passes 16 and 17 and has a candidate is a report of it
-  pub passed-judged : (v c : ℕ) → report_check s m (outer_of (quote_of m)) ≡ Pass → neighbour_of m ≡ v → candidate_for m ≡ Size c → judged_of s m ≡ judged.Report v c
+  pub passed-judged : (v c : ℕ) → report_check s m (outer_of (quote_of m)) ≡ Ok tt → neighbour_of m ≡ v → candidate_for m ≡ Some c → judged_of s m ≡ judged.Report v c
   unfolding judged_of
   passed-judged v c p n k = rw (p, k, n)
 

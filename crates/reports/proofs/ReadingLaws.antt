@@ -1,5 +1,7 @@
 -- A report that is read first and judged by the settings of two services is judged as one of the service that it belongs to. Assumes nothing.
 --     malformed_parts  16 in two parts.        over-same     what is read and judged so
+use Rattle.std.specs.Prelude.{Option, Some, None, Result, Ok, Err}
+use Rattle.refusals.specs.declared.Refusal.{Refusal}
 use Prim.Native.Nat.{ℕ}
 use mathlib.Core.Path.{◌≡◌, refl, sym, ap, ◌∙◌}
 use mathlib.Core.Bool.{Bool, true, false, cond, not, ◌||◌, ◌&&◌}
@@ -11,12 +13,8 @@ use Rattle.checksum.specs.Sum.{is_right}
 use Rattle.header.specs.Numbers.{ipv6}
 use Rattle.header.specs.Outer.{outer_of, quote_of, is_quote_malformed}
 use Rattle.header.specs.declared.outer.Outer.{Outer}
-use Rattle.paths.specs.declared.Candidate.{Candidate}
-use Rattle.paths.specs.declared.Candidate.TheVariants.{Size, Unusable}
 use Rattle.refusals.specs.Refusals.{first_of, stop_or}
 use Rattle.refusals.specs.declared.Refusal.TheVariants.{ReportMalformed, QuoteNotOurs}
-use Rattle.refusals.specs.declared.Check.{Check}
-use Rattle.refusals.specs.declared.Check.TheVariants.{Pass, Stop}
 use Rattle.settings.specs.Settings.{is_ours, is_bad_end, forbidden_to}
 use Rattle.settings.specs.declared.Settings.{Settings}
 use Rattle.reports.specs.Report.{least_message, is_report_malformed, is_quote_foreign, report_check, neighbour_of, candidate_for, judged_as, judged_of}
@@ -53,7 +51,7 @@ over_with link (judged.Refused refusal) = Refused refusal
 abbrev pub is_other : Settings → Settings → Bool → ℕ → Bool
 is_other a b two source = two && (not (is_ours a source) && is_ours b source)
 
-module _ (v : ℕ) (candidate : Candidate) where
+module _ (v : ℕ) (candidate : Option ℕ) where
   -- by the tests alone: o and w of 16; p and f of 17, whatever the settings; then the source and the neighbour, in each service
   tests : (o w p f two sa sb da db : Bool) (la lb : ℕ)
       → let t : Bool = two && (not sa && sb) in
@@ -83,19 +81,19 @@ module _ (v : ℕ) (candidate : Candidate) where
     by_origin false true = refl
     by_origin false false = refl
 
-    read_stop : (two : Bool) (source : ℕ) (check : Check) → judged_over a b two (stop_or read.Refused check (read.Quote source v candidate)) ≡ stop_or Refused check (quote_over a b (origin_of a b two source) v candidate)
+    read_stop : (two : Bool) (source : ℕ) (check : Result Unit Refusal) → judged_over a b two (stop_or read.Refused check (read.Quote source v candidate)) ≡ stop_or Refused check (quote_over a b (origin_of a b two source) v candidate)
     unfolding judged_over
-    read_stop two source Pass = refl
-    read_stop two source (Stop refusal) = refl
+    read_stop two source (Ok tt) = refl
+    read_stop two source (Err refusal) = refl
 
-over_as : (link v : ℕ) (candidate : Candidate) → over_with link (judged_as v candidate) ≡ over_link false link v candidate
+over_as : (link v : ℕ) (candidate : Option ℕ) → over_with link (judged_as v candidate) ≡ over_link false link v candidate
 unfolding over_link
-over_as link v (Size c) = refl
-over_as link v Unusable = refl
+over_as link v (Some c) = refl
+over_as link v None = refl
 
-judged_stop : (link v : ℕ) (candidate : Candidate) (check : Check) → over_with link (stop_or judged.Refused check (judged_as v candidate)) ≡ stop_or Refused check (over_link false link v candidate)
-judged_stop link v candidate Pass = over_as link v candidate
-judged_stop link v candidate (Stop refusal) = refl
+judged_stop : (link v : ℕ) (candidate : Option ℕ) (check : Result Unit Refusal) → over_with link (stop_or judged.Refused check (judged_as v candidate)) ≡ stop_or Refused check (over_link false link v candidate)
+judged_stop link v candidate (Ok tt) = over_as link v candidate
+judged_stop link v candidate (Err refusal) = refl
 
 module _ (a b : Settings) (m : List ℕ) where
   abbrev quoted : Outer
@@ -112,13 +110,13 @@ module _ (a b : Settings) (m : List ℕ) where
   unfolding reading_of origin_of is_never_ours
   over-same two =
       let v : ℕ = neighbour_of m in
-      let c : Candidate = candidate_for m in
+      let c : Option ℕ = candidate_for m in
       let p : Bool = not (eqb quoted.protocol ipv6) in
       let f : Bool = is_forbidden quoted.destination in
       let sa : Bool = is_ours a quoted.source in
       let sb : Bool = is_ours b quoted.source in
       let t : Bool = is_other a b two quoted.source in
-      let check : Check = first_of ((is_other_message m, ReportMalformed) ∷ (is_quote_wrong m quoted, ReportMalformed) ∷ (p || f, QuoteNotOurs) ∷ []) in
+      let check : Result Unit Refusal = first_of ((is_other_message m, ReportMalformed) ∷ (is_quote_wrong m quoted, ReportMalformed) ∷ (p || f, QuoteNotOurs) ∷ []) in
       let foreign : Bool = p || not (cond t sb sa) || (f || cond t (is_ours b v) (is_ours a v)) in
       read_stop v c a b two quoted.source check ∙ ap (stop_or Refused check) (by_origin v c a b sa (two && sb))
       ∙ tests v c (is_other_message m) (is_quote_wrong m quoted) p f two sa sb (is_ours a v) (is_ours b v) a.link_size b.link_size

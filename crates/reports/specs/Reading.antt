@@ -1,12 +1,10 @@
 -- A size report read before any settings are, and judged by the settings of two services: it is judged as `Report` says, by laws in proofs/. No contract of node, boundary or program rests on this.
-use Rattle.std.specs.Prelude.{ℕ, Bool, true, false, cond, not, ◌||◌, ◌&&◌, List, [], ◌∷◌, eqb, ltb, length, get_or}
+use Rattle.std.specs.Prelude.{ℕ, Bool, true, false, cond, not, ◌||◌, ◌&&◌, List, [], ◌∷◌, eqb, ltb, length, get_or, Option, Some, None}
 use Rattle.address.specs.Address.{is_forbidden}
 use Rattle.checksum.specs.Sum.{is_right}
 use Rattle.header.specs.Numbers.{ipv6}
 use Rattle.header.specs.Outer.{outer_of, quote_of, is_quote_malformed}
 use Rattle.header.specs.declared.outer.Outer.{Outer}
-use Rattle.paths.specs.declared.Candidate.{Candidate}
-use Rattle.paths.specs.declared.Candidate.TheVariants.{Size, Unusable}
 use Rattle.refusals.specs.Refusals.{first_of, stop_or}
 use Rattle.refusals.specs.declared.Refusal.TheVariants.{ReportMalformed, QuoteNotOurs, SizeUnusable}
 use Rattle.settings.specs.Settings.{is_ours}
@@ -46,13 +44,13 @@ unfoldable pub origin_of : Settings → Settings → Bool → ℕ → Origin
 origin_of a b two source = cond (is_ours a source) First (cond (two && is_ours b source) Second Neither)
 
 -- the rest of 17, where the neighbour is our own, then 18; else the neighbour, its candidate and the size of the link
-unfoldable pub over_link : Bool → ℕ → ℕ → Candidate → JudgedOver
+unfoldable pub over_link : Bool → ℕ → ℕ → Option ℕ → JudgedOver
 over_link true link v candidate = Refused QuoteNotOurs
-over_link false link v (Size c) = Report v c link
-over_link false link v Unusable = Refused SizeUnusable
+over_link false link v (Some c) = Report v c link
+over_link false link v None = Refused SizeUnusable
 
 -- by the settings of the service that the report belongs to
-abbrev pub quote_over : Settings → Settings → Origin → ℕ → Candidate → JudgedOver
+abbrev pub quote_over : Settings → Settings → Origin → ℕ → Option ℕ → JudgedOver
 quote_over a b First v candidate = over_link (is_ours a v) a.link_size v candidate
 quote_over a b Second v candidate = over_link (is_ours b v) b.link_size v candidate
 quote_over a b Neither v candidate = Refused QuoteNotOurs

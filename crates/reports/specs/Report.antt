@@ -1,18 +1,15 @@
--- Size reports (R9): 16, 17 and 18 by the settings and the bytes alone, then 19 by the size in force.
-use Rattle.std.specs.Prelude.{ℕ, ◌+◌, Bool, cond, not, ◌||◌, List, [], ◌∷◌, eqb, ltb, length, get_or}
+-- Some reports (R9): 16, 17 and 18 by the settings and the bytes alone, then 19 by the size in force.
+use Rattle.std.specs.Prelude.{ℕ, ◌+◌, Bool, cond, not, ◌||◌, List, [], ◌∷◌, eqb, ltb, length, get_or, Option, Some, None, Result}
 use Rattle.checksum.specs.Sum.{is_right}
 use Rattle.header.specs.Fields.{word_at}
 use Rattle.header.specs.Numbers.{outer_header, ipv6}
 use Rattle.header.specs.Outer.{outer_of, quote_of, is_quote_malformed}
 use Rattle.header.specs.declared.outer.Outer.{Outer}
 use Rattle.paths.specs.Candidate.{candidate_of, is_below}
-use Rattle.paths.specs.declared.Candidate.{Candidate}
-use Rattle.paths.specs.declared.Candidate.TheVariants.{Size, Unusable}
 use Rattle.refusals.specs.Refusals.{first_of, stop_or}
 use Rattle.refusals.specs.Given.{Given, answered, refused}
 use Rattle.refusals.specs.declared.Refusal.{Refusal}
 use Rattle.refusals.specs.declared.Refusal.TheVariants.{ReportMalformed, QuoteNotOurs, SizeUnusable, SizeNotBelow}
-use Rattle.refusals.specs.declared.Check.{Check}
 use Rattle.settings.specs.Settings.{is_ours, is_bad_end}
 use Rattle.settings.specs.declared.Settings.{Settings}
 use Rattle.reports.specs.declared.Judged.{Judged}
@@ -43,7 +40,7 @@ abbrev pub report_rows : Settings → List ℕ → Outer → List (Bool × Refus
 report_rows s m quoted = (is_report_malformed m quoted, ReportMalformed) ∷ (is_quote_foreign s quoted, QuoteNotOurs) ∷ []
 
 -- the first of 16 and 17 that a message gets whose quoted header has these fields
-unfoldable pub report_check : Settings → List ℕ → Outer → Check
+unfoldable pub report_check : Settings → List ℕ → Outer → Result Unit Refusal
 report_check s m quoted = first_of (report_rows s m quoted)
 
 -- the neighbour is the quoted destination
@@ -51,13 +48,13 @@ abbrev pub neighbour_of : List ℕ → ℕ
 neighbour_of m = (outer_of (quote_of m)).destination
 
 -- the candidate is bytes 6 and 7; if 0, the largest plateau below the quoted total length
-unfoldable pub candidate_for : List ℕ → Candidate
+unfoldable pub candidate_for : List ℕ → Option ℕ
 candidate_for m = candidate_of (word_at m 6) (word_at (quote_of m) 2)
 
 -- 18: below 68, or no plateau
-abbrev pub judged_as : ℕ → Candidate → Judged
-judged_as v (Size c) = judged.Report v c
-judged_as v Unusable = judged.Refused SizeUnusable
+abbrev pub judged_as : ℕ → Option ℕ → Judged
+judged_as v (Some c) = judged.Report v c
+judged_as v None = judged.Refused SizeUnusable
 
 -- the first of 16, 17 and 18 that a report's bytes and the settings give, else its neighbour and its candidate
 unfoldable pub judged_of : Settings → List ℕ → Judged

@@ -9,8 +9,8 @@ ghost use Rattle.reports.specs.Report.{is_report_malformed, is_quote_foreign, re
 
 use header::outer::Outer;
 use header::{IPV6, OUTER_HEADER, fields, outer};
-use paths::{Candidate, reported};
-use refusals::{Check, Refusal};
+use paths::reported;
+use refusals::Refusal;
 use settings::Settings;
 
 // What a report asks for by its bytes and the settings: a size toward a neighbour, if it is not refused.
@@ -75,20 +75,20 @@ fn quote_foreign(settings: Settings, quoted: Outer) -> bool
 }
 
 // Numbers 16 and 17.
-fn report_check(settings: Settings, message: &[u8], quoted: Outer) -> Check
+fn report_check(settings: Settings, message: &[u8], quoted: Outer) -> Result<(), Refusal>
     ensures { result ≡ report_check settings message.now quoted }
 {
     if report_malformed(message, quoted) {
-        return Check::Stop(Refusal::ReportMalformed);
+        return Err(Refusal::ReportMalformed);
     }
     if quote_foreign(settings, quoted) {
-        return Check::Stop(Refusal::QuoteNotOurs);
+        return Err(Refusal::QuoteNotOurs);
     }
-    Check::Pass
+    Ok(())
 }
 
 // The size that a message asks for.
-fn candidate_for(message: &[u8]) -> Candidate
+fn candidate_for(message: &[u8]) -> Option<u16>
     ensures { result ≡ candidate_for message.now }
 {
     let size = fields::word(message, 6);
@@ -97,12 +97,12 @@ fn candidate_for(message: &[u8]) -> Candidate
 }
 
 // Number 18.
-fn judged_as(neighbour: u32, candidate: Candidate) -> Judged
+fn judged_as(neighbour: u32, candidate: Option<u16>) -> Judged
     ensures { result ≡ judged_as neighbour candidate }
 {
     match candidate {
-        Candidate::Size(size) => Judged::Report { neighbour, size },
-        Candidate::Unusable => Judged::Refused(Refusal::SizeUnusable),
+        Some(size) => Judged::Report { neighbour, size },
+        None => Judged::Refused(Refusal::SizeUnusable),
     }
 }
 
@@ -113,8 +113,8 @@ pub fn judge(settings: Settings, message: &[u8]) -> Judged
     let quoted = outer::outer_header(outer::quote(message));
     let check = report_check(settings, message, quoted);
     match check {
-        Check::Pass => judged_as(quoted.destination, candidate_for(message)),
-        Check::Stop(refusal) => Judged::Refused(refusal),
+        Ok(()) => judged_as(quoted.destination, candidate_for(message)),
+        Err(refusal) => Judged::Refused(refusal),
     }
 }
 

@@ -6,7 +6,6 @@ ghost use Rattle.reports.specs.Reading.{is_never_ours, read_as, reading_of, orig
 use super::{candidate_for, other_message, quote_wrong};
 use header::outer::Outer;
 use header::{IPV6, outer};
-use paths::Candidate;
 use refusals::Refusal;
 use settings::Settings;
 
@@ -16,7 +15,7 @@ pub enum Reading {
     Quote {
         source: u32,
         neighbour: u32,
-        candidate: Candidate,
+        candidate: Option<u16>,
     },
     Refused(Refusal),
 }
@@ -93,19 +92,19 @@ fn origin_of(first: Settings, second: Settings, two: bool, source: u32) -> Origi
 }
 
 // The rest of number 17, which is that the neighbour is our own, and number 18.
-fn over_link(own: bool, link: u16, neighbour: u32, candidate: Candidate) -> JudgedOver
+fn over_link(own: bool, link: u16, neighbour: u32, candidate: Option<u16>) -> JudgedOver
     ensures { result ≡ over_link own link neighbour candidate }
 {
     if own {
         return JudgedOver::Refused(Refusal::QuoteNotOurs);
     }
     match candidate {
-        Candidate::Size(size) => JudgedOver::Report {
+        Some(size) => JudgedOver::Report {
             neighbour,
             size,
             link,
         },
-        Candidate::Unusable => JudgedOver::Refused(Refusal::SizeUnusable),
+        None => JudgedOver::Refused(Refusal::SizeUnusable),
     }
 }
 
@@ -114,7 +113,7 @@ fn quote_over(
     second: Settings,
     origin: Origin,
     neighbour: u32,
-    candidate: Candidate,
+    candidate: Option<u16>,
 ) -> JudgedOver
     ensures { result ≡ quote_over first second origin neighbour candidate }
 {

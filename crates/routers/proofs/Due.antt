@@ -1,4 +1,5 @@
 -- The router that is asked is the one of the facts; and what a due time that is set leaves. Assumes nothing.
+use Rattle.std.specs.Prelude.{Some, None}
 use Prim.Native.Nat.{ℕ, zero, suc, ◌<◌, ◌≤◌}
 use mathlib.Core.Path.{◌≡◌, refl, sym, ap, subst, ◌∙◌}
 use mathlib.Core.Logic.{◌⊎◌, inl, inr}
@@ -12,7 +13,6 @@ use lib.Dec.{leb}
 use borrow.Author.Tests.{lt-ltb, le-ltb, le-leb, lt-leb, leb-true, leb-false, eq-eqb, ne_eqb}
 use Rattle.routers.specs.declared.Router.{Router}
 use Rattle.routers.specs.declared.RouterList.{RouterList}
-use Rattle.routers.specs.declared.Next.TheVariants.{Due, NoneDue}
 use Rattle.routers.specs.Routers.{places_of, earlier_of, earliest, if_due, next_of, due_if, rescheduled, rescheduled_of}
 use Rattle.routers.specs.Facts.{EarliestDue, NoneIsDue, no_router, OnlyDue}
 use Rattle.routers.proofs.Rows.{pairs-rescheduled}
@@ -114,25 +114,25 @@ stands-earliest s e (f ∷ front) back lower higher = stands-earliest (earlier_o
     ahead r m = of (earlier_of s f) (chosen s f) r (Memᴰ.cases_cons m)
 
 -- the router that is asked is due, and the earliest
-pub earliest-due : (now a : ℕ) (rs : List Router) → next_of now rs ≡ Due a → EarliestDue now rs a
+pub earliest-due : (now a : ℕ) (rs : List Router) → next_of now rs ≡ Some a → EarliestDue now rs a
 unfolding next_of
 earliest-due now a [] h = let z : ◌≡◌ {A = ℕ} 0 1 = cc in absurd (omega arith)
 earliest-due now a (r ∷ rs) h = go (leb (earliest r rs).due now) refl h
   where
-    go : (t : Bool) → leb (earliest r rs).due now ≡ t → cond t (Due (earliest r rs).address) NoneDue ≡ Due a → EarliestDue now (r ∷ rs) a
+    go : (t : Bool) → leb (earliest r rs).due now ≡ t → cond t (Some (earliest r rs).address) None ≡ Some a → EarliestDue now (r ∷ rs) a
     go true e h =
         let w = earliest-stands r rs in
         record { front = w.front; router = earliest r rs; back = w.back; stands = w.stands; address = cc; due = leb-true _ _ e; lower = w.lower; higher = w.higher }
     go false e h = let z : ◌≡◌ {A = ℕ} 0 1 = cc in absurd (omega arith)
 
-pub due-earliest : (now a : ℕ) (rs : List Router) → EarliestDue now rs a → next_of now rs ≡ Due a
+pub due-earliest : (now a : ℕ) (rs : List Router) → EarliestDue now rs a → next_of now rs ≡ Some a
 unfolding next_of
 due-earliest now a rs d = rw d.stands (go d.front d.lower)
   where
-    named : if_due now d.router ≡ Due a
+    named : if_due now d.router ≡ Some a
     named = rw (le-leb d.router.due now d.due, d.address)
 
-    go : (front : List Router) → ((r : Router) → Memᴰ r front → d.router.due < r.due) → next_of now (front ++ d.router ∷ d.back) ≡ Due a
+    go : (front : List Router) → ((r : Router) → Memᴰ r front → d.router.due < r.due) → next_of now (front ++ d.router ∷ d.back) ≡ Some a
     go [] lower = ap (if_due now) (stands-kept d.router d.back d.higher) ∙ named
     go (s ∷ front) lower = ap (if_due now) (stands-earliest s d.router front d.back lower d.higher) ∙ named
 
@@ -152,16 +152,16 @@ stands_in : (rs : List Router) (e : Router) → Stands rs e → Memᴰ e rs
 stands_in rs e w = subst (Memᴰ e) (sym w.stands) (Memᴰ.append_right w.front (Memᴰ.head refl))
 
 -- 22: no router is due
-pub none-due : (now : ℕ) (rs : List Router) → next_of now rs ≡ NoneDue → NoneIsDue now rs
+pub none-due : (now : ℕ) (rs : List Router) → next_of now rs ≡ None → NoneIsDue now rs
 unfolding next_of
 none-due now [] h x m = absurd (Memᴰ.not-nil m)
 none-due now (r ∷ rs) h x m = go (leb (earliest r rs).due now) refl h
   where
-    go : (t : Bool) → leb (earliest r rs).due now ≡ t → cond t (Due (earliest r rs).address) NoneDue ≡ NoneDue → now < x.due
+    go : (t : Bool) → leb (earliest r rs).due now ≡ t → cond t (Some (earliest r rs).address) None ≡ None → now < x.due
     go true e h = let z : ◌≡◌ {A = ℕ} 0 1 = cc in absurd (omega arith)
     go false e h = omega (arith, leb-false (earliest r rs).due now e, stands-least (r ∷ rs) (earliest r rs) (earliest-stands r rs) x m)
 
-pub due-none : (now : ℕ) (rs : List Router) → NoneIsDue now rs → next_of now rs ≡ NoneDue
+pub due-none : (now : ℕ) (rs : List Router) → NoneIsDue now rs → next_of now rs ≡ None
 unfolding next_of
 due-none now [] n = refl
 due-none now (r ∷ rs) n = rw (lt-leb (earliest r rs).due now (n (earliest r rs) (stands_in (r ∷ rs) (earliest r rs) (earliest-stands r rs))))

@@ -1,5 +1,6 @@
 -- Which router is the earliest, told from any router t of the list: t itself, or one ahead of it.
 -- Assumes nothing.
+use Rattle.std.specs.Prelude.{Some}
 use mathlib.Core.Path.{◌≡◌, refl, ◌∙◌}
 use mathlib.Core.Logic.{◌⊎◌, inl, inr}
 use mathlib.Core.List.Memᴰ
@@ -10,7 +11,6 @@ use native.Mathlib.Omega.{arith}
 use lib.Dec.{ltb}
 use borrow.Author.Tests.{ltb-true, ltb-false, le-leb}
 use Rattle.routers.specs.declared.Router.{Router}
-use Rattle.routers.specs.declared.Next.TheVariants.{Due}
 use Rattle.routers.specs.Routers.{earlier_of, earliest, if_due, next_of}
 
 -- e is t, or ahead of it: before t and due no later, or behind t and due earlier
@@ -68,11 +68,11 @@ ahead s t (f ∷ front) back = go (earlier_of s f) _ (chosen s f) (ahead (earlie
 
 -- where t is due, an asking serves it or one ahead of it
 pub next_ahead : (now : ℕ) (t : Router) (front back : List Router) → t.due ≤ now
-    → (e : Router) × (next_of now (front ++ t ∷ back) ≡ Due e.address) × Ahead t front back e
+    → (e : Router) × (next_of now (front ++ t ∷ back) ≡ Some e.address) × Ahead t front back e
 unfolding next_of
 next_ahead now t front back due = go front
   where
-    named : (e : Router) (front : List Router) → Ahead t front back e → (d : Router) × (if_due now e ≡ Due d.address) × Ahead t front back d
+    named : (e : Router) (front : List Router) → Ahead t front back e → (d : Router) × (if_due now e ≡ Some d.address) × Ahead t front back d
     named e front (inl h) = let l : e.due ≤ now = rw h due in (e, rw (le-leb _ _ l), inl h)
     named e front (inr (inl m)) = let l : e.due ≤ now = let k = m.1 in omega arith in (e, rw (le-leb _ _ l), inr (inl m))
     named e front (inr (inr m)) = let l : e.due ≤ now = let k = m.1 in omega arith in (e, rw (le-leb _ _ l), inr (inr m))
@@ -81,6 +81,6 @@ next_ahead now t front back due = go front
     first e (inl h) = inl h
     first e (inr m) = inr (inr m)
 
-    go : (front : List Router) → (e : Router) × (next_of now (front ++ t ∷ back) ≡ Due e.address) × Ahead t front back e
+    go : (front : List Router) → (e : Router) × (next_of now (front ++ t ∷ back) ≡ Some e.address) × Ahead t front back e
     go [] = named _ [] (first _ (behind t back))
     go (s ∷ front) = named _ (s ∷ front) (ahead s t front back)

@@ -1,11 +1,10 @@
 -- R13.6: which routers are served, over any list of calls that leaves the router list unchanged.
+use Rattle.std.specs.Prelude.{Option, Some, None}
 use Prim.Native.Nat.{ℕ, ◌+◌, ◌≤◌, max}
 use mathlib.Core.Path.{◌≡◌}
 use mathlib.Core.List.{List, [], ◌∷◌, ◌++◌, Memᴰ}
 use lib.ListN.{length, take}
 use Rattle.routers.specs.declared.Router.{Router}
-use Rattle.routers.specs.declared.Next.{Next}
-use Rattle.routers.specs.declared.Next.TheVariants.{Due, NoneDue}
 use Rattle.routers.specs.Routers.{next_of, rescheduled}
 
 -- a call, at a time (0 for a call without one): an asking that no number but 22 refuses; an accepted advertisement of the router of an
@@ -16,14 +15,14 @@ pub data RouterCall : Type 0 where
   other : ℕ → RouterCall
 
 -- the answer of an asking names the router; a refused one names none
-abbrev pub answer : Next → List ℕ
-answer (Due a) = a ∷ []
-answer NoneDue = []
+abbrev pub answer : Option ℕ → List ℕ
+answer (Some a) = a ∷ []
+answer None = []
 
 -- the due time of the router that is asked becomes d
-abbrev pub after_asking : Next → ℕ → List Router → List Router
-after_asking (Due a) d rs = rescheduled a d rs
-after_asking NoneDue d rs = rs
+abbrev pub after_asking : Option ℕ → ℕ → List Router → List Router
+after_asking (Some a) d rs = rescheduled a d rs
+after_asking None d rs = rs
 
 -- the addresses of the routers that are served, one for each answered asking: v is the interval, t the latest time before the calls
 unfoldable pub served : ℕ → ℕ → List Router → List RouterCall → List ℕ

@@ -1,10 +1,8 @@
 -- R2.13, R13: what the calls of the router list give.
-use Rattle.std.specs.Prelude.{ℕ, List, [], ◌∷◌, map, Bool, true, cond, not, ◌&&◌, take, ltb, leb, eqb}
+use Rattle.std.specs.Prelude.{ℕ, List, [], ◌∷◌, map, Bool, true, cond, not, ◌&&◌, take, ltb, leb, eqb, Option, Some, None}
 use Rattle.lists.specs.Any.{any_of}
 use Rattle.routers.specs.declared.Router.{Router}
 use Rattle.routers.specs.declared.RouterList.{RouterList}
-use Rattle.routers.specs.declared.Next.{Next}
-use Rattle.routers.specs.declared.Next.TheVariants.{Due, NoneDue}
 
 -- the routers that a row of addresses and a row of due times hold, place by place
 abbrev pub pairs : List ℕ → List ℕ → List Router
@@ -38,12 +36,12 @@ earliest r [] = r
 earliest r (s ∷ rs) = earliest (earlier_of r s) rs
 
 -- R13.3: a router is asked if its due time is not in the future
-abbrev pub if_due : ℕ → Router → Next
-if_due now r = cond (leb r.due now) (Due r.address) NoneDue
+abbrev pub if_due : ℕ → Router → Option ℕ
+if_due now r = cond (leb r.due now) (Some r.address) None
 
 -- R13.3: the router with the earliest due time that is not in the future, lowest place on a tie
-unfoldable pub next_of : ℕ → List Router → Next
-next_of now [] = NoneDue
+unfoldable pub next_of : ℕ → List Router → Option ℕ
+next_of now [] = None
 next_of now (r ∷ rs) = if_due now (earliest r rs)
 
 -- the due time of the router of that address, and `other` if it is not listed

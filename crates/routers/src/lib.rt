@@ -24,22 +24,15 @@ pub struct RouterList {
     pub count: usize,
 }
 
-// The router to be asked, by its address.
-#[derive(Clone, Copy)]
-pub enum Next {
-    Due(u32),
-    NoneDue,
-}
-
 impl Router {
     // The router, if its due time is not in the future.
-    fn if_due(self, now: u32) -> Next
+    fn if_due(self, now: u32) -> Option<u32>
         ensures { result ≡ if_due now self }
     {
         if self.due <= now as u64 {
-            Next::Due(self.address)
+            Some(self.address)
         } else {
-            Next::NoneDue
+            None
         }
     }
 }
@@ -71,12 +64,12 @@ pub fn lists_among(addresses: &[u32], count: usize, address: u32) -> bool
 }
 
 // Of the routers of the first `count` places the one with the earliest due time that is not in the future, lowest place on a tie.
-pub fn next_among<'a>(addresses: &'a [u32], dues: &'a [u64], count: usize, time: u32) -> Next
+pub fn next_among<'a>(addresses: &'a [u32], dues: &'a [u64], count: usize, time: u32) -> Option<u32>
     ensures { result ≡ next_of time (held_in addresses.now dues.now count) }
 {
     let n = lists::least(count, lists::least(addresses.len(), dues.len()));
     if n == 0 {
-        return Next::NoneDue;
+        return None;
     }
     let mut best = Router {
         address: addresses[0],
@@ -164,7 +157,7 @@ impl RouterList {
     }
 
     // The router with the earliest due time that is not in the future, lowest place on a tie.
-    pub fn next(self, now: u32) -> Next
+    pub fn next(self, now: u32) -> Option<u32>
         ensures { result ≡ next_of now (live self) }
     {
         let addresses = self.addresses;

@@ -1,15 +1,11 @@
 -- What an answer says of the plan, and a plan of the tests. Assumes nothing.
-use Rattle.std.proofs.Common.{◌≡◌, ℕ, ◌<◌, ◌≤◌, Bool, true, false, cond, ltb, ◌⊎◌, List, length, refl, ap, inl, inr, arith, ltb-false, ltb-true}
+use Rattle.std.proofs.Common.{◌≡◌, ℕ, ◌<◌, ◌≤◌, Bool, true, false, cond, ltb, ◌⊎◌, List, length, refl, ap, inl, inr, arith, ltb-false, ltb-true, Result, Ok, Err}
 use Rattle.header.specs.Inner.{may_draw_error}
 use Rattle.header.specs.Wrap.{writer_answer, wrap_answer}
-use Rattle.header.specs.declared.wrap.Written.{Written}
-use Rattle.header.specs.declared.wrap.Written.TheVariants as written
 use Rattle.messages.specs.Icmp.{too_big_answer}
 use Rattle.paths.specs.Packets.{largest_packet}
 use Rattle.refusals.proofs.Laws.{stop_passed}
 use Rattle.refusals.specs.declared.Refusal.{Refusal}
-use Rattle.refusals.specs.declared.Check.{Check}
-use Rattle.refusals.specs.declared.Check.TheVariants.{Pass, Stop}
 use Rattle.settings.specs.Locators.{address_of}
 use Rattle.settings.specs.Settings.{locator_of}
 use Rattle.settings.specs.declared.Settings.{Settings}
@@ -20,29 +16,29 @@ use Rattle.sending.specs.declared.judging.Plan.TheVariants.{Wrap, Tell, Silent, 
 use Rattle.sending.specs.declared.SendAnswer.TheVariants.{Wrapped, TooBig}
 
 -- a writer that names a length has passed its check
-pub writer_passed : (check : Check) (n len : ℕ) → writer_answer check n ≡ written.Length len → (check ≡ Pass) × (len ≡ n)
-writer_passed Pass n len e = (refl, cc)
-writer_passed (Stop r) n len e = (cc, cc)
+pub writer_passed : (check : Result Unit Refusal) (n len : ℕ) → writer_answer check n ≡ Ok len → (check ≡ Ok tt) × (len ≡ n)
+writer_passed (Ok tt) n len e = (refl, cc)
+writer_passed (Err r) n len e = (cc, cc)
 
-wrapped-named : (w : Written) (len : ℕ) → wrapped_as w ≡ Wrapped len → w ≡ written.Length len
-wrapped-named (written.Length n) len e = cc
-wrapped-named (written.Refused r) len e = cc
+wrapped-named : (w : Result ℕ Refusal) (len : ℕ) → wrapped_as w ≡ Wrapped len → w ≡ Ok len
+wrapped-named (Ok n) len e = cc
+wrapped-named (Err r) len e = cc
 
-wrapped-not_big : (w : Written) (m len : ℕ) → wrapped_as w ≡ TooBig m len → ⊥
-wrapped-not_big (written.Length n) m len e = let z : ◌≡◌ {A = ℕ} 0 1 = cc in omega arith
-wrapped-not_big (written.Refused r) m len e = let z : ◌≡◌ {A = ℕ} 0 1 = cc in omega arith
+wrapped-not_big : (w : Result ℕ Refusal) (m len : ℕ) → wrapped_as w ≡ TooBig m len → ⊥
+wrapped-not_big (Ok n) m len e = let z : ◌≡◌ {A = ℕ} 0 1 = cc in omega arith
+wrapped-not_big (Err r) m len e = let z : ◌≡◌ {A = ℕ} 0 1 = cc in omega arith
 
-told_named : (size : ℕ) (w : Written) (m len : ℕ) → told_as size w ≡ TooBig m len → (size ≡ m) × (w ≡ written.Length len)
-told_named size (written.Length n) m len e = (cc, cc)
-told_named size (written.Refused r) m len e = (cc, cc)
+told_named : (size : ℕ) (w : Result ℕ Refusal) (m len : ℕ) → told_as size w ≡ TooBig m len → (size ≡ m) × (w ≡ Ok len)
+told_named size (Ok n) m len e = (cc, cc)
+told_named size (Err r) m len e = (cc, cc)
 
-told-not-wrapped : (size : ℕ) (w : Written) (len : ℕ) → told_as size w ≡ Wrapped len → ⊥
-told-not-wrapped size (written.Length n) len e = let z : ◌≡◌ {A = ℕ} 0 1 = cc in omega arith
-told-not-wrapped size (written.Refused r) len e = let z : ◌≡◌ {A = ℕ} 0 1 = cc in omega arith
+told-not-wrapped : (size : ℕ) (w : Result ℕ Refusal) (len : ℕ) → told_as size w ≡ Wrapped len → ⊥
+told-not-wrapped size (Ok n) len e = let z : ◌≡◌ {A = ℕ} 0 1 = cc in omega arith
+told-not-wrapped size (Err r) len e = let z : ◌≡◌ {A = ℕ} 0 1 = cc in omega arith
 
 module _ (n room : ℕ) where
   -- a packet is answered as wrapped only where that is the plan, and with the length that the writer names
-  pub wrapped_plan : (plan : Plan) (len : ℕ) → plan_answer plan n room ≡ Wrapped len → ((source : ℕ) × (plan ≡ Wrap source)) × (wrap_answer n room ≡ written.Length len)
+  pub wrapped_plan : (plan : Plan) (len : ℕ) → plan_answer plan n room ≡ Wrapped len → ((source : ℕ) × (plan ≡ Wrap source)) × (wrap_answer n room ≡ Ok len)
   wrapped_plan (Wrap source) len e = ((source, refl), wrapped-named (wrap_answer n room) len e)
   wrapped_plan (Tell size) len e = absurd (told-not-wrapped size (too_big_answer n room) len e)
   wrapped_plan (Silent size) len e = let z : ◌≡◌ {A = ℕ} 0 1 = cc in absurd (omega arith)
@@ -50,7 +46,7 @@ module _ (n room : ℕ) where
 
   -- Too Big is answered with the length of the message that the writer names, or without a message
   pub big_plan : (plan : Plan) (m len : ℕ) → plan_answer plan n room ≡ TooBig m len
-      → ((plan ≡ Tell m) × (too_big_answer n room ≡ written.Length len)) ⊎ ((plan ≡ Silent m) × (len ≡ 0))
+      → ((plan ≡ Tell m) × (too_big_answer n room ≡ Ok len)) ⊎ ((plan ≡ Silent m) × (len ≡ 0))
   big_plan (Wrap source) m len e = absurd (wrapped-not_big (wrap_answer n room) m len e)
   big_plan (Tell size) m len e = let f = told_named size (too_big_answer n room) m len e in inl (ap Tell f.0, f.1)
   big_plan (Silent size) m len e = inr (cc, cc)
@@ -77,12 +73,12 @@ module _ (s : Settings) (P : ℕ) (packet hop : List ℕ) (k : ℕ) where
 
   -- a plan that is no refusal has passed 8, 11, 12 and 13
   passed : (plan : Plan) → ((r : Refusal) → Refuse r ≡ plan → ⊥) → plan_of s P packet hop k ≡ plan
-      → (send_check s packet hop k ≡ Pass) × (sized_plan P packet (address_of (locator_of s k)) ≡ plan)
+      → (send_check s packet hop k ≡ Ok tt) × (sized_plan P packet (address_of (locator_of s k)) ≡ plan)
   unfolding plan_of
   passed plan other e = stop_passed Refuse (send_check s packet hop k) (sized_plan P packet (address_of (locator_of s k))) plan other e
 
   pub plan_wrap : (a : ℕ) → plan_of s P packet hop k ≡ Wrap a
-      → (send_check s packet hop k ≡ Pass) × (length packet ≤ largest_packet P) × (address_of (locator_of s k) ≡ a)
+      → (send_check s packet hop k ≡ Ok tt) × (length packet ≤ largest_packet P) × (address_of (locator_of s k) ≡ a)
   unfolding sized_plan
   plan_wrap a e =
       let p = passed (Wrap a) (λ r x. let z : ◌≡◌ {A = ℕ} 0 1 = cc in omega arith) e in
@@ -90,7 +86,7 @@ module _ (s : Settings) (P : ℕ) (packet hop : List ℕ) (k : ℕ) where
       (p.0, ltb-false (largest_packet P) (length packet) f.0, f.1)
 
   pub plan_tell : (m : ℕ) → plan_of s P packet hop k ≡ Tell m
-      → (send_check s packet hop k ≡ Pass) × (largest_packet P < length packet) × (may_draw_error packet ≡ true) × (largest_packet P ≡ m)
+      → (send_check s packet hop k ≡ Ok tt) × (largest_packet P < length packet) × (may_draw_error packet ≡ true) × (largest_packet P ≡ m)
   unfolding sized_plan
   plan_tell m e =
       let p = passed (Tell m) (λ r x. let z : ◌≡◌ {A = ℕ} 0 1 = cc in omega arith) e in
@@ -98,7 +94,7 @@ module _ (s : Settings) (P : ℕ) (packet hop : List ℕ) (k : ℕ) where
       (p.0, ltb-true (largest_packet P) (length packet) f.0, f.1, f.2)
 
   pub plan_silent : (m : ℕ) → plan_of s P packet hop k ≡ Silent m
-      → (send_check s packet hop k ≡ Pass) × (largest_packet P < length packet) × (may_draw_error packet ≡ false) × (largest_packet P ≡ m)
+      → (send_check s packet hop k ≡ Ok tt) × (largest_packet P < length packet) × (may_draw_error packet ≡ false) × (largest_packet P ≡ m)
   unfolding sized_plan
   plan_silent m e =
       let p = passed (Silent m) (λ r x. let z : ◌≡◌ {A = ℕ} 0 1 = cc in omega arith) e in

@@ -1,5 +1,5 @@
 -- 14 is given exactly when the rules say, and so is every refusal. Assumes nothing.
-use Rattle.std.proofs.Common.{◌≡◌, ℕ, ◌<◌, ◌≤◌, true, ltb, List, [], ◌∷◌, length, ap, ◌∙◌, inl, inr, ⊎_elim, arith, ltb-false, lt-ltb}
+use Rattle.std.proofs.Common.{◌≡◌, ℕ, ◌<◌, ◌≤◌, true, ltb, List, [], ◌∷◌, length, ap, ◌∙◌, inl, inr, ⊎_elim, arith, ltb-false, lt-ltb, Ok, Err}
 use Rattle.header.specs.Draws.{DrawsMessage}
 use Rattle.header.specs.Inner.{may_draw_error}
 use Rattle.header.specs.Numbers.{inner_header}
@@ -16,7 +16,6 @@ use Rattle.paths.proofs.PacketsLaws.{larger-of-both, larger-is}
 use Rattle.refusals.proofs.Laws.{all_false}
 use Rattle.refusals.specs.declared.Refusal.{Refusal}
 use Rattle.refusals.specs.declared.Refusal.TheVariants.{InnerMalformed, OutputShort}
-use Rattle.refusals.specs.declared.Check.TheVariants.{Pass, Stop}
 use Rattle.settings.specs.Locators.{address_of}
 use Rattle.settings.specs.Settings.{locator_of}
 use Rattle.settings.specs.declared.Settings.{Settings}
@@ -30,7 +29,7 @@ use Rattle.sending.specs.declared.Sent.{Sent}
 use Rattle.sending.specs.declared.judging.Plan.TheVariants.{Wrap, Tell, Silent}
 use Rattle.sending.specs.declared.SendAnswer.TheVariants.{TooBig}
 
-big_fits : (n room : ℕ) → too_big_check n room ≡ Pass → too_big_length n ≤ room
+big_fits : (n room : ℕ) → too_big_check n room ≡ Ok tt → too_big_length n ≤ room
 unfolding too_big_check
 big_fits n room e =
     let t = all_false ((ltb n inner_header, InnerMalformed) ∷ ((ltb room (too_big_length n), OutputShort) ∷ [])) e in
@@ -38,7 +37,7 @@ big_fits n room e =
 
 module _ (s : Settings) (P : ℕ) (packet hop : List ℕ) (k : ℕ) where
   -- a packet that passes 8, 11, 12 and 13 and is longer than M has the facts of 14
-  exceeding : send_check s packet hop k ≡ Pass → largest_packet P < length packet → (M : ℕ) → largest_packet P ≡ M → Exceeds s P packet hop k M
+  exceeding : send_check s packet hop k ≡ Ok tt → largest_packet P < length packet → (M : ℕ) → largest_packet P ≡ M → Exceeds s P packet hop k M
   exceeding c l M e = record { passes = (address_of (locator_of s k), check_passes s packet hop k c); largest = rw (← e) (larger-of-both P); longer = rw (← e) l }
 
   module _ (M : ℕ) (f : Exceeds s P packet hop k M) where
@@ -90,15 +89,15 @@ module _ (s : Settings) (P : ℕ) (packet hop : List ℕ) (k : ℕ) where
     abbrev Stops : Refusal → Type 0
     Stops r = Refuses s i P packet hop k out sent.answer sent.identification output r
 
-    stopped : (r : Refusal) → send_check s packet hop k ≡ Stop r → Stops r
+    stopped : (r : Refusal) → send_check s packet hop k ≡ Err r → Stops r
     unfolding sent_of sent_output plan_of
     stopped r e = ((rw e, rw e), rw e)
 
-    unwrapped : (a : ℕ) (r : Refusal) → plan_of s P packet hop k ≡ Wrap a → wrap_check (length packet) (length out) ≡ Stop r → Stops r
+    unwrapped : (a : ℕ) (r : Refusal) → plan_of s P packet hop k ≡ Wrap a → wrap_check (length packet) (length out) ≡ Err r → Stops r
     unfolding sent_of sent_output wrap_answer wrap_output
     unwrapped a r p e = ((rw p (rw e), rw p (rw e)), rw p (rw e))
 
-    untold : (M : ℕ) (r : Refusal) → plan_of s P packet hop k ≡ Tell M → too_big_check (length packet) (length out) ≡ Stop r → Stops r
+    untold : (M : ℕ) (r : Refusal) → plan_of s P packet hop k ≡ Tell M → too_big_check (length packet) (length out) ≡ Err r → Stops r
     unfolding sent_of sent_output too_big_answer too_big_output
     untold M r p e = ((rw p (rw e), rw p (rw e)), rw p (rw e))
 

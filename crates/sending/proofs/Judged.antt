@@ -1,14 +1,12 @@
 -- 8, 11, 12 and 13 in plain facts: the row of tests passes exactly if the facts hold, and stops at the first that does not. Assumes nothing.
-use Rattle.std.proofs.Common.{◌≡◌, ℕ, Bool, true, false, cond, ◌&&◌, List, length, refl, inl, inr, ⊎_elim, arith}
+use Rattle.std.proofs.Common.{◌≡◌, ℕ, Bool, true, false, cond, ◌&&◌, List, length, refl, inl, inr, ⊎_elim, arith, Some, None, Ok, Err}
 use Rattle.address.specs.Address.{last_quad, is_on_link, is_identifier, embedded_in}
 use Rattle.address.specs.Prefixes.{rows_of}
-use Rattle.address.specs.declared.Embedded.TheVariants as embedded
 use Rattle.header.specs.Inner.{inner_of, is_packet_malformed}
 use Rattle.header.proofs.InnerLaws.{packet-whole, whole-packet}
 use Rattle.lists.proofs.Decides.{fails, refutes}
 use Rattle.refusals.proofs.Laws.{all_false, all_pass}
 use Rattle.refusals.specs.declared.Refusal.TheVariants.{InnerMalformed, NoLocator, NextHopNotIsatap, TunnelEndForbidden}
-use Rattle.refusals.specs.declared.Check.TheVariants.{Pass, Stop}
 use Rattle.settings.specs.Facts.{BadEnd, IsatapTo, LocatorAt}
 use Rattle.settings.specs.Locators.{address_of, is_no_locator}
 use Rattle.settings.specs.Settings.{locator_of, embedded_to, is_bad_end}
@@ -17,7 +15,7 @@ use Rattle.settings.specs.declared.Settings.{Settings}
 use Rattle.sending.specs.Plan.{is_not_isatap, send_rows, send_check}
 use Rattle.sending.specs.Wraps.{Whole, Passes}
 
-embeds : (b : Bool) (a : ℕ) → is_not_isatap (cond b (embedded.Ipv4 a) embedded.Nothing) ≡ false → cond b (embedded.Ipv4 a) embedded.Nothing ≡ embedded.Ipv4 a
+embeds : (b : Bool) (a : ℕ) → is_not_isatap (cond b (Some a) None) ≡ false → cond b (Some a) None ≡ Some a
 unfolding is_not_isatap
 embeds true a e = refl
 embeds false a e = cc
@@ -51,14 +49,14 @@ module _ (s : Settings) (packet hop : List ℕ) (k : ℕ) where
       embedded_to_lem s hop (last_quad hop) (embeds (is_on_link (rows_of s.prefixes) s.prefix_count hop && is_identifier hop) (last_quad hop) e)
 
   -- where the facts hold the row passes
-  pub passes_check : (a : ℕ) → Passes s packet hop k a → send_check s packet hop k ≡ Pass
+  pub passes_check : (a : ℕ) → Passes s packet hop k a → send_check s packet hop k ≡ Ok tt
   unfolding send_check
   passes_check a f =
       let end = refutes (is_bad_end s (last_quad hop)) (decides_bad_end s (last_quad hop)) (⊎_elim f.allowed f.foreign) in
       all_pass (send_rows s packet hop k) (whole-passes f.whole, (locator-passes a f.locator, (isatap-passes (last_quad hop) f.isatap, (end, tt))))
 
   -- a packet that passes 8, 11, 12 and 13 has the facts
-  pub check_passes : send_check s packet hop k ≡ Pass → Passes s packet hop k (address_of (locator_of s k))
+  pub check_passes : send_check s packet hop k ≡ Ok tt → Passes s packet hop k (address_of (locator_of s k))
   unfolding send_check
   check_passes e =
       let rows = all_false (send_rows s packet hop k) e in
@@ -71,18 +69,18 @@ module _ (s : Settings) (packet hop : List ℕ) (k : ℕ) where
         foreign = λ f. end (inr f);
       }
 
-  pub malformed_stops : (Whole packet → ⊥) → send_check s packet hop k ≡ Stop InnerMalformed
+  pub malformed_stops : (Whole packet → ⊥) → send_check s packet hop k ≡ Err InnerMalformed
   unfolding send_check
   malformed_stops n = rw (not-whole malformed refl n)
 
-  pub no_locator_stops : Whole packet → ((a : ℕ) → LocatorAt s k a → ⊥) → send_check s packet hop k ≡ Stop NoLocator
+  pub no_locator_stops : Whole packet → ((a : ℕ) → LocatorAt s k a → ⊥) → send_check s packet hop k ≡ Err NoLocator
   unfolding send_check
   no_locator_stops w n = rw (whole-passes w, (decides_no_locator s k).passes n)
 
-  pub not-isatap_stops : (a : ℕ) → Whole packet → LocatorAt s k a → ((v : ℕ) → IsatapTo s hop v → ⊥) → send_check s packet hop k ≡ Stop NextHopNotIsatap
+  pub not-isatap_stops : (a : ℕ) → Whole packet → LocatorAt s k a → ((v : ℕ) → IsatapTo s hop v → ⊥) → send_check s packet hop k ≡ Err NextHopNotIsatap
   unfolding send_check is_not_isatap
   not-isatap_stops a w l n = rw (whole-passes w, locator-passes a l, no_isatap_to s hop n)
 
-  pub bad_end_stops : (a v : ℕ) → Whole packet → LocatorAt s k a → IsatapTo s hop v → BadEnd s (last_quad hop) → send_check s packet hop k ≡ Stop TunnelEndForbidden
+  pub bad_end_stops : (a v : ℕ) → Whole packet → LocatorAt s k a → IsatapTo s hop v → BadEnd s (last_quad hop) → send_check s packet hop k ≡ Err TunnelEndForbidden
   unfolding send_check
   bad_end_stops a v w l f b = rw (whole-passes w, locator-passes a l, isatap-passes v f, (decides_bad_end s (last_quad hop)).passes b)

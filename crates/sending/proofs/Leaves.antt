@@ -1,13 +1,11 @@
 -- What a sending that wraps nothing leaves: after a refusal everything, with 14 everything but its message. Assumes nothing.
-use Rattle.std.proofs.Common.{◌≡◌, ℕ, cond, List, [], length, sym, refl, ◌∙◌, ⊎_elim, arith, length-append, length-take}
+use Rattle.std.proofs.Common.{◌≡◌, ℕ, cond, List, [], length, sym, refl, ◌∙◌, ⊎_elim, arith, length-append, length-take, Result, Ok, Err}
 use Rattle.header.specs.Fields.{address_at}
 use Rattle.header.specs.Inner.{may_draw_error}
 use Rattle.header.specs.Wrap.{writer_answer, writer_output, wrapped, wrap_check, wrap_answer, wrap_output}
 use Rattle.lent.specs.Written.{written}
 use Rattle.messages.specs.Icmp.{icmp_message, icmp_packet, too_big_of, too_big_length, too_big_check, too_big_answer, too_big_output}
 use Rattle.refusals.specs.declared.Refusal.{Refusal}
-use Rattle.refusals.specs.declared.Check.{Check}
-use Rattle.refusals.specs.declared.Check.TheVariants.{Pass, Stop}
 use Rattle.settings.specs.declared.Settings.{Settings}
 use Rattle.sending.specs.Plan.{plan_of}
 use Rattle.sending.specs.Sending.{fields_for, wrapped_as, told_as, plan_answer, plan_output, sent_of, sent_output}
@@ -27,13 +25,13 @@ unfolding too_big_of icmp_packet icmp_message address_at
 length-too_big reporting size packet h = simp (length-append, length-take) (omega arith)
 
 -- a writer that refuses writes nothing
-wrapped_leaves : (check : Check) (n : ℕ) (w out : List ℕ) (r : Refusal) → wrapped_as (writer_answer check n) ≡ Refused r → writer_output check w out ≡ out
-wrapped_leaves Pass n w out r e = cc
-wrapped_leaves (Stop x) n w out r e = refl
+wrapped_leaves : (check : Result Unit Refusal) (n : ℕ) (w out : List ℕ) (r : Refusal) → wrapped_as (writer_answer check n) ≡ Refused r → writer_output check w out ≡ out
+wrapped_leaves (Ok tt) n w out r e = cc
+wrapped_leaves (Err x) n w out r e = refl
 
-told_leaves : (size : ℕ) (check : Check) (n : ℕ) (w out : List ℕ) (r : Refusal) → told_as size (writer_answer check n) ≡ Refused r → writer_output check w out ≡ out
-told_leaves size Pass n w out r e = cc
-told_leaves size (Stop x) n w out r e = refl
+told_leaves : (size : ℕ) (check : Result Unit Refusal) (n : ℕ) (w out : List ℕ) (r : Refusal) → told_as size (writer_answer check n) ≡ Refused r → writer_output check w out ≡ out
+told_leaves size (Ok tt) n w out r e = cc
+told_leaves size (Err x) n w out r e = refl
 
 module _ (s : Settings) (i P : ℕ) (packet hop out : List ℕ) where
   plan_leaves : (plan : Plan) (r : Refusal) → plan_answer plan (length packet) (length out) ≡ Refused r → plan_output plan s i P packet hop out ≡ out

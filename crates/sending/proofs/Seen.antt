@@ -1,17 +1,14 @@
 -- What demand 3 sees of a sending: 14 with the size it names, or any other answer, by the path size. Assumes nothing.
-use Rattle.std.proofs.Common.{◌≡◌, ℕ, Bool, true, false, cond, not, ◌&&◌, ltb, List, length, refl, arith}
+use Rattle.refusals.specs.declared.Refusal.{Refusal}
+use Rattle.std.proofs.Common.{◌≡◌, ℕ, Bool, true, false, cond, not, ◌&&◌, ltb, List, length, refl, arith, Result, Ok, Err}
 use Rattle.header.specs.Inner.{may_draw_error}
 use Rattle.header.specs.Wrap.{wrap_answer}
-use Rattle.header.specs.declared.wrap.Written.{Written}
-use Rattle.header.specs.declared.wrap.Written.TheVariants as written
 use Rattle.messages.specs.Icmp.{too_big_length, too_big_check, too_big_answer}
 use Rattle.messages.proofs.WriterLaws.{too_big_room}
 use Rattle.paths.proofs.Calls.{Answer, too_big, other, send_answer}
 use Rattle.paths.specs.Packets.{largest_packet}
 use Rattle.refusals.specs.Refusals.{stop_or}
 use Rattle.refusals.specs.declared.Refusal.TheVariants.{OutputShort}
-use Rattle.refusals.specs.declared.Check.{Check}
-use Rattle.refusals.specs.declared.Check.TheVariants.{Pass, Stop}
 use Rattle.settings.specs.Locators.{address_of}
 use Rattle.settings.specs.Settings.{locator_of}
 use Rattle.settings.specs.declared.Settings.{Settings}
@@ -33,15 +30,15 @@ abbrev pub takes_message : List ℕ → ℕ → Bool
 takes_message packet room = not (may_draw_error packet && ltb room (too_big_length (length packet)))
 
 -- what is seen of a call that was stopped before 14, or came to it
-abbrev pub seen_after : Check → Answer → Answer
+abbrev pub seen_after : Result Unit Refusal → Answer → Answer
 seen_after check a = stop_or (λ refusal. other) check a
 
-wrapped_seen : (w : Written) → too_big_seen (wrapped_as w) ≡ other
-wrapped_seen (written.Length n) = refl
-wrapped_seen (written.Refused r) = refl
+wrapped_seen : (w : Result ℕ Refusal) → too_big_seen (wrapped_as w) ≡ other
+wrapped_seen (Ok n) = refl
+wrapped_seen (Err r) = refl
 
 module _ (n room : ℕ) where
-  seen_by : (big may short : Bool) (size source : ℕ) → too_big_check n room ≡ cond short (Stop OutputShort) Pass
+  seen_by : (big may short : Bool) (size source : ℕ) → too_big_check n room ≡ cond short (Err OutputShort) (Ok tt)
       → too_big_seen (plan_answer (cond big (cond may (Tell size) (Silent size)) (Wrap source)) n room) ≡ cond (big && not (may && short)) (too_big size) other
   unfolding too_big_answer
   seen_by true true true size source e = rw e
@@ -50,15 +47,15 @@ module _ (n room : ℕ) where
   seen_by false may short size source e = wrapped_seen (wrap_answer n room)
 
 module _ (s : Settings) (i P : ℕ) (packet hop : List ℕ) (k room : ℕ) where
-  seen_after_lem : (check : Check) → send_check s packet hop k ≡ check
+  seen_after_lem : (check : Result Unit Refusal) → send_check s packet hop k ≡ check
       → too_big_seen (sent_of s i P packet hop k room).answer ≡ seen_after check (send_answer (largest_packet P) (length packet) (takes_message packet room))
   unfolding sent_of plan_of sized_plan
-  seen_after_lem Pass e =
+  seen_after_lem (Ok tt) e =
       let w = (check_passes s packet hop k e).whole in
       rw e
       (seen_by (length packet) room (ltb (largest_packet P) (length packet)) (may_draw_error packet) (ltb room (too_big_length (length packet))) (largest_packet P)
       (address_of (locator_of s k)) (too_big_room (length packet) room (omega (arith, w.1))))
-  seen_after_lem (Stop r) e = rw e
+  seen_after_lem (Err r) e = rw e
 
   -- 14 is given exactly as the rules of sending say for P, in every call that comes to it
   pub sent_seen : too_big_seen (sent_of s i P packet hop k room).answer

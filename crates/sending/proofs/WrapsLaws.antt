@@ -1,5 +1,5 @@
 -- A packet is wrapped exactly when the rules admit it. Assumes nothing.
-use Rattle.std.proofs.Common.{◌≡◌, ℕ, ◌+◌, ◌%◌, ◌<◌, ◌≤◌, Bool, true, false, ltb, ◌↔◌, List, [], ◌∷◌, length, sym, refl, ltb-false, le-ltb}
+use Rattle.std.proofs.Common.{◌≡◌, ℕ, ◌+◌, ◌%◌, ◌<◌, ◌≤◌, Bool, true, false, ltb, ◌↔◌, List, [], ◌∷◌, length, sym, refl, ltb-false, le-ltb, Ok}
 use Rattle.address.specs.Address.{last_quad}
 use Rattle.header.specs.Numbers.{outer_header}
 use Rattle.header.specs.Wrap.{longest_total, wrapped, outer_bytes, wrap_check, wrap_answer, wrap_output}
@@ -10,7 +10,6 @@ use Rattle.paths.specs.Packets.{least_mtu, dont_fragment}
 use Rattle.paths.proofs.PacketsLaws.{takes, taken, decides_flag}
 use Rattle.refusals.proofs.Laws.{all_false}
 use Rattle.refusals.specs.declared.Refusal.TheVariants.{WrappedTooLong, OutputShort}
-use Rattle.refusals.specs.declared.Check.TheVariants.{Pass}
 use Rattle.settings.specs.Locators.{address_of}
 use Rattle.settings.specs.Settings.{locator_of}
 use Rattle.settings.proofs.Facts.{locator-found}
@@ -23,7 +22,7 @@ use Rattle.sending.proofs.Judged.{passes_check, check_passes}
 use Rattle.sending.specs.declared.judging.Plan.TheVariants.{Wrap}
 use Rattle.sending.specs.declared.SendAnswer.TheVariants.{Wrapped}
 
-wrap-fits : (n room : ℕ) → wrap_check n room ≡ Pass → (outer_header + n ≤ longest_total) × (outer_header + n ≤ room)
+wrap-fits : (n room : ℕ) → wrap_check n room ≡ Ok tt → (outer_header + n ≤ longest_total) × (outer_header + n ≤ room)
 unfolding wrap_check
 wrap-fits n room e =
     let t = all_false ((ltb longest_total (outer_header + n), WrappedTooLong) ∷ ((ltb room (outer_header + n), OutputShort) ∷ [])) e in
@@ -56,7 +55,7 @@ module _ (s : Settings) (P : ℕ) (packet hop : List ℕ) (k : ℕ) where
 
     -- what keeps the rules is wrapped
     module _ (a : ℕ) (w : Wraps s P packet hop k (length out) a) where
-      wraps_check : wrap_check (length packet) (length out) ≡ Pass
+      wraps_check : wrap_check (length packet) (length out) ≡ Ok tt
       wraps_check = wrap_pass (length packet) (length out) w.total w.output
 
       wraps_wrapped : ((sent_of s i P packet hop k (length out)).answer ≡ Wrapped (outer_header + length packet))

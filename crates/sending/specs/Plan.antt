@@ -1,14 +1,11 @@
 -- What a sending comes to (R7), before a byte is written: 8, 11, 12, 13, then 14. 23 and 15 are the writers'.
-use Rattle.std.specs.Prelude.{ℕ, Bool, true, false, cond, List, [], ◌∷◌, length, nat_lt}
+use Rattle.std.specs.Prelude.{ℕ, Bool, true, false, cond, List, [], ◌∷◌, length, nat_lt, Option, Some, None, Result}
 use Rattle.address.specs.Address.{last_quad}
-use Rattle.address.specs.declared.Embedded.{Embedded}
-use Rattle.address.specs.declared.Embedded.TheVariants as embedded
 use Rattle.header.specs.Inner.{inner_of, is_packet_malformed, may_draw_error}
 use Rattle.paths.specs.Packets.{largest_packet}
 use Rattle.refusals.specs.Refusals.{first_of, stop_or}
 use Rattle.refusals.specs.declared.Refusal.{Refusal}
 use Rattle.refusals.specs.declared.Refusal.TheVariants.{InnerMalformed, NoLocator, NextHopNotIsatap, TunnelEndForbidden}
-use Rattle.refusals.specs.declared.Check.{Check}
 use Rattle.settings.specs.Locators.{address_of, is_no_locator}
 use Rattle.settings.specs.Settings.{locator_of, embedded_to, is_bad_end}
 use Rattle.settings.specs.declared.Settings.{Settings}
@@ -16,9 +13,9 @@ use Rattle.sending.specs.declared.judging.Plan.{Plan}
 use Rattle.sending.specs.declared.judging.Plan.TheVariants.{Wrap, Tell, Silent, Refuse}
 
 -- 12: the next hop is no ISATAP address
-unfoldable pub is_not_isatap : Embedded → Bool
-is_not_isatap (embedded.Ipv4 a) = false
-is_not_isatap embedded.Nothing = true
+unfoldable pub is_not_isatap : Option ℕ → Bool
+is_not_isatap (Some a) = false
+is_not_isatap None = true
 
 -- 8: the packet's length must equal 40 + payload length; 11; 12; 13: the tunnel end, the last 32 bits of the next hop, is
 -- forbidden or our own
@@ -31,7 +28,7 @@ send_rows s packet hop k =
     ∷ []
 
 -- the first of 8, 11, 12 and 13 that a packet to that next hop gets, from locator k
-unfoldable pub send_check : Settings → List ℕ → List ℕ → ℕ → Check
+unfoldable pub send_check : Settings → List ℕ → List ℕ → ℕ → Result Unit Refusal
 send_check s packet hop k = first_of (send_rows s packet hop k)
 
 -- if n > M: 14 (R7.7), with a message where the packet may draw one. Otherwise the packet is wrapped (R7.10), from the locator's address

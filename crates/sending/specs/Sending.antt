@@ -1,11 +1,10 @@
 -- A sending (R7): its answer, the next identification, and what it leaves in the output.
-use Rattle.std.specs.Prelude.{ℕ, ◌+◌, ◌%◌, List, [], ◌∷◌, length}
+use Rattle.refusals.specs.declared.Refusal.{Refusal}
+use Rattle.std.specs.Prelude.{ℕ, ◌+◌, ◌%◌, List, [], ◌∷◌, length, Result, Ok, Err}
 use Rattle.address.specs.Address.{last_quad}
 use Rattle.header.specs.Numbers.{ipv6}
 use Rattle.header.specs.Wrap.{wrap_answer, wrap_output}
 use Rattle.header.specs.declared.wrap.OuterFields.{OuterFields}
-use Rattle.header.specs.declared.wrap.Written.{Written}
-use Rattle.header.specs.declared.wrap.Written.TheVariants as written
 use Rattle.messages.specs.Icmp.{too_big_answer, too_big_output}
 use Rattle.paths.specs.Packets.{dont_fragment}
 use Rattle.refusals.specs.Given.{Given, answered, refused}
@@ -18,14 +17,14 @@ use Rattle.sending.specs.declared.SendAnswer.{SendAnswer}
 use Rattle.sending.specs.declared.SendAnswer.TheVariants.{Wrapped, TooBig, Refused}
 
 -- what is answered for a packet that is wrapped: the length written, or why nothing is
-abbrev pub wrapped_as : Written → SendAnswer
-wrapped_as (written.Length n) = Wrapped n
-wrapped_as (written.Refused refusal) = Refused refusal
+abbrev pub wrapped_as : Result ℕ Refusal → SendAnswer
+wrapped_as (Ok n) = Wrapped n
+wrapped_as (Err refusal) = Refused refusal
 
 -- what is answered for a packet that is too big, with M and the length of the message written
-abbrev pub told_as : ℕ → Written → SendAnswer
-told_as size (written.Length n) = TooBig size n
-told_as size (written.Refused refusal) = Refused refusal
+abbrev pub told_as : ℕ → Result ℕ Refusal → SendAnswer
+told_as size (Ok n) = TooBig size n
+told_as size (Err refusal) = Refused refusal
 
 -- what is answered for a packet of n bytes with that much room: 23 and 15 are the writers'
 abbrev pub plan_answer : Plan → ℕ → ℕ → SendAnswer

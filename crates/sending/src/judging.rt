@@ -4,10 +4,10 @@ ghost use Rattle.header.specs.Inner.{inner_of, is_packet_malformed};
 ghost use Rattle.settings.specs.Settings.{embedded_to};
 ghost use Rattle.sending.specs.Plan.{is_not_isatap, send_check, sized_plan, plan_of};
 
-use address::{Embedded, prefixes};
+use address::prefixes;
 use header::{INNER_HEADER, inner};
 use paths::packets;
-use refusals::{Check, Refusal};
+use refusals::Refusal;
 use settings::{Settings, locators};
 
 // Room and total length are the writer's to judge, which refuses by 23 and 15 itself.
@@ -33,12 +33,12 @@ fn packet_malformed(packet: &[u8]) -> bool
 }
 
 // Number 12, of what the next hop embeds.
-fn not_isatap(embedded: Embedded) -> bool
+fn not_isatap(embedded: Option<u32>) -> bool
     ensures { result ≡ is_not_isatap embedded }
 {
     match embedded {
-        Embedded::Ipv4(_) => false,
-        Embedded::Nothing => true,
+        Some(_) => false,
+        None => true,
     }
 }
 
@@ -54,22 +54,22 @@ fn next_hop_not_isatap(settings: Settings, next_hop: [u8; 16]) -> bool
 }
 
 // Numbers 8, 11, 12 and 13.
-fn send_check(settings: Settings, packet: &[u8], next_hop: [u8; 16], locator: usize) -> Check
+fn send_check(settings: Settings, packet: &[u8], next_hop: [u8; 16], locator: usize) -> Result<(), Refusal>
     ensures { result ≡ send_check settings packet.now next_hop locator }
 {
     if packet_malformed(packet) {
-        return Check::Stop(Refusal::InnerMalformed);
+        return Err(Refusal::InnerMalformed);
     }
     if locators::none(settings.locator(locator)) {
-        return Check::Stop(Refusal::NoLocator);
+        return Err(Refusal::NoLocator);
     }
     if next_hop_not_isatap(settings, next_hop) {
-        return Check::Stop(Refusal::NextHopNotIsatap);
+        return Err(Refusal::NextHopNotIsatap);
     }
     if settings.bad_end(address::last_quad(next_hop)) {
-        return Check::Stop(Refusal::TunnelEndForbidden);
+        return Err(Refusal::TunnelEndForbidden);
     }
-    Check::Pass
+    Ok(())
 }
 
 // Number 14: a packet that is longer than the largest gets a message if it may draw one.
@@ -98,11 +98,11 @@ pub(crate) fn send_plan(
 {
     let check = send_check(settings, packet, next_hop, locator);
     match check {
-        Check::Pass => sized_plan(
+        Ok(()) => sized_plan(
             path_size,
             packet,
             locators::address_of(settings.locator(locator)),
         ),
-        Check::Stop(refusal) => Plan::Refuse(refusal),
+        Err(refusal) => Plan::Refuse(refusal),
     }
 }

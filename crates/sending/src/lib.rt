@@ -6,7 +6,7 @@ mod judging;
 ghost use Rattle.std.specs.Prelude.{◌≡◌, length};
 ghost use Rattle.sending.specs.Sending.{fields_for, wrapped_as, told_as, plan_answer, plan_output, identification_after, sent_of, sent_output, send_given};
 
-use header::wrap::{OuterFields, Written};
+use header::wrap::OuterFields;
 use header::{IPV6, wrap};
 use judging::{Plan, send_plan};
 use paths::packets;
@@ -52,25 +52,25 @@ fn fields_for(
 }
 
 // The answer for a packet that is wrapped: what the writer says.
-fn wrapped_as(written: Written) -> SendAnswer
+fn wrapped_as(written: Result<usize, Refusal>) -> SendAnswer
     ensures { result ≡ wrapped_as written }
 {
     match written {
-        Written::Length(length) => SendAnswer::Wrapped(length),
-        Written::Refused(refusal) => SendAnswer::Refused(refusal),
+        Ok(length) => SendAnswer::Wrapped(length),
+        Err(refusal) => SendAnswer::Refused(refusal),
     }
 }
 
 // The answer for a packet that is too big, about which a message is written.
-fn told_as(size: u16, written: Written) -> SendAnswer
+fn told_as(size: u16, written: Result<usize, Refusal>) -> SendAnswer
     ensures { result ≡ told_as size written }
 {
     match written {
-        Written::Length(length) => SendAnswer::TooBig {
+        Ok(length) => SendAnswer::TooBig {
             size,
             written: length,
         },
-        Written::Refused(refusal) => SendAnswer::Refused(refusal),
+        Err(refusal) => SendAnswer::Refused(refusal),
     }
 }
 

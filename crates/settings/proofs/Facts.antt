@@ -1,4 +1,5 @@
 -- The tests on settings pass exactly if the facts hold. Assumes nothing.
+use Rattle.std.specs.Prelude.{Option, Some, None}
 use Prim.Native.Nat.{ℕ, min}
 use mathlib.Core.Path.{◌≡◌, refl}
 use mathlib.Core.Bool.{Bool, true, false, cond}
@@ -10,20 +11,17 @@ use lib.Dec.{ltb}
 use Rattle.lists.proofs.Decides.{Decides, decides_lack, decides_as, decides_eq, decides_or, decides_and, decides_any}
 use Rattle.address.specs.Address.{last_quad, is_bad_source_with}
 use Rattle.address.specs.Facts.{BadSource}
-use Rattle.address.specs.declared.Embedded.TheVariants as embedded
 use Rattle.address.specs.Prefixes.{rows_of}
 use Rattle.address.proofs.Facts.{decides_forbidden, decides_bad_source, embedded-isatap, isatap-embedded, none_found}
 use Rattle.settings.specs.Locators.{no_locator, is_at, is_locator, locator_found, address_of, is_no_locator}
 use Rattle.settings.specs.Settings.{locators_of, locator_of, forbidden_to, is_ours, is_our_locator, is_bad_end, embedded_to}
 use Rattle.settings.specs.Facts.{ForbiddenTo, Ours, OurLocator, BadEnd, IsatapTo, LocatorAt}
-use Rattle.settings.specs.declared.locators.Found.{Found}
-use Rattle.settings.specs.declared.locators.Found.TheVariants.{Address, Nothing}
 use Rattle.settings.specs.declared.Settings.{Settings}
 
-address-found : (f : Found) → is_no_locator f ≡ false → f ≡ Address (address_of f)
+address-found : (f : Option ℕ) → is_no_locator f ≡ false → f ≡ Some (address_of f)
 unfolding is_no_locator
-address-found (Address a) e = refl
-address-found Nothing e = cc
+address-found (Some a) e = refl
+address-found None e = cc
 
 module _ (s : Settings) where
   pub decides_forbidden_to : (a : ℕ) → Decides (forbidden_to s a) (ForbiddenTo s a)
@@ -49,29 +47,29 @@ module _ (s : Settings) where
 
   -- an ISATAP address is found exactly if there is one
   module _ (a : List ℕ) where
-    pub embedded_to_lem : (v : ℕ) → embedded_to s a ≡ embedded.Ipv4 v → IsatapTo s a v
+    pub embedded_to_lem : (v : ℕ) → embedded_to s a ≡ Some v → IsatapTo s a v
     unfolding embedded_to
     embedded_to_lem v h = embedded-isatap a (rows_of s.prefixes) s.prefix_count v h
 
-    pub isatap_to : (v : ℕ) → IsatapTo s a v → embedded_to s a ≡ embedded.Ipv4 v
+    pub isatap_to : (v : ℕ) → IsatapTo s a v → embedded_to s a ≡ Some v
     unfolding embedded_to
     isatap_to v f = isatap-embedded a (rows_of s.prefixes) s.prefix_count v f
 
-    pub no_isatap_to : ((v : ℕ) → IsatapTo s a v → ⊥) → embedded_to s a ≡ embedded.Nothing
+    pub no_isatap_to : ((v : ℕ) → IsatapTo s a v → ⊥) → embedded_to s a ≡ None
     unfolding embedded_to
     no_isatap_to n = none_found a (rows_of s.prefixes) s.prefix_count n
 
   -- a locator is found exactly if there is one
   module _ (number : ℕ) where
-    pub found-locator : (a : ℕ) → locator_of s number ≡ Address a → LocatorAt s number a
+    pub found-locator : (a : ℕ) → locator_of s number ≡ Some a → LocatorAt s number a
     unfolding locator_of locator_found
     found-locator a h = go (ltb number (min s.locator_count 8)) refl h
       where
-        go : (t : Bool) → ltb number (min s.locator_count 8) ≡ t → cond t (Address (get_or s.locators number no_locator).address) Nothing ≡ Address a → LocatorAt s number a
+        go : (t : Bool) → ltb number (min s.locator_count 8) ≡ t → cond t (Some (get_or s.locators number no_locator).address) None ≡ Some a → LocatorAt s number a
         go true e h = let l = ltb-true number (min s.locator_count 8) e in (omega arith, omega arith, cc)
         go false e h = let z : ◌≡◌ {A = ℕ} 0 1 = cc in absurd (omega arith)
 
-    pub locator-found : (a : ℕ) → LocatorAt s number a → locator_of s number ≡ Address a
+    pub locator-found : (a : ℕ) → LocatorAt s number a → locator_of s number ≡ Some a
     unfolding locator_of locator_found
     locator-found a f = rw (lt-ltb number (min s.locator_count 8) (omega arith), f.2)
 

@@ -1,8 +1,6 @@
 -- Locators (R2).
-use Rattle.std.specs.Prelude.{ℕ, min, Bool, true, false, cond, ◌&&◌, List, get_or, eqb, ltb}
+use Rattle.std.specs.Prelude.{ℕ, min, Bool, true, false, cond, ◌&&◌, List, get_or, eqb, ltb, Option, Some, None}
 use Rattle.settings.specs.declared.locators.Locator.{Locator}
-use Rattle.settings.specs.declared.locators.Found.{Found}
-use Rattle.settings.specs.declared.locators.Found.TheVariants.{Address, Nothing}
 
 -- what stands at a place without a locator
 abbrev pub no_locator : Locator
@@ -21,15 +19,15 @@ abbrev pub same_locator : Locator → Locator → Bool
 same_locator l = is_locator l.address l.interface
 
 -- the address of a locator by its number, counted from 0, of the first `count` of eight
-unfoldable pub locator_found : List Locator → ℕ → ℕ → Found
-locator_found ls count number = cond (ltb number (min count 8)) (Address (get_or ls number no_locator).address) Nothing
+unfoldable pub locator_found : List Locator → ℕ → ℕ → Option ℕ
+locator_found ls count number = cond (ltb number (min count 8)) (Some (get_or ls number no_locator).address) None
 
 -- the address of a locator that was found; 0 where there is none, and then 11 is given
-abbrev pub address_of : Found → ℕ
-address_of (Address a) = a
-address_of Nothing = 0
+abbrev pub address_of : Option ℕ → ℕ
+address_of (Some a) = a
+address_of None = 0
 
 -- 11: no locator of that number
-unfoldable pub is_no_locator : Found → Bool
-is_no_locator (Address a) = false
-is_no_locator Nothing = true
+unfoldable pub is_no_locator : Option ℕ → Bool
+is_no_locator (Some a) = false
+is_no_locator None = true

@@ -1,13 +1,11 @@
 -- The settings: defaults and rules (R2).
-use Rattle.std.specs.Prelude.{ℕ, Bool, not, ◌&&◌, ◌||◌, List, get_or, take, leb}
+use Rattle.std.specs.Prelude.{ℕ, Bool, not, ◌&&◌, ◌||◌, List, get_or, take, leb, Option}
 use Rattle.lists.specs.Any.{any_of, twice}
 use Rattle.address.specs.Address.{is_forbidden, embedded_in, link_local_of, is_multicast_or_unspecified}
 use Rattle.address.specs.Prefixes.{rows_of}
-use Rattle.address.specs.declared.Embedded.{Embedded}
 use Rattle.routers.specs.Routers.{are_distinct}
 use Rattle.settings.specs.Locators.{no_locator, is_at, is_locator, same_locator, locator_found}
 use Rattle.settings.specs.declared.locators.Locator.{Locator}
-use Rattle.settings.specs.declared.locators.Found.{Found}
 use Rattle.settings.specs.declared.Settings.{Settings}
 
 -- the defaults: L 1,500, TTL 64, interval 120, identification 1, reporting address the link-local address of locator 0
@@ -31,7 +29,7 @@ abbrev pub locators_of : Settings → List Locator
 locators_of s = take s.locator_count s.locators
 
 -- the locator of number k
-unfoldable pub locator_of : Settings → ℕ → Found
+unfoldable pub locator_of : Settings → ℕ → Option ℕ
 locator_of s k = locator_found s.locators s.locator_count k
 
 -- the addresses that are forbidden under these settings
@@ -51,7 +49,7 @@ unfoldable pub is_bad_end : Settings → ℕ → Bool
 is_bad_end s a = forbidden_to s a || is_ours s a
 
 -- the IPv4 address of an ISATAP address under the settings' prefixes
-unfoldable pub embedded_to : Settings → List ℕ → Embedded
+unfoldable pub embedded_to : Settings → List ℕ → Option ℕ
 embedded_to s a = embedded_in (rows_of s.prefixes) s.prefix_count a
 
 -- the locator has a forbidden address

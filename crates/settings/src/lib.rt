@@ -7,7 +7,7 @@ ghost use Rattle.std.specs.Prelude.{◌≡◌, take};
 ghost use Rattle.lists.specs.Any.{any_of};
 ghost use Rattle.settings.specs.Settings.{defaults_for, locator_of, forbidden_to, is_ours, is_our_locator, is_bad_end, are_locators_right, are_numbers_right, are_routers_right, is_accepted, is_forbidden_locator, share_address, are_pair_accepted};
 
-use locators::{Found, Locator};
+use locators::Locator;
 
 // Laid out as in C, as all that a node holds is.
 #[repr(C)]
@@ -68,7 +68,7 @@ impl Settings {
     }
 
     // The locator of that number.
-    pub fn locator(self, number: usize) -> Found
+    pub fn locator(self, number: usize) -> Option<u32>
         ensures { result ≡ locator_of self number }
     {
         let all = self.locators;

@@ -10,42 +10,36 @@ pub struct Locator {
     pub interface: u8,
 }
 
-#[derive(Clone, Copy)]
-pub enum Found {
-    Address(u32),
-    Nothing,
-}
-
 // The address of the locator of that number.
-pub fn locator_address(all: [Locator; 8], count: usize, number: usize) -> Found
+pub fn locator_address(all: [Locator; 8], count: usize, number: usize) -> Option<u32>
     ensures { result ≡ locator_found all count number }
 {
     let n = lists::least(count, 8);
     if number < n {
         let l = all[number];
-        Found::Address(l.address)
+        Some(l.address)
     } else {
-        Found::Nothing
+        None
     }
 }
 
 // The address of a locator that was found, 0 where there is none.
-pub fn address_of(found: Found) -> u32
+pub fn address_of(found: Option<u32>) -> u32
     ensures { result ≡ address_of found }
 {
     match found {
-        Found::Address(address) => address,
-        Found::Nothing => 0,
+        Some(address) => address,
+        None => 0,
     }
 }
 
 // Number 11.
-pub fn none(found: Found) -> bool
+pub fn none(found: Option<u32>) -> bool
     ensures { result ≡ is_no_locator found }
 {
     match found {
-        Found::Address(_) => false,
-        Found::Nothing => true,
+        Some(_) => false,
+        None => true,
     }
 }
 

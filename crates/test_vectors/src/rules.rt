@@ -1,12 +1,10 @@
 // Cases of the rules without state.
 use crate::answers::NONE;
 use crate::{answers, writers};
-use address::{Embedded, prefixes};
+use address::prefixes;
 use header::{fields, inner, outer};
 use hearing::solicitation;
 use input::section;
-use options::Smallest;
-use paths::Candidate;
 use std::io;
 
 pub(crate) fn answer(rt: &impl Print, kind: u8, c: &[u8]) -> io::Result<()> {
@@ -42,7 +40,7 @@ fn number(kind: u8, n: u16, m: u16, x: u32, d: &[u8]) -> u64 {
     match kind {
         20 => checksum::sum_from(x, d) as u64,
         21 => checksum::complement(n) as u64,
-        22 => outer::read_outer(d).number() as u64,
+        22 => refusals::number(outer::read_outer(d)) as u64,
         23 | 24 | 25 | 26 => outer_field(kind, d),
         27 => paths::packets::largest_packet(n) as u64,
         28 => embedded(n, d),
@@ -70,16 +68,16 @@ fn embedded(n: u16, d: &[u8]) -> u64 {
     let prefixes = prefixes::rows(section::prefixes(fields::tail(d, 16)));
     let answer = address::isatap(prefixes, n as usize, fields::address(d, 0));
     match answer {
-        Embedded::Ipv4(x) => x as u64,
-        Embedded::Nothing => NONE,
+        Some(x) => x as u64,
+        None => NONE,
     }
 }
 
 fn candidate(n: u16, m: u16) -> u64 {
     let answer = paths::reported::candidate(n, m);
     match answer {
-        Candidate::Size(size) => size as u64,
-        Candidate::Unusable => NONE,
+        Some(size) => size as u64,
+        None => NONE,
     }
 }
 
@@ -87,7 +85,7 @@ fn smallest(n: u16, d: &[u8]) -> u64 {
     let read = options::options_read(n, d);
     let answer = read.smallest;
     match answer {
-        Smallest::Seconds(seconds) => seconds as u64,
-        Smallest::NoneCounts => NONE,
+        Some(seconds) => seconds as u64,
+        None => NONE,
     }
 }

@@ -3,7 +3,7 @@ use crate::answers;
 use crate::answers::NONE;
 use header::fields;
 use input::section;
-use routers::{Next, RouterList};
+use routers::RouterList;
 use std::io;
 
 // The list after a case: what changes it, or what it answers.
@@ -35,7 +35,7 @@ pub(crate) fn routers(
 fn next(list: RouterList, now: u32) -> u64 {
     let answer = list.next(now);
     match answer {
-        Next::Due(router) => router as u64,
-        Next::NoneDue => NONE,
+        Some(router) => router as u64,
+        None => NONE,
     }
 }

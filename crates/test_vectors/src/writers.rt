@@ -3,7 +3,7 @@ ghost use Rattle.std.specs.Prelude.{◌≡◌, length};
 
 use crate::answers::NONE;
 use crate::{answers, operator};
-use header::wrap::{OuterFields, Written};
+use header::wrap::OuterFields;
 use header::{fields, inner, outer, wrap};
 use input::section;
 use std::io;
@@ -38,20 +38,20 @@ fn written(rt: &impl Print, kind: u8, c: &[u8]) -> io::Result<()> {
 // The number given, the length written, and of the output y bytes from the index x on.
 fn written_into(rt: &impl Print, kind: u8, c: &[u8], out: &mut [u8]) -> io::Result<()> {
     let answer = write(kind, c, out);
-    answers::number(rt, 0, answer.number() as u64)?;
+    answers::number(rt, 0, refusals::number(answer) as u64)?;
     answers::number(rt, 0, length(answer))?;
     let from = fields::tail(out, fields::quad(c, 5) as usize);
     answers::bytes(rt, section::front(from, fields::quad(c, 9) as usize))
 }
 
-fn length(answer: Written) -> u64 {
+fn length(answer: Result<usize, Refusal>) -> u64 {
     match answer {
-        Written::Length(n) => n as u64,
-        Written::Refused(_) => NONE,
+        Ok(n) => n as u64,
+        Err(_) => NONE,
     }
 }
 
-fn write(kind: u8, c: &[u8], out: &mut [u8]) -> Written {
+fn write(kind: u8, c: &[u8], out: &mut [u8]) -> Result<usize, Refusal> {
     let m = fields::word(c, 3);
     let d = fields::tail(c, 13);
     match kind {
@@ -63,13 +63,13 @@ fn write(kind: u8, c: &[u8], out: &mut [u8]) -> Written {
     }
 }
 
-fn advertisement(d: &[u8], out: &mut [u8]) -> Written {
+fn advertisement(d: &[u8], out: &mut [u8]) -> Result<usize, Refusal> {
     let set = operator::advertisement(fields::tail(d, 32));
     advertisements::write(fields::address(d, 0), fields::address(d, 16), set, out)
 }
 
 // A packet of m zeros wrapped.
-fn wrap_zeros(m: u16, d: &[u8], out: &mut [u8]) -> Written {
+fn wrap_zeros(m: u16, d: &[u8], out: &mut [u8]) -> Result<usize, Refusal> {
     let zeros = [0u8; 65536];
     wrap::wrap(outer_fields(d), section::front(&zeros, m as usize), out)
 }

@@ -5,20 +5,20 @@ use Rattle.messages.specs.Icmp.{solicitation_length}
 use Rattle.asking.specs.Ask.{plan_for}
 use Rattle.asking.proofs.plan_for.Goals as goal
 
-pub returns-in-Nothing : goal.returns-in-Nothing
+pub returns-in-None : goal.returns-in-None
 unfolding plan_for
-returns-in-Nothing c = rw c.in-Nothing.is
+returns-in-None c = rw c.in-None.is
 
-pub returns-in-NoneDue : goal.returns-in-NoneDue
+pub returns-in-None : goal.returns-in-None
 unfolding plan_for
-returns-in-NoneDue c = rw (c.in-Address.is, c.in-NoneDue.is)
+returns-in-None c = rw (c.in-Some.is, c.in-None.is)
 
 pub returns-then-room-lt-SOLICITATION : goal.returns-then-room-lt-SOLICITATION
 unfolding plan_for
 returns-then-room-lt-SOLICITATION c = let short = lt-ltb c.args.room solicitation_length (omega arith) in
-    rw (c.in-Address.is, c.in-Due.is, short)
+    rw (c.in-Some.is, c.in-Some.is, short)
 
 pub returns-else-room-lt-SOLICITATION : goal.returns-else-room-lt-SOLICITATION
 unfolding plan_for
 returns-else-room-lt-SOLICITATION c = let fits = le-ltb c.args.room solicitation_length (omega arith) in
-    rw (c.in-Address.is, c.in-Due.is, fits)
+    rw (c.in-Some.is, c.in-Some.is, fits)

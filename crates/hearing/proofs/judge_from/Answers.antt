@@ -7,13 +7,13 @@ use Rattle.hearing.proofs.judge_from.Goals as goal
 pub returns-then-lists : goal.returns-then-lists
 unfolding heard_from embedded_to
 returns-then-lists c = let in_list = sym c.lists.ensures ∙ c.if-lists.true in
-    rw (← c.rows.ensures, ← c.isatap-found.ensures, c.in-Ipv4.is, in_list, c.due_after-due.ensures)
+    rw (← c.rows.ensures, ← c.isatap-found.ensures, c.in-Some.is, in_list, c.due_after-due.ensures)
 
 pub returns-else-lists : goal.returns-else-lists
 unfolding heard_from embedded_to
 returns-else-lists c = let out = sym c.lists.ensures ∙ c.if-lists.false in
-    rw (← c.rows.ensures, ← c.isatap-found.ensures, c.in-Ipv4.is, out, c.refused.ensures)
+    rw (← c.rows.ensures, ← c.isatap-found.ensures, c.in-Some.is, out, c.refused.ensures)
 
-pub returns-in-Nothing : goal.returns-in-Nothing
+pub returns-in-None : goal.returns-in-None
 unfolding heard_from embedded_to
-returns-in-Nothing c = rw (← c.rows.ensures, ← c.isatap-found.ensures, c.in-Nothing.is, c.refused-in-Nothing.ensures)
+returns-in-None c = rw (← c.rows.ensures, ← c.isatap-found.ensures, c.in-None.is, c.refused-in-None.ensures)

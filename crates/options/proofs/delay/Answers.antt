@@ -2,10 +2,10 @@
 use Rattle.options.specs.Lifetimes.{delay_of}
 use Rattle.options.proofs.delay.Goals as goal
 
-pub returns-in-Seconds : goal.returns-in-Seconds
+pub returns-in-Some : goal.returns-in-Some
 unfolding delay_of
-returns-in-Seconds c = rw c.in-Seconds.is c.larger.ensures
+returns-in-Some c = rw c.in-Some.is c.larger.ensures
 
-pub returns-in-NoneCounts : goal.returns-in-NoneCounts
+pub returns-in-None : goal.returns-in-None
 unfolding delay_of
-returns-in-NoneCounts c = rw c.in-NoneCounts.is
+returns-in-None c = rw c.in-None.is

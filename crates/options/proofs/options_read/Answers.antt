@@ -1,7 +1,7 @@
 -- `options::options_read`: the router's lifetime goes first into the smallest so far.
+use Rattle.std.specs.Prelude.{None}
 use mathlib.Core.Path.{◌∙◌}
 use mathlib.Core.List.{map}
-use Rattle.options.specs.declared.Smallest.TheVariants.{NoneCounts}
 use Rattle.options.specs.Options.{options_of}
 use Rattle.options.specs.Lifetimes.{lifetime_of}
 use Rattle.options.proofs.Steps.{shorter-counted}
@@ -10,4 +10,4 @@ use Rattle.options.proofs.options_read.Goals as goal
 pub returns : goal.returns
 returns c = let a = c.args in
     c.read.ensures
-    ∙ rw (c.shorter.ensures, shorter-counted NoneCounts a.router (map lifetime_of (options_of a.options.now)))
+    ∙ rw (c.shorter.ensures, shorter-counted None a.router (map lifetime_of (options_of a.options.now)))

@@ -2,10 +2,10 @@ use borrow.Author.Rules.{rules}
 use Rattle.paths.specs.Kept.{in_force}
 use Rattle.paths.proofs.in_force.Goals as goal
 
-pub returns-in-Size : goal.returns-in-Size
+pub returns-in-Some : goal.returns-in-Some
 unfolding in_force
-returns-in-Size c = rw c.in-Size.is c.smaller.ensures
+returns-in-Some c = rw c.in-Some.is c.smaller.ensures
 
-pub returns-in-Nothing : goal.returns-in-Nothing
+pub returns-in-None : goal.returns-in-None
 unfolding in_force
-returns-in-Nothing c = search rules
+returns-in-None c = search rules

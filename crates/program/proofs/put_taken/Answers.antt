@@ -4,11 +4,11 @@ use Rattle.program.proofs.put_taken.Goals as goal
 
 pub put_text-requires : goal.put_text-requires
 unfolding taken_text
-put_text-requires c = rw (← c.settings.ensures, ← c.new-setup.ensures, ← c.behind_settings.ensures, c.in-Made.is) at c.requires
+put_text-requires c = rw (← c.settings.ensures, ← c.new-setup.ensures, ← c.behind_settings.ensures, c.in-Ok.is) at c.requires
 
-pub returns-in-Made : goal.returns-in-Made
+pub returns-in-Ok : goal.returns-in-Ok
 unfolding taken_text
-returns-in-Made c = rw (← c.settings.ensures, ← c.new-setup.ensures, ← c.behind_settings.ensures, c.in-Made.is) c.put_text.ensures
+returns-in-Ok c = rw (← c.settings.ensures, ← c.new-setup.ensures, ← c.behind_settings.ensures, c.in-Ok.is) c.put_text.ensures
 
 pub returns-in-Refused : goal.returns-in-Refused
 unfolding taken_text

@@ -2,13 +2,13 @@
 use Rattle.receiving.specs.Stages.{arrived_of}
 use Rattle.receiving.proofs.arrive.Goals as goal
 
-pub returns-in-Pass : goal.returns-in-Pass
+pub returns-in-Ok : goal.returns-in-Ok
 unfolding arrived_of
-returns-in-Pass c = rw (c.in-Header.is, ← c.check_addresses-check.ensures, c.in-Pass.is)
+returns-in-Ok c = rw (c.in-Ok.is, ← c.check_addresses-check.ensures, c.in-Ok.is)
 
-pub returns-in-Stop : goal.returns-in-Stop
+pub returns-in-Err : goal.returns-in-Err
 unfolding arrived_of
-returns-in-Stop c = rw (c.in-Header.is, ← c.check_addresses-check.ensures, c.in-Stop.is)
+returns-in-Err c = rw (c.in-Ok.is, ← c.check_addresses-check.ensures, c.in-Err.is)
 
 pub returns-in-Refused : goal.returns-in-Refused
 unfolding arrived_of

@@ -2,9 +2,9 @@
 use Rattle.receiving.specs.Stages.{delivered_of, judged_of}
 use Rattle.receiving.proofs.stage_whole.Goals as goal
 
-pub returns-in-Header : goal.returns-in-Header
+pub returns-in-Ok : goal.returns-in-Ok
 unfolding delivered_of
-returns-in-Header c s routers = rw (c.in-Header.is, c.read_whole.ensures)
+returns-in-Ok c s routers = rw (c.in-Ok.is, c.read_whole.ensures)
 
 pub returns-in-Refused : goal.returns-in-Refused
 unfolding delivered_of judged_of

@@ -10,10 +10,10 @@ returns-then-d-lt-OUTER_HEADER c = simp (lt-ltb _ _ c.if-d-lt-OUTER_HEADER.true)
 pub check_read-check-requires : goal.check_read-check-requires
 check_read-check-requires c = c.full_header-o.ensures
 
-pub returns-in-Pass : goal.returns-in-Pass
+pub returns-in-Ok : goal.returns-in-Ok
 unfolding header_read_of
-returns-in-Pass c = rw (← c.full_header-o.ensures, ← c.check_read-check.ensures, c.in-Pass.is)
+returns-in-Ok c = rw (← c.full_header-o.ensures, ← c.check_read-check.ensures, c.in-Ok.is)
 
-pub returns-in-Stop : goal.returns-in-Stop
+pub returns-in-Err : goal.returns-in-Err
 unfolding header_read_of
-returns-in-Stop c = rw (← c.full_header-o.ensures, ← c.check_read-check.ensures, c.in-Stop.is)
+returns-in-Err c = rw (← c.full_header-o.ensures, ← c.check_read-check.ensures, c.in-Err.is)

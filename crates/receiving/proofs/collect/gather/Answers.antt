@@ -4,11 +4,11 @@ use Rattle.receiving.specs.Stages.{judged_of}
 use Rattle.receiving.proofs.Stages.{collected_stages, collected-memory}
 use Rattle.receiving.proofs.collect.gather.Goals as goal
 
-pub returns-in-Header : goal.returns-in-Header
-returns-in-Header c = let g = c.gather_arrived.ensures in
+pub returns-in-Ok : goal.returns-in-Ok
+returns-in-Ok c = let g = c.gather_arrived.ensures in
     let arrival = c.arrival-arrived.ensures in record {
-      at_lt_places = (λ routers. rw (collected_stages, ← arrival, c.in-Header.is, g.gathered_as.0), g.gathered_as.1);
-      memory_after = rw (collected-memory, ← arrival, c.in-Header.is) g.memory_after;
+      at_lt_places = (λ routers. rw (collected_stages, ← arrival, c.in-Ok.is, g.gathered_as.0), g.gathered_as.1);
+      memory_after = rw (collected-memory, ← arrival, c.in-Ok.is) g.memory_after;
     }
 
 pub returns-in-Refused : goal.returns-in-Refused

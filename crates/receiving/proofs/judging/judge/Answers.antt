@@ -2,13 +2,13 @@
 use Rattle.receiving.specs.Stages.{judged_of}
 use Rattle.receiving.proofs.judging.judge.Goals as goal
 
-pub returns-in-Pass : goal.returns-in-Pass
+pub returns-in-Ok : goal.returns-in-Ok
 unfolding judged_of
-returns-in-Pass c = rw (c.in-Open.is, ← c.check_inner-check.ensures, c.in-Pass.is, c.placed.ensures)
+returns-in-Ok c = rw (c.in-Open.is, ← c.check_inner-check.ensures, c.in-Ok.is, c.placed.ensures)
 
-pub returns-in-Stop : goal.returns-in-Stop
+pub returns-in-Err : goal.returns-in-Err
 unfolding judged_of
-returns-in-Stop c = rw (c.in-Open.is, ← c.check_inner-check.ensures, c.in-Stop.is)
+returns-in-Err c = rw (c.in-Open.is, ← c.check_inner-check.ensures, c.in-Err.is)
 
 pub returns-in-Passed : goal.returns-in-Passed
 unfolding judged_of

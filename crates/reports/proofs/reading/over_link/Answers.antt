@@ -6,10 +6,10 @@ pub returns-then-own : goal.returns-then-own
 unfolding over_link
 returns-then-own c = rw c.if-own.true
 
-pub returns-in-Size : goal.returns-in-Size
+pub returns-in-Some : goal.returns-in-Some
 unfolding over_link
-returns-in-Size c = rw (c.if-own.false, c.in-Size.is)
+returns-in-Some c = rw (c.if-own.false, c.in-Some.is)
 
-pub returns-in-Unusable : goal.returns-in-Unusable
+pub returns-in-None : goal.returns-in-None
 unfolding over_link
-returns-in-Unusable c = rw (c.if-own.false, c.in-Unusable.is)
+returns-in-None c = rw (c.if-own.false, c.in-None.is)

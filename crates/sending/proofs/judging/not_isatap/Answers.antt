@@ -2,10 +2,10 @@
 use Rattle.sending.specs.Plan.{is_not_isatap}
 use Rattle.sending.proofs.judging.not_isatap.Goals as goal
 
-pub returns-in-Ipv4 : goal.returns-in-Ipv4
+pub returns-in-Some : goal.returns-in-Some
 unfolding is_not_isatap
-returns-in-Ipv4 c = rw c.in-Ipv4.is
+returns-in-Some c = rw c.in-Some.is
 
-pub returns-in-Nothing : goal.returns-in-Nothing
+pub returns-in-None : goal.returns-in-None
 unfolding is_not_isatap
-returns-in-Nothing c = rw c.in-Nothing.is
+returns-in-None c = rw c.in-None.is

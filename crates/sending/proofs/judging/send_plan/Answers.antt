@@ -2,10 +2,10 @@
 use Rattle.sending.specs.Plan.{plan_of}
 use Rattle.sending.proofs.judging.send_plan.Goals as goal
 
-pub returns-in-Pass : goal.returns-in-Pass
+pub returns-in-Ok : goal.returns-in-Ok
 unfolding plan_of
-returns-in-Pass c = rw (← c.send_check-check.ensures, c.in-Pass.is) (rw (c.address_of.ensures, c.locator.ensures) at c.sized_plan.ensures)
+returns-in-Ok c = rw (← c.send_check-check.ensures, c.in-Ok.is) (rw (c.address_of.ensures, c.locator.ensures) at c.sized_plan.ensures)
 
-pub returns-in-Stop : goal.returns-in-Stop
+pub returns-in-Err : goal.returns-in-Err
 unfolding plan_of
-returns-in-Stop c = rw (← c.send_check-check.ensures, c.in-Stop.is)
+returns-in-Err c = rw (← c.send_check-check.ensures, c.in-Err.is)

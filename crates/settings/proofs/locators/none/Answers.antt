@@ -2,10 +2,10 @@
 use Rattle.settings.specs.Locators.{is_no_locator}
 use Rattle.settings.proofs.locators.none.Goals as goal
 
-pub returns-in-Address : goal.returns-in-Address
+pub returns-in-Some : goal.returns-in-Some
 unfolding is_no_locator
-returns-in-Address c = rw c.in-Address.is
+returns-in-Some c = rw c.in-Some.is
 
-pub returns-in-Nothing : goal.returns-in-Nothing
+pub returns-in-None : goal.returns-in-None
 unfolding is_no_locator
-returns-in-Nothing c = rw c.in-Nothing.is
+returns-in-None c = rw c.in-None.is
