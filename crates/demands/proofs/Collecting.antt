@@ -1,11 +1,10 @@
 -- What is collected on a node is what comes of the pieces that its calls handed in. Assumes nothing.
-use Rattle.std.specs.Prelude.{Result, Ok, Err}
+use Rattle.std.specs.Prelude.{Result, Ok, Err, Option, None, Some}
 use Rattle.refusals.specs.declared.Refusal.{Refusal}
 use Prim.Native.Nat.{ℕ, max}
 use mathlib.Core.Path.{◌≡◌, refl, sym, ap, ◌∙◌}
 use mathlib.Core.Bool.{Bool, true, false}
 use mathlib.Core.List.{List, [], ◌∷◌, ◌++◌}
-use mathlib.Core.Option.{Option, none, some}
 use Rattle.header.specs.Outer.{outer_of}
 use Rattle.settings.specs.Settings.{is_accepted, are_pair_accepted}
 use Rattle.settings.specs.declared.Settings.{Settings}
@@ -74,8 +73,8 @@ pair-none a b right First = rw right
 pair-none a b right Second = rw right
 
 made_none : (a : Settings) (o : Option Settings) → accepted_with a o ≡ true → (v : ServiceName) → (service_of (made_with a o) v).pieces ≡ no_datagrams
-made_none a none right = one_none a right
-made_none a (some b) right = pair-none a b right
+made_none a None right = one_none a right
+made_none a (Some b) right = pair-none a b right
 
 pub collected_by_history : CollectedByHistory
 unfolding CollectedByHistory

@@ -1,12 +1,12 @@
 -- The premises of the joining theorem can be met, through the one service of a node and through the second of two: a datagram of 60 bytes in two
 -- pieces, the last one first, with an asking between, at the last second. Assumes nothing.
+use Rattle.std.specs.Prelude.{None, Some}
 use Prim.Native.Nat.{ℕ, zero, suc, max}
 use mathlib.Core.Path.{◌≡◌, refl, sym, ap, subst, ◌∙◌}
 use mathlib.Core.Logic.{⊎_elim}
 use mathlib.Core.Bool.{Bool, true, false, cond, not, ◌&&◌}
 use mathlib.Core.List.Memᴰ
 use mathlib.Core.List.{List, [], ◌∷◌, Memᴰ}
-use mathlib.Core.Option.{none, some}
 use native.Mathlib.Omega.{arith}
 use borrow.Author.Tests.{ltb-true}
 use lib.Dec.{ltb}
@@ -140,13 +140,13 @@ two = refl
 -- ---- a start of one service, and the same service as the second of two
 
 abbrev pub alone : Start
-alone = record { first = settings; second = none }
+alone = record { first = settings; second = None }
 
 -- the first has another locator
 abbrev pub beside : Start
 beside = record {
   first = defaults_for (record { address = quad_of 10 0 0 3; interface = 0 } ∷ replicate 7 no_locator) 1 (replicate 64 0) 0 (replicate 16 0) 0;
-  second = some settings;
+  second = Some settings;
 }
 
 -- ---- the calls: the last piece, an asking through the first service, the first piece

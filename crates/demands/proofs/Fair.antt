@@ -1,11 +1,10 @@
 -- The fairness law holds of every node that has grown from accepted settings: its calls as calls on the router list. Assumes nothing.
-use Rattle.std.specs.Prelude.{Some, Result, Ok, Err}
+use Rattle.std.specs.Prelude.{Some, Result, Ok, Err, Option, None}
 use Rattle.refusals.specs.declared.Refusal.{Refusal}
 use Prim.Native.Nat.{ℕ, ◌+◌, ◌≤◌, max}
 use mathlib.Core.Path.{◌≡◌, refl, sym, ap, ◌∙◌}
 use mathlib.Core.Bool.{Bool, true, false, ◌&&◌, not}
 use mathlib.Core.List.{List, [], ◌∷◌, ◌++◌}
-use mathlib.Core.Option.{Option, none, some}
 use native.Mathlib.Omega.{arith}
 use borrow.Author.Tests.{leb-true}
 use lib.Dec.{leb}
@@ -216,14 +215,14 @@ pair-right a b e =
     (and_left (is_accepted a) (is_accepted b) both, and_right (is_accepted a) (is_accepted b) both)
 
 first-right : (a : Settings) (o : Option Settings) → accepted_with a o ≡ true → is_accepted a ≡ true
-first-right a none e = e
-first-right a (some b) e = (pair-right a b e).0
+first-right a None e = e
+first-right a (Some b) e = (pair-right a b e).0
 
-second-right : (a t : Settings) (o : Option Settings) → accepted_with a o ≡ true → o ≡ some t → is_accepted t ≡ true
-second-right a t none e is = absurd (no_some t is)
-second-right a t (some b) e is = rw (← same_some b t is) (pair-right a b e).1
+second-right : (a t : Settings) (o : Option Settings) → accepted_with a o ≡ true → o ≡ Some t → is_accepted t ≡ true
+second-right a t None e is = absurd (no_some t is)
+second-right a t (Some b) e is = rw (← same_some b t is) (pair-right a b e).1
 
-service-right : (s : Start) → is_right s ≡ true → (w : ServiceName) (t : Settings) → settings_of s w ≡ some t → is_accepted t ≡ true
+service-right : (s : Start) → is_right s ≡ true → (w : ServiceName) (t : Settings) → settings_of s w ≡ Some t → is_accepted t ≡ true
 service-right s e First t is = rw (← same_some s.first t is) (first-right s.first s.second e)
 service-right s e Second t is = second-right s.first t s.second e is
 

@@ -1,9 +1,9 @@
 -- The plain record keeps up with the node: the same settings and latest time, and the table of the record's entries. Assumes nothing.
+use Rattle.std.specs.Prelude.{Option, None, Some}
 use Prim.Native.Nat.{ℕ, max}
 use mathlib.Core.Path.{◌≡◌, refl, sym, ap, ◌∙◌}
 use mathlib.Core.Bool.{Bool, true, false, cond}
 use mathlib.Core.List.{List, [], ◌∷◌}
-use mathlib.Core.Option.{Option, none, some}
 use native.Mathlib.Omega.{arith}
 use lib.Dec.{ltb}
 use lib.ListN.{length}
@@ -30,8 +30,8 @@ use Rattle.demands.proofs.Left.{Left, left}
 
 -- the second service is there with these settings, or there is none
 abbrev pub SecondIs : Option Settings → Node → Type 0
-SecondIs none n = ltb 0 n.both ≡ false
-SecondIs (some b) n = (n.second.settings ≡ b) × (ltb 0 n.both ≡ true)
+SecondIs None n = ltb 0 n.both ≡ false
+SecondIs (Some b) n = (n.second.settings ≡ b) × (ltb 0 n.both ≡ true)
 
 pub record Follows (s : Start) (n : Node) (r : Plain) : Type 0 where
   pub first : n.first.settings ≡ s.first
@@ -39,30 +39,30 @@ pub record Follows (s : Start) (n : Node) (r : Plain) : Type 0 where
   pub latest : n.latest ≡ r.latest
   pub paths : n.paths ≡ table_of r.entries
 
-one_follows : (a : Settings) → is_accepted a ≡ true → Follows (record { first = a; second = none }) (setup_of a).node fresh_plain
+one_follows : (a : Settings) → is_accepted a ≡ true → Follows (record { first = a; second = None }) (setup_of a).node fresh_plain
 unfolding setup_of node_of service_from
 one_follows a h = record { first = rw h; second = rw h; latest = rw h; paths = rw h }
 
-pair_follows : (a b : Settings) → are_pair_accepted a b ≡ true → Follows (record { first = a; second = some b }) (setup_pair_of a b).node fresh_plain
+pair_follows : (a b : Settings) → are_pair_accepted a b ≡ true → Follows (record { first = a; second = Some b }) (setup_pair_of a b).node fresh_plain
 unfolding setup_pair_of pair_of service_from
 pair_follows a b h = record { first = rw h; second = (rw h, rw h); latest = rw h; paths = rw h }
 
 made_follows : (a : Settings) (o : Option Settings) → accepted_with a o ≡ true → Follows (record { first = a; second = o }) (made_with a o) fresh_plain
-made_follows a none h = one_follows a h
-made_follows a (some b) h = pair_follows a b h
+made_follows a None h = one_follows a h
+made_follows a (Some b) h = pair_follows a b h
 
 pub fresh_follows : (s : Start) → is_right s ≡ true → Follows s (start_of s) fresh_plain
 fresh_follows s h = made_follows s.first s.second h
 
-pub same_some : (a b : Settings) → some a ≡ some b → a ≡ b
+pub same_some : (a b : Settings) → Some a ≡ Some b → a ≡ b
 same_some a b e = cc
 
-pub no_some : (b : Settings) → none ≡ some b → ⊥
+pub no_some : (b : Settings) → None ≡ Some b → ⊥
 no_some b e = let z : ◌≡◌ {A = ℕ} 0 1 = ap marked e in omega arith
   where
     marked : Option Settings → ℕ
-    marked none = 0
-    marked (some t) = 1
+    marked None = 0
+    marked (Some t) = 1
 
 -- what an answer to a report leaves of both
 same_entries : (r : Plain) (a : ReportAnswer) (t : PathTable) → t ≡ table_of r.entries
@@ -73,19 +73,19 @@ same_entries r (Refused x) t e = (e, refl)
 module _ (s : Start) where
   module _ (n : Node) (r : Plain) (f : Follows s n r) where
     -- a service has its settings, and is there
-    second-settings : (t : Settings) (o : Option Settings) → SecondIs o n → o ≡ some t → (n.second.settings ≡ t) × (ltb 0 n.both ≡ true)
-    second-settings t none is e = absurd (no_some t e)
-    second-settings t (some b) is e = (is.0 ∙ same_some b t e, is.1)
+    second-settings : (t : Settings) (o : Option Settings) → SecondIs o n → o ≡ Some t → (n.second.settings ≡ t) × (ltb 0 n.both ≡ true)
+    second-settings t None is e = absurd (no_some t e)
+    second-settings t (Some b) is e = (is.0 ∙ same_some b t e, is.1)
 
-    second_none : (o : Option Settings) → SecondIs o n → o ≡ none → ltb 0 n.both ≡ false
-    second_none none is e = is
-    second_none (some b) is e = absurd (no_some b (sym e))
+    second_none : (o : Option Settings) → SecondIs o n → o ≡ None → ltb 0 n.both ≡ false
+    second_none None is e = is
+    second_none (Some b) is e = absurd (no_some b (sym e))
 
-    pub its-settings : (w : ServiceName) (t : Settings) → settings_of s w ≡ some t → ((service_of n w).settings ≡ t) × (has_service n w ≡ true)
+    pub its-settings : (w : ServiceName) (t : Settings) → settings_of s w ≡ Some t → ((service_of n w).settings ≡ t) × (has_service n w ≡ true)
     its-settings First t e = (f.first ∙ same_some s.first t e, refl)
     its-settings Second t e = second-settings t s.second f.second e
 
-    not_there : (w : ServiceName) → settings_of s w ≡ none → has_service n w ≡ false
+    not_there : (w : ServiceName) → settings_of s w ≡ None → has_service n w ≡ false
     not_there First e = absurd (no_some s.first (sym e))
     not_there Second e = second_none s.second f.second e
 
@@ -94,7 +94,7 @@ module _ (s : Start) where
     unfolding path_size_at
     sized w t is v time = rw (is, f.latest, f.paths) (same_in_force r.entries v (max r.latest time) t.link_size)
 
-    pub size-at : (w : ServiceName) (t : Settings) → settings_of s w ≡ some t → (v time : ℕ) → path_size_at n w v (max n.latest time) ≡ plain_size t (raised r time) v
+    pub size-at : (w : ServiceName) (t : Settings) → settings_of s w ≡ Some t → (v time : ℕ) → path_size_at n w v (max n.latest time) ≡ plain_size t (raised r time) v
     size-at w t e = sized w t (its-settings w t e).0
 
     same-send : (w : ServiceName) (packet hop : List ℕ) (k time room : ℕ) → (send_of n w packet hop k time room).answer ≡ sent_with (settings_of s w) (raised r time) packet hop k room
@@ -102,8 +102,8 @@ module _ (s : Start) where
     same-send w packet hop k time room = go (settings_of s w) refl
       where
         go : (o : Option Settings) → settings_of s w ≡ o → (send_of n w packet hop k time room).answer ≡ sent_with o (raised r time) packet hop k room
-        go none e = rw (not_there w e)
-        go (some t) e = rw ((its-settings w t e).1, (its-settings w t e).0, size-at w t e (last_quad hop) time)
+        go None e = rw (not_there w e)
+        go (Some t) e = rw ((its-settings w t e).1, (its-settings w t e).0, size-at w t e (last_quad hop) time)
 
     -- a report, once it is known whose it is
     by_name : (m : List ℕ) (time : ℕ) (w : ServiceName) (t : Settings) → (service_of n w).settings ≡ t
@@ -111,11 +111,11 @@ module _ (s : Start) where
     by_name m time w t is = rw (is, sized w t is (neighbour_in (judged_of t m)) time)
 
     -- whose it is
-    belongs : (m : List ℕ) (b : Settings) → SecondIs (some b) n → reported_to n m ≡ cond (quotes_other s.first b m) Second First
+    belongs : (m : List ℕ) (b : Settings) → SecondIs (Some b) n → reported_to n m ≡ cond (quotes_other s.first b m) Second First
     unfolding reported_to
     belongs m b is = rw (is.1, f.first, is.0)
 
-    belongs_first : (m : List ℕ) → SecondIs none n → reported_to n m ≡ First
+    belongs_first : (m : List ℕ) → SecondIs None n → reported_to n m ≡ First
     unfolding reported_to
     belongs_first m is = rw is
 
@@ -132,19 +132,19 @@ module _ (s : Start) where
 
         go : (o : Option Settings) → SecondIs o n
             → answered (reported_to n m) ≡ answer_toward (reported_with s.first o m) m (plain_size (reported_with s.first o m) (raised r time))
-        go none is = ap answered (belongs_first m is) ∙ by_name m time First s.first f.first
-        go (some b) is = ap answered (belongs m b is) ∙ pick_by b is.0 (quotes_other s.first b m)
+        go None is = ap answered (belongs_first m is) ∙ by_name m time First s.first f.first
+        go (Some b) is = ap answered (belongs m b is) ∙ pick_by b is.0 (quotes_other s.first b m)
 
     module _ (time room : ℕ) (o : Outcome) where
       same-given : (c : OfSizes) → Left n time room c o → given_if c o.given ≡ plain_given s (raised r time) room c
-      same-given (a_sending w packet hop k) l = ap some (l.sizes.0 ∙ ap send_given (same-send w packet hop k time room))
-      same-given (a_report m) l = ap some (l.sizes.0 ∙ ap report_given (same-report m time))
+      same-given (a_sending w packet hop k) l = ap Some (l.sizes.0 ∙ ap send_given (same-send w packet hop k time room))
+      same-given (a_report m) l = ap Some (l.sizes.0 ∙ ap report_given (same-report m time))
       same-given no_size l = refl
 
       -- the settings of the second service stay
       second_left : (c : OfSizes) → Left n time room c o → (t : Option Settings) → SecondIs t n → SecondIs t o.node
-      second_left c l none is = rw l.both is
-      second_left c l (some b) is = (l.settings Second ∙ is.0, rw l.both is.1)
+      second_left c l None is = rw l.both is
+      second_left c l (Some b) is = (l.settings Second ∙ is.0, rw l.both is.1)
 
       follows_left : (c : OfSizes) → Left n time room c o → Follows s o.node (plain_entered s (raised r time) c)
       follows_left (a_sending w packet hop k) l =

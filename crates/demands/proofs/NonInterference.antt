@@ -1,10 +1,10 @@
 -- Neither service sees how the other is set up: two nodes that are alike to the service beside x stay so. Assumes nothing.
+use Rattle.std.specs.Prelude.{Option, None, Some}
 use Prim.Native.Nat.{ℕ, max}
 use mathlib.Core.Path.{◌≡◌, refl, sym, ap, subst, ◌∙◌}
 use mathlib.Core.Logic.{◌⊎◌, ⊎_elim, inl, inr}
 use mathlib.Core.Bool.{true}
 use mathlib.Core.List.{List, [], ◌∷◌}
-use mathlib.Core.Option.{Option, none, some}
 use lib.Dec.{ltb}
 use Rattle.refusals.specs.Given.{Given}
 use Rattle.header.specs.Outer.{outer_of, quote_of}
@@ -105,13 +105,13 @@ module _ (w : ServiceName) (n m : Node) (here : service_of n w ≡ service_of m 
   advertised packet k a out = record { given = rw (there, here); output = rw (there, here); service = here }
 
   -- every call that names the service
-  same_name : (u v : ServiceName) → some u ≡ some v → u ≡ v
+  same_name : (u v : ServiceName) → Some u ≡ Some v → u ≡ v
   same_name First First e = refl
   same_name First Second e = absurd (not-same-back e)
   same_name Second First e = absurd (not_same e)
   same_name Second Second e = refl
 
-  same-call : (c : NodeCall) → (view_of c).service ≡ some w → Same w (outcome_of n c) (outcome_of m c)
+  same-call : (c : NodeCall) → (view_of c).service ≡ Some w → Same w (outcome_of n c) (outcome_of m c)
   same-call (receiving v d interface time memory) e = rw (same_name v w e) (received d interface time memory)
   same-call (receiving_part v d interface) e = rw (same_name v w e) (part d interface)
   same-call (sending v packet hop k time out) e = rw (same_name v w e) (sent packet hop k time out)
@@ -184,7 +184,7 @@ module _ (x : ServiceName) (n m : Node) (a : Alike x n m) where
   -- ---- the nodes after a call
 
   -- a call that names a service leaves the path sizes
-  kept_paths : (k : Node) (c : NodeCall) (w : ServiceName) → (view_of c).service ≡ some w → (outcome_of k c).node.paths ≡ k.paths
+  kept_paths : (k : Node) (c : NodeCall) (w : ServiceName) → (view_of c).service ≡ Some w → (outcome_of k c).node.paths ≡ k.paths
   kept_paths k (receiving v d interface time memory) w e = (left k (receiving v d interface time memory)).sizes
   kept_paths k (receiving_part v d interface) w e = refl
   kept_paths k (sending v packet hop i time out) w e = (left k (sending v packet hop i time out)).sizes.1
@@ -208,22 +208,22 @@ module _ (x : ServiceName) (n m : Node) (a : Alike x n m) where
       latest = (left n c).latest ∙ same-time ∙ sym (left m d).latest;
     }
 
-  apart : (y : ServiceName) → some y ≡ some (beside y) → ⊥
+  apart : (y : ServiceName) → Some y ≡ Some (beside y) → ⊥
   apart First e = not-same-back e
   apart Second e = not_same e
 
   -- two calls of the service x
-  of-its-own : (c d : NodeCall) → (view_of c).service ≡ some x → (view_of d).service ≡ some x → (view_of c).time ≡ (view_of d).time → Alike x (outcome_of n c).node (outcome_of m d).node
+  of-its-own : (c d : NodeCall) → (view_of c).service ≡ Some x → (view_of d).service ≡ Some x → (view_of c).time ≡ (view_of d).time → Alike x (outcome_of n c).node (outcome_of m d).node
   of-its-own c d e f time =
       next_alike c d time
       (others_left n c (beside x) (λ h. apart x (sym e ∙ h)) ∙ a.others ∙ sym (others_left m d (beside x) (λ h. apart x (sym f ∙ h))))
       (kept_paths n c x e ∙ a.paths ∙ sym (kept_paths m d x f))
 
   -- a call of the service beside it
-  of_the_other : (c : NodeCall) → (view_of c).service ≡ some (beside x) → Same (beside x) (outcome_of n c) (outcome_of m c)
+  of_the_other : (c : NodeCall) → (view_of c).service ≡ Some (beside x) → Same (beside x) (outcome_of n c) (outcome_of m c)
   of_the_other c e = same-call (beside x) n m a.others (has_same (beside x)) a.paths a.latest c e
 
-  other_alike : (c : NodeCall) → (view_of c).service ≡ some (beside x) → Alike x (outcome_of n c).node (outcome_of m c).node
+  other_alike : (c : NodeCall) → (view_of c).service ≡ Some (beside x) → Alike x (outcome_of n c).node (outcome_of m c).node
   other_alike c e = next_alike c c refl (of_the_other c e).service (kept_paths n c (beside x) e ∙ a.paths ∙ sym (kept_paths m c (beside x) e))
 
   -- a report
@@ -247,11 +247,11 @@ record Onward (x : ServiceName) (n m : Node) (c d : NodeCall) : Type 0 where
   seen : seen_beside x (view_of c).service (outcome_of n c) ≡ seen_beside x (view_of d).service (outcome_of m d)
   next : Alike x (outcome_of n c).node (outcome_of m d).node
 
-own_unseen : (x : ServiceName) (o : Outcome) → seen_beside x (some x) o ≡ none
+own_unseen : (x : ServiceName) (o : Outcome) → seen_beside x (Some x) o ≡ None
 own_unseen First o = refl
 own_unseen Second o = refl
 
-other_seen : (x : ServiceName) (o : Outcome) → seen_beside x (some (beside x)) o ≡ some (record { given = o.given; output = o.output })
+other_seen : (x : ServiceName) (o : Outcome) → seen_beside x (Some (beside x)) o ≡ Some (record { given = o.given; output = o.output })
 other_seen First o = refl
 other_seen Second o = refl
 
@@ -262,16 +262,16 @@ either Second First = inr refl
 either Second Second = inl refl
 
 module _ (x : ServiceName) (n m : Node) (a : Alike x n m) where
-  unlike : (c d : NodeCall) → (view_of c).service ≡ some x → (view_of d).service ≡ some x → (view_of c).time ≡ (view_of d).time → Onward x n m c d
+  unlike : (c d : NodeCall) → (view_of c).service ≡ Some x → (view_of d).service ≡ Some x → (view_of c).time ≡ (view_of d).time → Onward x n m c d
   unlike c d e f time = record { seen = rw (e, f, own_unseen x (outcome_of n c), own_unseen x (outcome_of m d)); next = of-its-own x n m a c d e f time }
 
   -- the same call, by the service that it names
-  named : (c : NodeCall) (w : ServiceName) → (view_of c).service ≡ some w → Onward x n m c c
+  named : (c : NodeCall) (w : ServiceName) → (view_of c).service ≡ Some w → Onward x n m c c
   named c w e =
       ⊎_elim
-      (λ (own : w ≡ x). unlike c c (e ∙ ap some own) (e ∙ ap some own) refl)
+      (λ (own : w ≡ x). unlike c c (e ∙ ap Some own) (e ∙ ap Some own) refl)
       (λ (other : w ≡ beside x).
-      let f = e ∙ ap some other in
+      let f = e ∙ ap Some other in
       let same = of_the_other x n m a c f in
       record {
         seen = rw (f, other_seen x (outcome_of n c), other_seen x (outcome_of m c), same.given, same.output);
@@ -284,7 +284,7 @@ module _ (x : ServiceName) (n m : Node) (a : Alike x n m) where
   the_same (receiving_part v d interface) = named (receiving_part v d interface) v refl
   the_same (sending v packet hop k time out) = named (sending v packet hop k time out) v refl
   the_same (reporting r time) = record {
-    seen = ap (λ (g : Given). some (record { given = g; output = [] })) (report-given x n m a r time);
+    seen = ap (λ (g : Given). Some (record { given = g; output = [] })) (report-given x n m a r time);
     next = report_alike x n m a r time;
   }
   the_same (relisting v addresses count time) = named (relisting v addresses count time) v refl
@@ -310,12 +310,12 @@ module _ (x : ServiceName) where
 -- ---- the nodes that settings make
 
 abbrev or_none : Option Settings → Settings
-or_none none = no_settings
-or_none (some s) = s
+or_none None = no_settings
+or_none (Some s) = s
 
 abbrev both_of : Option Settings → ℕ
-both_of none = 0
-both_of (some s) = 1
+both_of None = 0
+both_of (Some s) = 1
 
 -- what the node of a start is
 record MadeOf (s : Start) (n : Node) : Type 0 where
@@ -324,37 +324,37 @@ record MadeOf (s : Start) (n : Node) : Type 0 where
   paths : n.paths ≡ no_reports
   latest : n.latest ≡ 0
 
-one-made : (a : Settings) → MadeOf (record { first = a; second = none }) (node_of a)
+one-made : (a : Settings) → MadeOf (record { first = a; second = None }) (node_of a)
 unfolding node_of
 one-made a = record { services = services; both = refl; paths = refl; latest = refl }
   where
-    services : (w : ServiceName) → service_of (node_of a) w ≡ service_from (or_none (settings_of (record { first = a; second = none }) w))
+    services : (w : ServiceName) → service_of (node_of a) w ≡ service_from (or_none (settings_of (record { first = a; second = None }) w))
     services First = refl
     services Second = refl
 
-pair_made : (a b : Settings) → MadeOf (record { first = a; second = some b }) (pair_of a b)
+pair_made : (a b : Settings) → MadeOf (record { first = a; second = Some b }) (pair_of a b)
 unfolding pair_of
 pair_made a b = record { services = services; both = refl; paths = refl; latest = refl }
   where
-    services : (w : ServiceName) → service_of (pair_of a b) w ≡ service_from (or_none (settings_of (record { first = a; second = some b }) w))
+    services : (w : ServiceName) → service_of (pair_of a b) w ≡ service_from (or_none (settings_of (record { first = a; second = Some b }) w))
     services First = refl
     services Second = refl
 
 made_of : (a : Settings) (o : Option Settings) → accepted_with a o ≡ true → MadeOf (record { first = a; second = o }) (made_with a o)
-made_of a none h = subst (λ (n : Node). MadeOf (record { first = a; second = none }) n) (sym (made-node a h)) (one-made a)
-made_of a (some b) h = subst (λ (n : Node). MadeOf (record { first = a; second = some b }) n) (sym (paired_node a b h)) (pair_made a b)
+made_of a None h = subst (λ (n : Node). MadeOf (record { first = a; second = None }) n) (sym (made-node a h)) (one-made a)
+made_of a (Some b) h = subst (λ (n : Node). MadeOf (record { first = a; second = Some b }) n) (sym (paired_node a b h)) (pair_made a b)
 
 alike_none : (o p : Option Settings) → BothAlike o p → SeenAlike (or_none o) (or_none p)
-alike_none none none h = seen_same no_settings no_settings refl
-alike_none none (some b) h = absurd h
-alike_none (some a) none h = absurd h
-alike_none (some a) (some b) h = h
+alike_none None None h = seen_same no_settings no_settings refl
+alike_none None (Some b) h = absurd h
+alike_none (Some a) None h = absurd h
+alike_none (Some a) (Some b) h = h
 
 alike_both : (o p : Option Settings) → BothAlike o p → both_of o ≡ both_of p
-alike_both none none h = refl
-alike_both none (some b) h = absurd h
-alike_both (some a) none h = absurd h
-alike_both (some a) (some b) h = refl
+alike_both None None h = refl
+alike_both None (Some b) h = absurd h
+alike_both (Some a) None h = absurd h
+alike_both (Some a) (Some b) h = refl
 
 both-same : (x : ServiceName) (s t : Start) → AlikeBut x s t → both_of s.second ≡ both_of t.second
 both-same First s t h = ap both_of h.others

@@ -1,10 +1,9 @@
 -- Demand 1 holds of every call. Assumes nothing.
-use Rattle.std.specs.Prelude.{Result, Ok, Err}
+use Rattle.std.specs.Prelude.{Result, Ok, Err, Option, None, Some}
 use Prim.Native.Nat.{ℕ, max}
 use mathlib.Core.Path.{◌≡◌, refl, sym, ap, subst, ◌∙◌}
 use mathlib.Core.Bool.{Bool, true, false, cond, ◌&&◌}
 use mathlib.Core.List.{List, [], ◌∷◌}
-use mathlib.Core.Option.{Option, none, some}
 use native.Mathlib.Omega.{arith}
 use native.Mathlib.Nat.{max-zero}
 use lib.ListN.{length}
@@ -74,8 +73,8 @@ never_tells r size len h =
 
 -- what leaves all but the latest time leaves what is collected
 raised-collected : (v : Option ServiceName) (n : Node) (time : ℕ) (next : Node) → next ≡ raised_to n time → OnlyCollected v n time next
-raised-collected none n time next e = e
-raised-collected (some w) n time next e = e ∙ sym (put-own n w time) ∙ ap (λ (s : Service). node_with n w (with_pieces (service_of n w) s.pieces) time) (sym (ap (λ (k : Node). service_of k w) e ∙ raised-service n time w))
+raised-collected None n time next e = e
+raised-collected (Some w) n time next e = e ∙ sym (put-own n w time) ∙ ap (λ (s : Service). node_with n w (with_pieces (service_of n w) s.pieces) time) (sym (ap (λ (k : Node). service_of k w) e ∙ raised-service n time w))
 
 -- a refusal, which is not 14, and what it leaves
 refuses : (n : Node) (v : View) (o : Outcome) (r : Refusal) → o.given ≡ refused r → o.node ≡ raised_to n v.time → o.output ≡ v.lent → Refusing n v o

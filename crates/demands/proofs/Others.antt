@@ -1,7 +1,7 @@
 -- Which services a node has, and that a call leaves the one that it does not name as it is. Assumes nothing.
+use Rattle.std.specs.Prelude.{Option, None, Some}
 use Prim.Native.Nat.{ℕ, zero, suc, ◌<◌}
 use mathlib.Core.Path.{◌≡◌, refl, ap}
-use mathlib.Core.Option.{Option, none, some}
 use native.Mathlib.Omega.{arith}
 use borrow.Author.Tests.{ltb-true, lt-ltb}
 use Rattle.lists.proofs.Decides.{Decides}
@@ -21,18 +21,18 @@ use Rattle.demands.specs.Calls.{NodeCall, receiving, receiving_part, sending, re
 
 -- a mark for each of the names
 abbrev marked : Option ServiceName → ℕ
-marked none = 2
-marked (some First) = 0
-marked (some Second) = 1
+marked None = 2
+marked (Some First) = 0
+marked (Some Second) = 1
 
 -- the two names differ, and no name is none of them
-pub not_same : some Second ≡ some First → ⊥
+pub not_same : Some Second ≡ Some First → ⊥
 not_same e = let z : ◌≡◌ {A = ℕ} 1 0 = ap marked e in omega arith
 
-pub not-same-back : some First ≡ some Second → ⊥
+pub not-same-back : Some First ≡ Some Second → ⊥
 not-same-back e = let z : ◌≡◌ {A = ℕ} 0 1 = ap marked e in omega arith
 
-pub no_name : (w : ServiceName) → none ≡ some w → ⊥
+pub no_name : (w : ServiceName) → None ≡ Some w → ⊥
 no_name First e = let z : ◌≡◌ {A = ℕ} 2 0 = ap marked e in omega arith
 no_name Second e = let z : ◌≡◌ {A = ℕ} 2 1 = ap marked e in omega arith
 
@@ -42,7 +42,7 @@ pub decides_has : (n : Node) (w : ServiceName) → Decides (has_service n w) (Ha
 decides_has n First = record { holds = λ h. tt; passes = λ f. refl }
 decides_has n Second = record {
   holds = λ h zero. absurd (positive n.both (ltb-true 0 n.both h) zero);
-  passes = λ some. lt-ltb 0 n.both (more n.both some);
+  passes = λ Some. lt-ltb 0 n.both (more n.both Some);
 }
   where
     positive : (k : ℕ) → 0 < k → k ≡ 0 → ⊥
@@ -54,13 +54,13 @@ decides_has n Second = record {
 
 -- ---- the one that is not named
 
-put_other : (n : Node) (v : ServiceName) (s : Service) (time : ℕ) (w : ServiceName) → (some v ≡ some w → ⊥) → service_of (node_with n v s time) w ≡ service_of n w
+put_other : (n : Node) (v : ServiceName) (s : Service) (time : ℕ) (w : ServiceName) → (Some v ≡ Some w → ⊥) → service_of (node_with n v s time) w ≡ service_of n w
 put_other n First s time First h = absurd (h refl)
 put_other n First s time Second h = refl
 put_other n Second s time First h = refl
 put_other n Second s time Second h = absurd (h refl)
 
-pub others_left : (n : Node) (x : NodeCall) (w : ServiceName) → ((view_of x).service ≡ some w → ⊥) → service_of (outcome_of n x).node w ≡ service_of n w
+pub others_left : (n : Node) (x : NodeCall) (w : ServiceName) → ((view_of x).service ≡ Some w → ⊥) → service_of (outcome_of n x).node w ≡ service_of n w
 unfolding receive_of send_of report_of replace_of ask_of hear_of
 others_left n (receiving v d interface time memory) w h = put_other n v _ time w h
 others_left n (receiving_part v d interface) w h = refl

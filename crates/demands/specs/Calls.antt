@@ -1,6 +1,5 @@
 -- A list of calls on one node, run by the definitions that the contracts of `node` cite; and a call as the demands see it.
-use Rattle.std.specs.Prelude.{ℕ, ◌%◌, Bool, true, false, not, List, [], ◌∷◌, eqb, length}
-use Rattle.std.proofs.Math.Option.{Option, none, some}
+use Rattle.std.specs.Prelude.{ℕ, ◌%◌, Bool, true, false, not, List, [], ◌∷◌, eqb, length, Option, None, Some}
 use Rattle.refusals.specs.Given.{Given, answered}
 use Rattle.header.specs.Fields.{word_at}
 use Rattle.header.specs.Wrap.{written_given}
@@ -105,14 +104,14 @@ pub record View : Type 0 where
 
 -- each call as the demands see it
 abbrev pub view_of : NodeCall → View
-view_of (receiving w d interface time memory) = record { time = time; lent = memory; service = some w; sizes = no_size; piece = is_piece d }
-view_of (receiving_part w d interface) = record { time = 0; lent = []; service = some w; sizes = no_size; piece = false }
-view_of (sending w packet hop k time out) = record { time = time; lent = out; service = some w; sizes = a_sending w packet hop k; piece = false }
-view_of (reporting m time) = record { time = time; lent = []; service = none; sizes = a_report m; piece = false }
-view_of (relisting w addresses count time) = record { time = time; lent = []; service = some w; sizes = no_size; piece = false }
-view_of (asking w k time out) = record { time = time; lent = out; service = some w; sizes = no_size; piece = false }
-view_of (hearing w packet time) = record { time = time; lent = []; service = some w; sizes = no_size; piece = false }
-view_of (advertising w packet k a out) = record { time = 0; lent = out; service = some w; sizes = no_size; piece = false }
+view_of (receiving w d interface time memory) = record { time = time; lent = memory; service = Some w; sizes = no_size; piece = is_piece d }
+view_of (receiving_part w d interface) = record { time = 0; lent = []; service = Some w; sizes = no_size; piece = false }
+view_of (sending w packet hop k time out) = record { time = time; lent = out; service = Some w; sizes = a_sending w packet hop k; piece = false }
+view_of (reporting m time) = record { time = time; lent = []; service = None; sizes = a_report m; piece = false }
+view_of (relisting w addresses count time) = record { time = time; lent = []; service = Some w; sizes = no_size; piece = false }
+view_of (asking w k time out) = record { time = time; lent = out; service = Some w; sizes = no_size; piece = false }
+view_of (hearing w packet time) = record { time = time; lent = []; service = Some w; sizes = no_size; piece = false }
+view_of (advertising w packet k a out) = record { time = 0; lent = out; service = Some w; sizes = no_size; piece = false }
 
 -- what a call is to the router list of a service
 pub data OfRouters : Type 0 where

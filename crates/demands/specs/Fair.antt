@@ -1,8 +1,7 @@
 -- The fairness law of lists of calls on a node: with the list unchanged and no advertisement of its own accepted meanwhile, a due router is
 -- served within as many answered askings as there are routers (R13.6).
-use Rattle.std.specs.Prelude.{ℕ, ◌≤◌, max, ◌≡◌, true, length, take}
+use Rattle.std.specs.Prelude.{ℕ, ◌≤◌, max, ◌≡◌, true, length, take, Some}
 use mathlib.Core.List.{List, [], ◌∷◌, ◌++◌, Memᴰ}
-use Rattle.std.proofs.Math.Option.{some}
 use Rattle.refusals.specs.Given.{Given, answered}
 use Rattle.routers.specs.Routers.{live}
 use Rattle.routers.specs.declared.Router.{Router}
@@ -51,5 +50,5 @@ ServedSoon w n r x xs =
 unfoldable pub FairNode : Type 0
 FairNode =
     (s : Start) → is_right s ≡ true
-    → (w : ServiceName) (t : Settings) → settings_of s w ≡ some t
+    → (w : ServiceName) (t : Settings) → settings_of s w ≡ Some t
     → (before : List NodeCall) (r : Router) (x : NodeCall) (xs : List NodeCall) → ServedSoon w (node_after (start_of s) before) r x xs

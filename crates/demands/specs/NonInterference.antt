@@ -1,7 +1,6 @@
 -- Neither service sees how the other is set up (R26.9): two lists of calls that differ in what one service was given alone look the same to the
 -- other.
-use Rattle.std.specs.Prelude.{ℕ, ◌≡◌, ◌⊎◌, true, List, [], ◌∷◌}
-use Rattle.std.proofs.Math.Option.{Option, none, some}
+use Rattle.std.specs.Prelude.{ℕ, ◌≡◌, ◌⊎◌, true, List, [], ◌∷◌, Option, None, Some}
 use Rattle.refusals.specs.Given.{Given}
 use Rattle.settings.specs.Settings.{locators_of}
 use Rattle.settings.specs.declared.Settings.{Settings}
@@ -24,10 +23,10 @@ pub record SeenAlike (a b : Settings) : Type 0 where
 
 -- neither is there, or both are and are seen alike
 abbrev pub BothAlike : Option Settings → Option Settings → Type 0
-BothAlike none none = Unit {0}
-BothAlike none (some b) = ⊥
-BothAlike (some a) none = ⊥
-BothAlike (some a) (some b) = SeenAlike a b
+BothAlike None None = Unit {0}
+BothAlike None (Some b) = ⊥
+BothAlike (Some a) None = ⊥
+BothAlike (Some a) (Some b) = SeenAlike a b
 
 -- settings that differ in those of the service x alone
 pub record AlikeBut (x : ServiceName) (s t : Start) : Type 0 where
@@ -36,7 +35,7 @@ pub record AlikeBut (x : ServiceName) (s t : Start) : Type 0 where
 
 -- the same call; or two calls of the service x with one time, whatever else they are: new router lists among them
 abbrev pub AlikeCall : ServiceName → NodeCall → NodeCall → Type 0
-AlikeCall x c d = (c ≡ d) ⊎ (((view_of c).service ≡ some x) × ((view_of d).service ≡ some x) × ((view_of c).time ≡ (view_of d).time))
+AlikeCall x c d = (c ≡ d) ⊎ (((view_of c).service ≡ Some x) × ((view_of d).service ≡ Some x) × ((view_of c).time ≡ (view_of d).time))
 
 -- lists of such calls, one by one
 abbrev pub AlikeCalls : ServiceName → List NodeCall → List NodeCall → Type 0
@@ -52,8 +51,8 @@ pub record Seen : Type 0 where
 
 -- what is seen of a call that names that service, or none, by who does not use the service x
 abbrev pub seen_beside : ServiceName → Option ServiceName → Outcome → Option Seen
-seen_beside x none o = some (record { given = o.given; output = o.output })
-seen_beside x (some w) o = if_same x w none (some (record { given = o.given; output = o.output }))
+seen_beside x None o = Some (record { given = o.given; output = o.output })
+seen_beside x (Some w) o = if_same x w None (Some (record { given = o.given; output = o.output }))
 
 -- what is seen so of a list of calls
 abbrev pub run_beside : ServiceName → Node → List NodeCall → List (Option Seen)

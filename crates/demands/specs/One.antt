@@ -1,8 +1,7 @@
 -- Demand 1 (R12.1), of every call: after any of them the state is as before but for the latest time, and the lent output is untouched; 14
 -- alone may write, and of what is collected and of its memory a number may change what R23.16 says. Bytes behind the written length stay
 -- (R1.14 to R1.16).
-use Rattle.std.specs.Prelude.{ℕ, ◌≡◌, Bool, cond, ◌||◌, List, [], ◌∷◌, eqb, length}
-use Rattle.std.proofs.Math.Option.{Option, none, some}
+use Rattle.std.specs.Prelude.{ℕ, ◌≡◌, Bool, cond, ◌||◌, List, [], ◌∷◌, eqb, length, Option, None, Some}
 use Rattle.lent.specs.Written.{written}
 use Rattle.node.specs.Node.{service_of, node_with, raised_to}
 use Rattle.node.specs.Receive.{with_pieces}
@@ -34,8 +33,8 @@ changed_by piece number =
 
 -- of the service that a call names no more than the collection changes, and of the other nothing; a report names none
 abbrev pub OnlyCollected : Option ServiceName → Node → ℕ → Node → Type 0
-OnlyCollected none n time next = next ≡ raised_to n time
-OnlyCollected (some w) n time next = next ≡ node_with n w (with_pieces (service_of n w) (service_of next w).pieces) time
+OnlyCollected None n time next = next ≡ raised_to n time
+OnlyCollected (Some w) n time next = next ≡ node_with n w (with_pieces (service_of n w) (service_of next w).pieces) time
 
 -- a refusal of a call that is seen so changes nothing of the node n but its latest time, and writes nothing, but for the message of 14, and
 -- but for what its number may change of what is collected

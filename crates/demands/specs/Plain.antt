@@ -1,6 +1,5 @@
 -- The plain record of demand 3 (R11), one for both services: fed the settings and the calls, and no answers.
-use Rattle.std.specs.Prelude.{ℕ, max, cond, List, [], ◌∷◌, length}
-use Rattle.std.proofs.Math.Option.{Option, none, some}
+use Rattle.std.specs.Prelude.{ℕ, max, cond, List, [], ◌∷◌, length, Option, None, Some}
 use Rattle.refusals.specs.Given.{Given}
 use Rattle.refusals.specs.declared.Refusal.TheVariants.{NoLocator}
 use Rattle.address.specs.Address.{last_quad}
@@ -42,13 +41,13 @@ plain_size t r v = in_force t.link_size (record_kept r.entries v r.latest)
 
 -- the settings of the service that a report belongs to (R26.5): the second's where they alone have the quoted source for a locator address
 abbrev pub reported_with : Settings → Option Settings → List ℕ → Settings
-reported_with a none m = a
-reported_with a (some b) m = cond (quotes_other a b m) b a
+reported_with a None m = a
+reported_with a (Some b) m = cond (quotes_other a b m) b a
 
 -- the rules of sending, for the record's size toward the tunnel end; 11 where there is no such service
 abbrev pub sent_with : Option Settings → Plain → List ℕ → List ℕ → ℕ → ℕ → SendAnswer
-sent_with none r packet hop k room = sent.Refused NoLocator
-sent_with (some t) r packet hop k room = answer_of t (plain_size t r (last_quad hop)) packet hop k room
+sent_with None r packet hop k room = sent.Refused NoLocator
+sent_with (Some t) r packet hop k room = answer_of t (plain_size t r (last_quad hop)) packet hop k room
 
 module _ (s : Start) where
   -- the first of 16, 17, 18 that its bytes and the settings of its service give, else 19 if its candidate is not below the record's size
@@ -60,9 +59,9 @@ module _ (s : Start) where
 
   -- its answer to a call, with that much room in the output; none where the call is neither a sending nor a report
   abbrev pub plain_given : Plain → ℕ → OfSizes → Option Given
-  plain_given r room (a_sending w packet hop k) = some (send_given (sent_with (settings_of s w) r packet hop k room))
-  plain_given r room (a_report m) = some (report_given (plain_report r m))
-  plain_given r room no_size = none
+  plain_given r room (a_sending w packet hop k) = Some (send_given (sent_with (settings_of s w) r packet hop k room))
+  plain_given r room (a_report m) = Some (report_given (plain_report r m))
+  plain_given r room no_size = None
 
   -- the record after a call, once its latest time is raised
   abbrev pub plain_entered : Plain → OfSizes → Plain
@@ -87,9 +86,9 @@ module _ (s : Start) where
 
 -- what is given back to a sending or a report; none of any other call
 abbrev pub given_if : OfSizes → Given → Option Given
-given_if (a_sending w packet hop k) g = some g
-given_if (a_report m) g = some g
-given_if no_size g = none
+given_if (a_sending w packet hop k) g = Some g
+given_if (a_report m) g = Some g
+given_if no_size g = None
 
 -- what the node answers to each call of a list, if it is a sending or a report
 abbrev pub run : Node → List NodeCall → List (Option Given)

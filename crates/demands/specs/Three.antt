@@ -1,6 +1,5 @@
 -- Demand 3, as one statement about a whole list of calls.
-use Rattle.std.specs.Prelude.{ℕ, max, ◌≡◌, Bool, true, List, take}
-use Rattle.std.proofs.Math.Option.{some}
+use Rattle.std.specs.Prelude.{ℕ, max, ◌≡◌, Bool, true, List, take, Some}
 use Rattle.settings.specs.declared.Settings.{Settings}
 use Rattle.paths.specs.Sender.{Bound}
 use Rattle.node.specs.Node.{path_size_at}
@@ -17,7 +16,7 @@ pub record Holds (s : Start) (calls : List NodeCall) : Type 0 where
   pub answers : run (start_of s) calls ≡ plain_run s fresh_plain calls
   -- for each service the node's size toward any neighbour v is the record's, before and after each of the calls and at whatever time
   -- the next one, a sending or a report, has
-  pub sizes : (w : ServiceName) (t : Settings) → settings_of s w ≡ some t → (k v time : ℕ)
+  pub sizes : (w : ServiceName) (t : Settings) → settings_of s w ≡ Some t → (k v time : ℕ)
       → path_size_at (node_after (start_of s) (take k calls)) w v (max (node_after (start_of s) (take k calls)).latest time)
       ≡ plain_size t (raised (plain_after s fresh_plain (take k calls)) time) v
   -- every sender, any choice of the sendings through the service w to v, that never offers more than the smallest size that a Too Big has

@@ -1,10 +1,9 @@
 -- The table's three arrays against its reports: what the code reads of the arrays is so of the reports.
-use Rattle.std.specs.Prelude.{None}
+use Rattle.std.specs.Prelude.{None, Option, Some}
 use mathlib.Core.Path.{◌≡◌, refl, sym, ap, ◌∙◌}
 use mathlib.Core.Logic.{⊎_elim}
 use mathlib.Core.Bool.{Bool, true, false, cond}
 use mathlib.Core.List.{List, [], ◌∷◌}
-use mathlib.Core.Option.{Option, none, some}
 use Prim.Native.Nat.{ℕ, zero, suc, ◌-◌, ◌≤◌, ◌<◌, min, max}
 use native.Mathlib.Omega.{arith}
 use native.Mathlib.Nat.{zero-min}
@@ -28,7 +27,7 @@ module _ (v : ℕ) where
   abbrev Found : List ℕ → List ℕ → List ℕ → List Report → Type 0
   Found vs ss ts es =
       let p : ℕ = row_of v (take (length es) vs) in
-      (row_in v es ≡ p) × (last_of v es ≡ cond (ltb p (length es)) (some (row_at vs ss ts p)) none)
+      (row_in v es ≡ p) × (last_of v es ≡ cond (ltb p (length es)) (Some (row_at vs ss ts p)) None)
 
   found : (n : ℕ) (vs ss ts : List ℕ) → Found vs ss ts (held_in vs ss ts n)
   found zero vs ss ts = (refl, refl)
@@ -78,11 +77,11 @@ module _ {vs ss ts : List ℕ} {count v n p : ℕ} (c : Scanned vs ss ts count v
   number : n ≡ length (held_in vs ss ts count)
   number = omega (arith, c.used, length-take count (rows vs ss ts), rows-length vs ss ts)
 
-  reads : (row_in v (held_in vs ss ts count) ≡ p) × (last_of v (held_in vs ss ts count) ≡ cond (ltb p n) (some (row_at vs ss ts p)) none)
+  reads : (row_in v (held_in vs ss ts count) ≡ p) × (last_of v (held_in vs ss ts count) ≡ cond (ltb p n) (Some (row_at vs ss ts p)) None)
   reads = rw (c.row, number) (found v count vs ss ts)
 
   pub kept_at : kept_among vs ss ts count v now ≡ cond (ltb p n) (while_young (get_or ss p 0) (get_or ts p 0) now) None
-  kept_at = ap (λ (o : Option Report). kept_from o now) reads.1 ∙ kept_from-cond (ltb p n) (some (row_at vs ss ts p)) now
+  kept_at = ap (λ (o : Option Report). kept_from o now) reads.1 ∙ kept_from-cond (ltb p n) (Some (row_at vs ss ts p)) now
 
   -- the size in force by the row that was found
   pub size-at : (link : ℕ) → cond (ltb p n) (in_force link (while_young (get_or ss p 0) (get_or ts p 0) now)) link ≡ in_force link (kept_among vs ss ts count v now)

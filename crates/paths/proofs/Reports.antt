@@ -1,10 +1,9 @@
 -- Lists of reports: a neighbour's last and those since, the last of each, and a list without one element.
-use Rattle.std.specs.Prelude.{None}
+use Rattle.std.specs.Prelude.{None, Option}
 use mathlib.Core.Path.{◌≡◌, refl, ap, ◌∙◌}
 use mathlib.Core.Logic.{◌⊎◌, ⊎_elim, inl, inr}
 use mathlib.Core.Bool.{Bool, true, false, cond}
 use mathlib.Core.List.{List, [], ◌∷◌}
-use mathlib.Core.Option.{Option, none}
 use Prim.Native.Nat.{ℕ, zero, suc, ◌≤◌, min}
 use native.Mathlib.Nat.{min-zero, zero-min, suc-min-suc}
 use native.Mathlib.Omega.{arith}
@@ -20,7 +19,7 @@ pub tested : (b : Bool) → (b ≡ true) ⊎ (b ≡ false)
 tested true = inl refl
 tested false = inr refl
 
-pub kept_from-cond : (b : Bool) (o : Option Report) (now : ℕ) → kept_from (cond b o none) now ≡ cond b (kept_from o now) None
+pub kept_from-cond : (b : Bool) (o : Option Report) (now : ℕ) → kept_from (cond b o None) now ≡ cond b (kept_from o now) None
 kept_from-cond true o now = refl
 kept_from-cond false o now = refl
 
@@ -66,7 +65,7 @@ module _ (v : ℕ) where
   since-length [] = refl
   since-length (e ∷ es) = ⊎_elim (λ h. rw h) (λ h. rw h (ap suc (since-length es))) (tested (eqb e.neighbour v))
 
-  pub last_of-take : (m : ℕ) (es : List Report) → last_of v (take m es) ≡ cond (ltb (row_in v es) m) (last_of v es) none
+  pub last_of-take : (m : ℕ) (es : List Report) → last_of v (take m es) ≡ cond (ltb (row_in v es) m) (last_of v es) None
   last_of-take zero es = rw (le-ltb (row_in v es) 0 (omega arith))
   last_of-take (suc m) [] = rw (lt-ltb 0 (suc m) (omega arith))
   last_of-take (suc m) (e ∷ es) =

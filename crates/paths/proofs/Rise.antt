@@ -1,10 +1,9 @@
 -- The size toward a neighbour falls by a report of its own alone: time and other neighbours' reports only end what is kept.
-use Rattle.std.specs.Prelude.{Some, None}
+use Rattle.std.specs.Prelude.{Some, None, Option}
 use mathlib.Core.Path.{◌≡◌, refl}
 use mathlib.Core.Logic.{◌⊎◌, ⊎_elim, inl, inr}
 use mathlib.Core.Bool.{Bool, true, false, cond, false≢true}
 use mathlib.Core.List.{List, [], ◌∷◌}
-use mathlib.Core.Option.{Option, none, some}
 use Prim.Native.Nat.{ℕ, zero, suc, ◌+◌, ◌≤◌}
 use native.Mathlib.Nat.{le_refl}
 use native.Mathlib.Omega.{arith}
@@ -30,8 +29,8 @@ fades_cond false false k l h f = inl refl
 -- by time
 kept_from-later : (o : Option Report) (now then : ℕ) → now ≤ then → Fades (kept_from o now) (kept_from o then)
 unfolding while_young
-kept_from-later none now then l = inl refl
-kept_from-later (some e) now then l =
+kept_from-later None now then l = inl refl
+kept_from-later (Some e) now then l =
     fades_cond (ltb now (e.time + lifetime)) (ltb then (e.time + lifetime)) (Some e.size) (Some e.size)
     (λ h. lt-ltb now (e.time + lifetime) (omega (arith, ltb-true then (e.time + lifetime) h))) (inl refl)
 

@@ -1,6 +1,5 @@
 -- R10: the size that is kept of a report, and the size in force. Table and record share these words.
-use Rattle.std.specs.Prelude.{ℕ, ◌+◌, min, cond, List, [], ◌∷◌, ltb, eqb, Some, None}
-use Rattle.std.proofs.Math.Option.{Option, none, some}
+use Rattle.std.specs.Prelude.{ℕ, ◌+◌, min, cond, List, [], ◌∷◌, ltb, eqb, Some, None, Option}
 
 -- an accepted report: its neighbour, its candidate, and the time when it was accepted
 pub record Report : Type 0 where
@@ -10,8 +9,8 @@ pub record Report : Type 0 where
 
 -- the last report of neighbour v, if there is one; here and below the newest stands first
 abbrev pub last_of : ℕ → List Report → Option Report
-last_of v [] = none
-last_of v (e ∷ es) = cond (eqb e.neighbour v) (some e) (last_of v es)
+last_of v [] = None
+last_of v (e ∷ es) = cond (eqb e.neighbour v) (Some e) (last_of v es)
 
 -- a report is in force for so many seconds
 abbrev pub lifetime : ℕ
@@ -27,8 +26,8 @@ while_young size time now = cond (ltb now (time + lifetime)) (Some size) None
 
 -- what is kept of a report, if there is one
 abbrev pub kept_from : Option Report → ℕ → Option ℕ
-kept_from none now = None
-kept_from (some e) now = while_young e.size e.time now
+kept_from None now = None
+kept_from (Some e) now = while_young e.size e.time now
 
 -- the size in force over a link: the smaller of L and the kept one, otherwise L
 unfoldable pub in_force : ℕ → Option ℕ → ℕ
