@@ -37,8 +37,8 @@ use Rattle.advertising.specs.Facts.{LinkLocalIsatap, MayAdvertise, advertise_fac
 
 untouched_by : (asker writer : Result Unit Refusal) (n : ℕ) (w out : List ℕ) (r : Refusal) → stop_or Err asker (stop_or Err writer (Ok n)) ≡ Err r
     → stop_or (λ x. out) asker (stop_or (λ x. out) writer (written w out)) ≡ out
-untouched_by (Ok tt) (Ok tt) n w out r h = cc
-untouched_by (Ok tt) (Err x) n w out r h = refl
+untouched_by (Ok a) (Ok b) n w out r h = cc
+untouched_by (Ok a) (Err x) n w out r h = refl
 untouched_by (Err x) writer n w out r h = refl
 
 -- after a refusal the output is as before

@@ -54,7 +54,12 @@ fn next_hop_not_isatap(settings: Settings, next_hop: [u8; 16]) -> bool
 }
 
 // Numbers 8, 11, 12 and 13.
-fn send_check(settings: Settings, packet: &[u8], next_hop: [u8; 16], locator: usize) -> Result<(), Refusal>
+fn send_check(
+    settings: Settings,
+    packet: &[u8],
+    next_hop: [u8; 16],
+    locator: usize,
+) -> Result<(), Refusal>
     ensures { result ≡ send_check settings packet.now next_hop locator }
 {
     if packet_malformed(packet) {
