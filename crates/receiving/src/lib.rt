@@ -61,16 +61,9 @@ fn check_addresses(settings: Settings, interface: u8, o: Outer) -> Result<(), Re
 fn arrive(settings: Settings, interface: u8, read: Result<Outer, Refusal>) -> Result<Outer, Refusal>
     ensures { result ≡ arrived_of settings interface read }
 {
-    match read {
-        Ok(o) => {
-            let check = check_addresses(settings, interface, o);
-            match check {
-                Ok(()) => Ok(o),
-                Err(refusal) => Err(refusal),
-            }
-        }
-        Err(refusal) => Err(refusal),
-    }
+    let o = read?;
+    check_addresses(settings, interface, o)?;
+    Ok(o)
 }
 
 // What is read of a datagram that has arrived whole.

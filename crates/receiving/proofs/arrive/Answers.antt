@@ -1,15 +1,16 @@
--- `receiving::arrive` meets its contract: by cases on what is read, and on the check.
+-- `receiving::arrive` meets its contract: by what is read, and by the check.
+use Rattle.std.proofs.Common.{rules}
 use Rattle.receiving.specs.Stages.{arrived_of}
 use Rattle.receiving.proofs.arrive.Goals as goal
 
-pub returns-in-Ok : goal.returns-in-Ok
+pub returns-in_err-o : goal.returns-in_err-o
 unfolding arrived_of
-returns-in-Ok c = rw (c.in-Ok.is, ← c.check_addresses-check.ensures, c.in-Ok.is)
+returns-in_err-o c = search rules
 
-pub returns-in-Err : goal.returns-in-Err
+pub returns-in_err-check_addresses : goal.returns-in_err-check_addresses
 unfolding arrived_of
-returns-in-Err c = rw (c.in-Ok.is, ← c.check_addresses-check.ensures, c.in-Err.is)
+returns-in_err-check_addresses c = search rules
 
-pub returns-in-Refused : goal.returns-in-Refused
+pub returns : goal.returns
 unfolding arrived_of
-returns-in-Refused c = rw c.in-Refused.is
+returns c = rw (c.in_ok-o.was, ← c.check_addresses.ensures, c.in_ok-check_addresses.was)

@@ -6,6 +6,6 @@ pub returns-in-Ok : goal.returns-in-Ok
 unfolding delivered_of
 returns-in-Ok c s routers = rw (c.in-Ok.is, c.read_whole.ensures)
 
-pub returns-in-Refused : goal.returns-in-Refused
+pub returns-in-Err : goal.returns-in-Err
 unfolding delivered_of judged_of
-returns-in-Refused c s routers = rw c.in-Refused.is
+returns-in-Err c s routers = rw c.in-Err.is

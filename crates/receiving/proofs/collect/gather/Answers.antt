@@ -11,9 +11,9 @@ returns-in-Ok c = let g = c.gather_arrived.ensures in
       memory_after = rw (collected-memory, ← arrival, c.in-Ok.is) g.memory_after;
     }
 
-pub returns-in-Refused : goal.returns-in-Refused
+pub returns-in-Err : goal.returns-in-Err
 unfolding judged_of
-returns-in-Refused c = let arrival = c.arrival-arrived.ensures in record {
-  at_lt_places = (λ routers. rw (collected_stages, ← arrival, c.in-Refused.is, c.unchanged.ensures), rw c.unchanged.ensures (omega arith));
-  memory_after = rw (collected-memory, ← arrival, c.in-Refused.is);
+returns-in-Err c = let arrival = c.arrival-arrived.ensures in record {
+  at_lt_places = (λ routers. rw (collected_stages, ← arrival, c.in-Err.is, c.unchanged.ensures), rw c.unchanged.ensures (omega arith));
+  memory_after = rw (collected-memory, ← arrival, c.in-Err.is);
 }
