@@ -48,9 +48,10 @@ use Rattle.bogtrumpet.specs.Answers.{plain_received, plain_sized, plain_sent, pl
 use Rattle.bogtrumpet.specs.Gathered.{plain_stage, plain_judged, judged_step, gathered_after, GatheredAs}
 use Rattle.bogtrumpet.specs.Numbered.{by_number, name_of, is_there}
 use Rattle.bogtrumpet.specs.Steps.{sent_step, sent_after, sized_step, replaced_step, list_after, AskedAs, HeardAs}
-use Rattle.bogtrumpet.specs.declared.steps.AskedStep.{AskedStep}
+use Rattle.bogtrumpet.specs.declared.answers.Asked.{Asked}
+use Rattle.bogtrumpet.specs.declared.answers.Heard.{Heard}
+use Rattle.bogtrumpet.specs.declared.steps.RouterStep.{RouterStep}
 use Rattle.bogtrumpet.specs.declared.steps.GatheredStep.{GatheredStep}
-use Rattle.bogtrumpet.specs.declared.steps.HeardStep.{HeardStep}
 use Rattle.bogtrumpet.specs.declared.steps.ReplacedStep.{ReplacedStep}
 use Rattle.bogtrumpet.specs.declared.steps.SentStep.{SentStep}
 use Rattle.bogtrumpet.specs.Lending.{with_service}
@@ -170,9 +171,9 @@ module _ (h : Node) (k : ℕ) (d : List ℕ) (i t : ℕ) (memory : List ℕ) whe
 abbrev pub routed : Node → ServiceName → RouterList → ℕ → Node
 routed h w routers t = at-time (with_service h w (with_routers (service_of h w) routers)) t
 
-pub asked-same : (h : Node) (k locator t : ℕ) (out : List ℕ) (z : AskedStep) → AskedAs (is_there h.both k) (service_of h (name_of k)) h.latest locator t (length out) z
+pub asked-same : (h : Node) (k locator t : ℕ) (out : List ℕ) (z : RouterStep Asked) → AskedAs (is_there h.both k) (service_of h (name_of k)) h.latest locator t (length out) z
     → (z.answer ≡ by_number k (λ w. plain_asked (ask_of h w locator t (length out)).answer) (plain_asked (Err NoLocator)))
-    × (routed h (name_of k) (list_after z.changed z.router z.due (service_of h (name_of k)).routers) z.latest ≡ by_number k (λ w. (ask_of h w locator t (length out)).node) (raised_to h t))
+    × (routed h (name_of k) (list_after z.rescheduled (service_of h (name_of k)).routers) z.latest ≡ by_number k (λ w. (ask_of h w locator t (length out)).node) (raised_to h t))
     × (asked_through (is_there h.both k) (service_of h (name_of k)) (max h.latest t) locator out ≡ by_number k (λ w. ask_output h w locator t out) out)
 unfolding ask_of ask_output asked_by asked_through raised_to
 asked-same h k locator t out z so =
@@ -182,9 +183,9 @@ asked-same h k locator t out z so =
       by_number_lem (λ there w. asked_through there (service_of h w) (max h.latest t) locator out) (λ w. ask_output h w locator t out) out h.both k refl refl refl,
     )
 
-pub heard-same : (h : Node) (k : ℕ) (p : List ℕ) (t : ℕ) (z : HeardStep) → HeardAs (is_there h.both k) (service_of h (name_of k)) h.latest p t z
+pub heard-same : (h : Node) (k : ℕ) (p : List ℕ) (t : ℕ) (z : RouterStep Heard) → HeardAs (is_there h.both k) (service_of h (name_of k)) h.latest p t z
     → (z.answer ≡ by_number k (λ w. plain_heard (hear_of h w p t).answer) (plain_heard (Err NoLocator)))
-    × (routed h (name_of k) (list_after z.changed z.router z.due (service_of h (name_of k)).routers) z.latest ≡ by_number k (λ w. (hear_of h w p t).node) (raised_to h t))
+    × (routed h (name_of k) (list_after z.rescheduled (service_of h (name_of k)).routers) z.latest ≡ by_number k (λ w. (hear_of h w p t).node) (raised_to h t))
 unfolding hear_of heard_by raised_to
 heard-same h k p t z so =
     let step : Bool → ServiceName → hearing.Heard = λ there w. heard_by there (service_of h w) (max h.latest t) p in (

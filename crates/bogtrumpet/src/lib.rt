@@ -308,8 +308,8 @@ pub extern "C" fn bogtrumpet_ask(
     let latest = node.latest;
     let named = named(node, service);
     let step = steps::asked(*named, both, latest, service, locator, time, out);
-    if step.changed {
-        named.routers = steps::rescheduled(*named, step.router, step.due);
+    if let Some(router) = step.rescheduled {
+        named.routers = steps::rescheduled(*named, router);
     }
     node.latest = step.latest;
     step.answer
@@ -325,8 +325,8 @@ pub extern "C" fn bogtrumpet_hear(node: &mut Node, service: u8, packet: &[u8], t
     let latest = node.latest;
     let named = named(node, service);
     let step = steps::heard(*named, both, latest, service, packet, time);
-    if step.changed {
-        named.routers = steps::rescheduled(*named, step.router, step.due);
+    if let Some(router) = step.rescheduled {
+        named.routers = steps::rescheduled(*named, router);
     }
     node.latest = step.latest;
     step.answer

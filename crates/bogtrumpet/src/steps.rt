@@ -2,7 +2,6 @@
 ghost use Rattle.std.specs.Prelude.{◌≡◌, max, length};
 ghost use Rattle.node.specs.Advertise.{advertised_by, advertised_through};
 ghost use Rattle.node.specs.Ask.{asked_through};
-ghost use Rattle.node.specs.Node.{setup_of, setup_pair_of};
 ghost use Rattle.node.specs.Receive.{collected_through};
 ghost use Rattle.node.specs.Send.{sent_through};
 ghost use Rattle.routers.specs.Routers.{rescheduled_of};
@@ -10,25 +9,17 @@ ghost use Rattle.bogtrumpet.specs.Answers.{plain_advertised};
 ghost use Rattle.bogtrumpet.specs.Gathered.{plain_stage, GatheredAs, judged_step};
 ghost use Rattle.bogtrumpet.specs.Numbered.{is_there};
 ghost use Rattle.bogtrumpet.specs.Plain.{bytes_of, advertisement_from};
-ghost use Rattle.bogtrumpet.specs.Steps.{made_step, sent_step, replaced_step, AskedAs, HeardAs};
+ghost use Rattle.bogtrumpet.specs.Steps.{sent_step, replaced_step, AskedAs, HeardAs};
 
 use super::answers::{Advertised, Asked, Heard, Received, Sent};
 use super::plain::Advertisement;
 use super::{Address, Addresses, answers, numbered, plain};
-use node::{Node, Service, advertise, ask, hear, router_list, send};
+use node::{Service, advertise, ask, hear, router_list, send};
 use pieces::Place;
 use receiving::judging::{Opening, Stage, Standing};
 use receiving::{collect, judging};
 use refusals::Refusal;
-use routers::RouterList;
-use settings::Settings;
-
-// A number, and the node that is made.
-#[derive(Clone, Copy)]
-pub struct MadeStep {
-    pub answer: u8,
-    pub node: Node,
-}
+use routers::{Router, RouterList};
 
 // Of the node a sending changes the next identification of its service and the latest time alone.
 #[derive(Clone, Copy)]
@@ -66,46 +57,12 @@ pub struct ReplacedStep {
     pub latest: u32,
 }
 
-// Of the node an asking and an advertisement change the latest time and, where `changed`, the due time of a router of their service.
+// Of the node an asking and an advertisement change the latest time and, where there is one, the due time of a router of their service.
 #[derive(Clone, Copy)]
-pub struct AskedStep {
-    pub answer: Asked,
+pub struct RouterStep<A> {
+    pub answer: A,
     pub latest: u32,
-    pub router: u32,
-    pub due: u64,
-    pub changed: bool,
-}
-
-#[derive(Clone, Copy)]
-pub struct HeardStep {
-    pub answer: Heard,
-    pub latest: u32,
-    pub router: u32,
-    pub due: u64,
-    pub changed: bool,
-}
-
-// What stood where the new node is to stand is not asked.
-#[tactic(auto, unfolding(crate::specs::Steps::made_step))]
-pub fn made(_: Node, settings: Settings) -> MadeStep
-    ensures { result ≡ made_step (setup_of settings) }
-{
-    let setup = Node::new(settings);
-    let given = setup.answer;
-    let node = setup.node;
-    let answer = refusals::number(given);
-    MadeStep { answer, node }
-}
-
-#[tactic(auto, unfolding(crate::specs::Steps::made_step))]
-pub fn made_pair(_: Node, first: Settings, second: Settings) -> MadeStep
-    ensures { result ≡ made_step (setup_pair_of first second) }
-{
-    let setup = Node::new_pair(first, second);
-    let given = setup.answer;
-    let node = setup.node;
-    let answer = refusals::number(given);
-    MadeStep { answer, node }
+    pub rescheduled: Option<Router>,
 }
 
 fn plain_stage(stage: Stage) -> PlainStage
@@ -255,21 +212,18 @@ pub fn asked(
     locator: usize,
     time: u32,
     out: &mut [u8],
-) -> AskedStep
+) -> RouterStep<Asked>
     ensures { AskedAs (is_there both service) named latest locator time (length out.old) result
         × (out.new ≡ asked_through (is_there both service) named (max latest time) locator out.old) }
 {
     let latest = node::later(latest, time);
     let there = numbered::there(both, service);
     let given = ask::answered_by(there, named, latest, locator, out);
-    let answer = answers::plain_asked(given);
-    let asked = answer.number == 0;
-    AskedStep {
-        answer,
+    let due = latest as u64 + named.settings.interval as u64;
+    RouterStep {
+        answer: answers::plain_asked(given),
         latest,
-        router: answer.router,
-        due: latest as u64 + named.settings.interval as u64,
-        changed: asked,
+        rescheduled: given.ok().map(|address| Router { address, due }),
     }
 }
 
@@ -281,30 +235,27 @@ pub fn heard(
     service: u8,
     packet: &[u8],
     time: u32,
-) -> HeardStep
+) -> RouterStep<Heard>
     ensures { HeardAs (is_there both service) named latest packet.now time result }
 {
     let latest = node::later(latest, time);
     let there = numbered::there(both, service);
     let judged = hear::judged_by(there, named, latest, packet);
     let given = judged.answer;
-    let answer = answers::plain_heard(given);
-    let accepted = answer.number == 0;
-    HeardStep {
-        answer,
+    let due = judged.due;
+    RouterStep {
+        answer: answers::plain_heard(given),
         latest,
-        router: answer.router,
-        due: judged.due,
-        changed: accepted,
+        rescheduled: given.ok().map(|address| Router { address, due }),
     }
 }
 
-// The router list of a service once the router of that address is due at `due`.
-pub fn rescheduled(named: Service, router: u32, due: u64) -> RouterList
-    ensures { result ≡ rescheduled_of router due named.routers }
+// The router list of a service once a router of it is due at another time.
+pub fn rescheduled(named: Service, router: Router) -> RouterList
+    ensures { result ≡ rescheduled_of router.address router.due named.routers }
 {
     let routers = named.routers;
-    routers.rescheduled(router, due)
+    routers.rescheduled(router.address, router.due)
 }
 
 // An answer to a solicitation: node::advertise::advertised_by.

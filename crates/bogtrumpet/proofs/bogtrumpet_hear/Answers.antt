@@ -18,7 +18,7 @@ returns c =
     let w = name_of a.service in
     let z = c.heard-step.result in
     let s = heard-same h a.service a.packet.now a.time z (rw c.named-named.ensures.value at c.heard-step.ensures) in
-    let left : c.if-step.node ≡ with_service h w (with_routers (service_of h w) (list_after z.changed z.router z.due (service_of h w).routers)) =
+    let left : c.if-step.node ≡ with_service h w (with_routers (service_of h w) (list_after z.rescheduled (service_of h w).routers)) =
     elim c.if-step.branch [
       | then-step b ↦ rw (b.node-is, b.if-step.true, b.rescheduled-named.ensures, c.named-named.ensures.value)
       | else-step b ↦ rw (b.node-is, b.if-step.false, c.named-named.ensures.value)
