@@ -23,7 +23,7 @@ pub struct Address {
 fn part_at(all: &[u8], size: usize, i: u32) -> &[u8]
     ensures { result.now ≡ part_at all.now size i }
 {
-    let size = lists::least(size, all.len() / 4);
+    let size = size.min(all.len() / 4);
     let start = (i % 4) as usize * size;
     let end = start + size;
     &all[start..end]
@@ -56,11 +56,9 @@ pub extern "C" fn bench_checksum(start: u32, bytes: &[u8], size: usize, count: u
     ensures { result ≡ sums_from start bytes.now size count }
 {
     let mut total: u64 = 0;
-    let mut i: u32 = 0;
-    while i < count {
+    for i in 0..count {
         let sum = checksum::sum_from(start, part_at(bytes, size, i));
         total = total.wrapping_add(sum as u64);
-        i = i + 1;
     }
     total
 }
@@ -83,8 +81,7 @@ pub extern "C" fn bench_receive(
 {
     let mut next = n;
     let mut sum: u64 = 0;
-    let mut i: u32 = 0;
-    while i < count {
+    for i in 0..count {
         let receipt = next.receive(
             ServiceName::First,
             part_at(datagrams, size, i),
@@ -95,7 +92,6 @@ pub extern "C" fn bench_receive(
         next = receipt.node;
         let answer = receipt.answer;
         sum = sum.wrapping_add(received_worth(answer));
-        i = i + 1;
     }
     sum
 }
@@ -119,8 +115,7 @@ pub extern "C" fn bench_send(
     let hop = next_hop.bytes;
     let mut next = n;
     let mut sum: u64 = 0;
-    let mut i: u32 = 0;
-    while i < count {
+    for i in 0..count {
         let sent = next.send(
             ServiceName::First,
             part_at(packets, size, i),
@@ -132,7 +127,6 @@ pub extern "C" fn bench_send(
         next = sent.node;
         let answer = sent.answer;
         sum = sum.wrapping_add(sent_worth(answer));
-        i = i + 1;
     }
     sum
 }
@@ -145,8 +139,7 @@ pub extern "C" fn bench_lookup(table: PathTable, link: u16, first: u32, count: u
     ensures { result ≡ sizes_toward table link first now count }
 {
     let mut sum: u64 = 0;
-    let mut i: u32 = 0;
-    while i < count {
+    for i in 0..count {
         let neighbour = first.wrapping_add(i);
         let size = paths::size_among(
             link,
@@ -158,7 +151,6 @@ pub extern "C" fn bench_lookup(table: PathTable, link: u16, first: u32, count: u
             now,
         );
         sum = sum + wide(size);
-        i = i + 1;
     }
     sum
 }
