@@ -4,7 +4,8 @@ ghost use Rattle.comparing.specs.Compared.{compared_of, output_of};
 ghost use Rattle.comparing.specs.Given.{more_number};
 ghost use Rattle.bogtrumpet_rules.specs.Recordings.{plain_compared};
 
-use comparing::More;
+use comparing::{More, Report};
+use refusals::Refusal;
 
 // Which recording has more datagrams (0 neither, 1 the first, 2 the second), and the length of the report that was written.
 #[repr(C)]
@@ -25,16 +26,16 @@ fn more_number(more: More) -> u8
     }
 }
 
-fn plain_compared(compared: comparing::Compared) -> Compared
+fn plain_compared(compared: Result<Report, Refusal>) -> Compared
     ensures { result ≡ plain_compared compared }
 {
     match compared {
-        comparing::Compared::Report { length, more } => Compared {
+        Ok(report) => Compared {
             number: 0,
-            more: more_number(more),
-            length,
+            more: more_number(report.more),
+            length: report.length,
         },
-        comparing::Compared::Refused(refusal) => Compared {
+        Err(refusal) => Compared {
             number: refusal.number(),
             more: 0,
             length: 0,

@@ -1,4 +1,5 @@
 -- When each refusal is given (R27.8), in facts over the bytes. Assumes nothing.
+use Rattle.std.specs.Prelude.{Ok, Err}
 use Prim.Native.Nat.{ℕ}
 use mathlib.Core.Bool.{Bool, ◌&&◌}
 use mathlib.Core.List.{List}
@@ -12,7 +13,6 @@ use Rattle.input.proofs.WrittenOut.{recording_written}
 use Rattle.input.proofs.ReadBack.{recording_back}
 use Rattle.comparing.specs.Compared.{more_of, report_of, compare_check, compared_of}
 use Rattle.comparing.specs.Facts.{Recorded, AnswersCompare}
-use Rattle.comparing.specs.declared.Compared.TheVariants.{Report, Refused}
 use Rattle.comparing.proofs.Checking.{length-of-report}
 
 -- the test of a recording decides that the bytes are datagrams written out
@@ -24,11 +24,11 @@ decides_recorded r b = record {
 
 -- 31 exactly if one of the two is no recording; then 15 exactly if there is no room for six bytes a run
 pub answers-compare : (masked : Bool) (first second : List ℕ) (room : ℕ) → Bytes first → Bytes second
-    → AnswersCompare masked first second room (Report (length (report_of masked first second)) (more_of first second)) (compared_of masked first second room)
+    → AnswersCompare masked first second room (Ok (record { length = length (report_of masked first second); more = more_of first second })) (compared_of masked first second room)
 unfolding compared_of compare_check
 answers-compare masked first second room b c =
     let l = length-of-report masked first second in
-    answers-first Refused
+    answers-first Err
     (row (decides_not (is_recording first && is_recording second) (decides_and (is_recording first) (is_recording second) (decides_recorded first b) (decides_recorded second c)))
     (row (decides_as _ (decides_lt room (length (report_of masked first second))) (λ h. omega arith) (λ h. omega arith)) end))
-    (Report (length (report_of masked first second)) (more_of first second))
+    (Ok (record { length = length (report_of masked first second); more = more_of first second }))

@@ -16,7 +16,6 @@ use Rattle.comparing.specs.Runs.{runs_from, differs_at, runs, pair_runs, runs_of
 use Rattle.comparing.specs.Compared.{more_of, report_of, compare_check, compared_of, output_of}
 use Rattle.comparing.specs.Facts.{exchanged, mirrored}
 use Rattle.comparing.specs.declared.More.TheVariants.{First, Second, Neither}
-use Rattle.comparing.specs.declared.Compared.TheVariants.{Report, Refused}
 
 eqb_comm : (x y : ℕ) → eqb x y ≡ eqb y x
 eqb_comm x y = go (eqb y x) refl
@@ -80,6 +79,6 @@ module _ (masked : Bool) where
     unfolding compared_of
     answer-mirrored room = rw (← check_exchanged room, ← report-exchanged, more-exchanged) (go (compare_check masked first second room))
       where
-        go : (c : Result Unit Refusal) → stop_or Refused c (Report (length (report_of masked first second)) (exchanged (more_of first second))) ≡ mirrored (stop_or Refused c (Report (length (report_of masked first second)) (more_of first second)))
+        go : (c : Result Unit Refusal) → stop_or Err c (Ok (record { length = length (report_of masked first second); more = exchanged (more_of first second) })) ≡ mirrored (stop_or Err c (Ok (record { length = length (report_of masked first second); more = more_of first second })))
         go (Ok tt) = refl
         go (Err r) = refl

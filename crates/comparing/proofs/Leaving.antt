@@ -17,7 +17,6 @@ use Rattle.input.specs.Recording.{datagrams_of}
 use Rattle.comparing.specs.Compared.{more_of, report_of, compare_check, compared_of, output_of}
 use Rattle.comparing.specs.Facts.{HasMore, Leaves}
 use Rattle.comparing.specs.declared.More.TheVariants.{First, Second, Neither}
-use Rattle.comparing.specs.declared.Compared.TheVariants.{Report, Refused}
 use Rattle.comparing.proofs.Checking.{length-of-report}
 use Rattle.comparing.proofs.Fitting.{report-read}
 
@@ -47,7 +46,7 @@ leaves masked first second out b c = go (compare_check masked first second (leng
     report = report_of masked first second
 
     go : (check : Result Unit Refusal)
-        → Leaves masked first second out (stop_or Refused check (Report (length report) (more_of first second))) (stop_or (λ refusal. out) check (written report out))
+        → Leaves masked first second out (stop_or Err check (Ok (record { length = length report; more = more_of first second }))) (stop_or (λ refusal. out) check (written report out))
     go (Ok tt) = (
       length-of-report masked first second,
       more-named first second,

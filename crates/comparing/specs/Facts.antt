@@ -1,6 +1,7 @@
 -- What the report says, in facts over bytes and places (R27). No contract rests on this.
-use Rattle.std.specs.Prelude.{ℕ, zero, suc, ◌+◌, ◌-◌, ◌*◌, ◌≤◌, ◌<◌, ◌≡◌, ◌⊎◌, Bool, true, List, [], ◌∷◌, map, length, get_or, take, drop}
+use Rattle.std.specs.Prelude.{ℕ, zero, suc, ◌+◌, ◌-◌, ◌*◌, ◌≤◌, ◌<◌, ◌≡◌, ◌⊎◌, Bool, true, List, [], ◌∷◌, map, length, get_or, take, drop, Result, Ok, Err}
 use Rattle.refusals.specs.Refusals.{AnswersFirst}
+use Rattle.refusals.specs.declared.Refusal.{Refusal}
 use Rattle.refusals.specs.declared.Refusal.TheVariants.{RecordingMalformed, OutputShort}
 use Rattle.header.specs.Fields.{word_at}
 use Rattle.input.specs.Recording.{Datagram, datagrams_of}
@@ -8,8 +9,7 @@ use Rattle.input.specs.Format.{section, datagram_record}
 use Rattle.comparing.specs.Runs.{Run, runs_of}
 use Rattle.comparing.specs.declared.More.{More}
 use Rattle.comparing.specs.declared.More.TheVariants.{First, Second, Neither}
-use Rattle.comparing.specs.declared.Compared.{Compared}
-use Rattle.comparing.specs.declared.Compared.TheVariants.{Report, Refused}
+use Rattle.comparing.specs.declared.Report.{Report}
 
 -- a byte of the identification, of the TTL or of the checksum (R27.4)
 abbrev pub Masked : ℕ → Type 0
@@ -97,9 +97,9 @@ Recorded r = (ds : List Datagram) × (r ≡ section (map datagram_record ds))
 
 -- the answer that is given where the first fact holds, where the second does, and where neither does (R27.8): one of the two is no recording; the room is
 -- less than six bytes for each run
-abbrev pub AnswersCompare : Bool → List ℕ → List ℕ → ℕ → Compared → Compared → Type 0
+abbrev pub AnswersCompare : Bool → List ℕ → List ℕ → ℕ → Result Report Refusal → Result Report Refusal → Type 0
 AnswersCompare masked first second room follows answer =
-    AnswersFirst Refused
+    AnswersFirst Err
     ((((Recorded first × Recorded second) → ⊥), RecordingMalformed) ∷ (((room < 6 * length (runs_of masked first second)), OutputShort) ∷ []))
     follows
     answer
@@ -112,13 +112,13 @@ HasMore ds es Neither = length ds ≡ length es
 
 -- what an answer says and leaves in the output (R27.6 to R27.8): a length of six bytes for each run, the recording that has more datagrams, the runs in
 -- so many bytes at the front, and behind these what stood there; after a refusal all that stood there
-abbrev pub Leaves : Bool → List ℕ → List ℕ → List ℕ → Compared → List ℕ → Type 0
-Leaves masked first second out (Report n more) after =
-    (n ≡ 6 * length (runs_of masked first second))
-    × HasMore (datagrams_of first) (datagrams_of second) more
-    × (runs_in (length (runs_of masked first second)) (take n after) ≡ runs_of masked first second)
-    × (drop n after ≡ drop n out)
-Leaves masked first second out (Refused refusal) after = after ≡ out
+abbrev pub Leaves : Bool → List ℕ → List ℕ → List ℕ → Result Report Refusal → List ℕ → Type 0
+Leaves masked first second out (Ok r) after =
+    (r.length ≡ 6 * length (runs_of masked first second))
+    × HasMore (datagrams_of first) (datagrams_of second) r.more
+    × (runs_in (length (runs_of masked first second)) (take r.length after) ≡ runs_of masked first second)
+    × (drop r.length after ≡ drop r.length out)
+Leaves masked first second out (Err refusal) after = after ≡ out
 
 -- which has more, after the two are exchanged (R27.9)
 abbrev pub exchanged : More → More
@@ -127,6 +127,6 @@ exchanged Second = First
 exchanged Neither = Neither
 
 -- the answer, after the two are exchanged (R27.9)
-abbrev pub mirrored : Compared → Compared
-mirrored (Report length more) = Report length (exchanged more)
-mirrored (Refused refusal) = Refused refusal
+abbrev pub mirrored : Result Report Refusal → Result Report Refusal
+mirrored (Ok r) = Ok (record { length = r.length; more = exchanged r.more })
+mirrored (Err refusal) = Err refusal

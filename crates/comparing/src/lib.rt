@@ -10,7 +10,6 @@ ghost use Rattle.std.specs.Prelude.{◌≡◌, ◌+◌, ◌*◌, ◌≤◌, min,
 ghost use Rattle.lent.specs.Written.{written};
 ghost use Rattle.comparing.specs.Runs.{runs_of};
 ghost use Rattle.comparing.specs.Compared.{more_of, report_of, compared_of, output_of};
-ghost use Rattle.comparing.specs.Given.{compared_given};
 
 use input::recording;
 use refusals::Refusal;
@@ -23,23 +22,11 @@ pub enum More {
     Neither,
 }
 
-// What comparing answers: the length of the report in bytes and which recording has more datagrams, or the refusal.
+// What is answered where the report is written: its length in bytes, and which recording has more datagrams.
 #[derive(Clone, Copy)]
-pub enum Compared {
-    Report { length: usize, more: More },
-    Refused(Refusal),
-}
-
-impl Compared {
-    // The number (R4), 0 where the report is written.
-    pub fn number(self) -> u8
-        ensures { result ≡ (compared_given self).number }
-    {
-        match self {
-            Compared::Report { length: _, more: _ } => 0,
-            Compared::Refused(refusal) => refusal.number(),
-        }
-    }
+pub struct Report {
+    pub length: usize,
+    pub more: More,
 }
 
 // Which of two recordings has more datagrams, by their counts.
@@ -110,22 +97,22 @@ fn write(masked: bool, first: &[u8], second: &[u8], out: &mut [u8], size: usize)
 }
 
 // Writes the report to the front of out. Where `masked`, identification, TTL and checksum count as equal, where both datagrams have the byte.
-pub fn compare(masked: bool, first: &[u8], second: &[u8], out: &mut [u8]) -> Compared
+pub fn compare(masked: bool, first: &[u8], second: &[u8], out: &mut [u8]) -> Result<Report, Refusal>
     ensures value { result ≡ compared_of masked first.now second.now (length out.old) }
     ensures out_after { out.new ≡ output_of masked first.now second.now out.old }
 {
     if !(recording::well_formed(first) & recording::well_formed(second)) {
-        return Compared::Refused(Refusal::RecordingMalformed);
+        return Err(Refusal::RecordingMalformed);
     }
     let limit = out.len() / pair::RUN + 1;
     let n = count(masked, first, second, limit);
     if n == limit {
-        return Compared::Refused(Refusal::OutputShort);
+        return Err(Refusal::OutputShort);
     }
     let size = n * pair::RUN;
     write(masked, first, second, out, size);
-    Compared::Report {
+    Ok(Report {
         length: size,
         more: more_in(first, second),
-    }
+    })
 }

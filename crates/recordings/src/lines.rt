@@ -1,5 +1,5 @@
 // The lines of the output. Each function that puts something puts it at an index of the text, and gives the index behind it.
-use comparing::{Compared, More};
+use comparing::{More, Report};
 use header::fields;
 use input::section;
 use refusals::Refusal;
@@ -16,14 +16,14 @@ const LONGEST: usize = 64;
 const RUN: usize = 6;
 
 // Writes the lines of an answer, which left the output so.
-pub(crate) fn write(rt: &HostRuntime, answer: Compared, out: &[u8]) {
+pub(crate) fn write(rt: &HostRuntime, answer: Result<Report, Refusal>, out: &[u8]) {
     let mut text = [0; ROOM];
     match answer {
-        Compared::Report { length, more } => {
-            let end = put_compared(length, more, out, &mut text);
-            write_runs(rt, section::front(out, length), end, &mut text);
+        Ok(report) => {
+            let end = put_compared(report.length, report.more, out, &mut text);
+            write_runs(rt, section::front(out, report.length), end, &mut text);
         }
-        Compared::Refused(refusal) => {
+        Err(refusal) => {
             let end = put_refused(refusal, out, &mut text);
             waiting::written(rt, "recordings", end, &text);
         }
