@@ -17,9 +17,8 @@ use Rattle.settings.specs.Settings.{forbidden_to}
 use Rattle.routers.specs.Routers.{live, listed}
 use Rattle.lists.specs.Parts.{part}
 use Rattle.pieces.specs.Places.{room, is_whole, freed, extended, begun}
-use Rattle.pieces.specs.Take.{Taken, place_at, with_place, plan_of, settled, taken_by, taken_of, memory_by, memory_of}
-use Rattle.pieces.specs.declared.Answer.{Answer}
-use Rattle.pieces.specs.declared.Answer.TheVariants as taken
+use Rattle.pieces.specs.Take.{Taken, place_at, with_place, plan_of, settled, taken_by, taken_of, memory_by, memory_of, joined_in}
+use Rattle.pieces.specs.declared.Joined as taken
 use Rattle.pieces.specs.declared.Place.{Place}
 use Rattle.pieces.specs.declared.Plan.{Plan}
 use Rattle.pieces.specs.declared.Plan.TheVariants.{Unfit, Full, Ignore, Drop, Extend, Begin}
@@ -53,28 +52,21 @@ leaves_all c s t e = record { collected = λ h. ap (λ (x : State). x.collection
 leaves_none : (s t : State) → Leaves memory_too s t
 leaves_none s t = record { collected = λ h. absurd (not-nothing memory_too (λ z. omega arith) h); memory = λ h. absurd (h refl) }
 
-waits_number : (q r : Refusal) → taken.Refused q ≡ taken.Refused r → q ≡ r
+waits_number : (q r : Refusal) → Err {A = taken.Joined} q ≡ Err r → q ≡ r
 waits_number q r h = cc
 
 module _ (s : State) (x : Step) where
   -- what a piece that is refused leaves
-  settled_leaves : (k : ℕ) (d : Place) (r : Refusal) (t : State) → (settled k d s.collection).answer ≡ taken.Refused r → Leaves (changed_by true (number_of r)) s t
+  settled_leaves : (k : ℕ) (d : Place) (r : Refusal) (t : State) → (settled k d s.collection).answer ≡ Err r → Leaves (changed_by true (number_of r)) s t
   unfolding settled
   settled_leaves k d r t h = go (is_whole d) h
     where
-      go : (b : Bool) → (cond {A = Taken} b (record { answer = taken.Joined k d.end; collection = with_place k (freed d) s.collection }) (record { answer = taken.Refused PieceWaits; collection = with_place k d s.collection })).answer ≡ taken.Refused r
+      go : (b : Bool) → (cond {A = Taken} b (record { answer = joined_in k d.end; collection = with_place k (freed d) s.collection }) (record { answer = Err PieceWaits; collection = with_place k d s.collection })).answer ≡ Err r
           → Leaves (changed_by true (number_of r)) s t
-      go true e = absurd (joined-refused k d.end r e)
-        where
-          joined-refused : (k n : ℕ) (r : Refusal) → taken.Joined k n ≡ taken.Refused r → ⊥
-          joined-refused k n r e = let z : ◌≡◌ {A = ℕ} 0 1 = ap tagged e in omega arith
-            where
-              tagged : Answer → ℕ
-              tagged (taken.Joined k n) = 0
-              tagged (taken.Refused r) = 1
+      go true e = absurd cc
       go false e = subst (λ (q : Refusal). Leaves (changed_by true (number_of q)) s t) (waits_number PieceWaits r e) (leaves_none s t)
 
-  plan_leaves : (p : Plan) (r : Refusal) → (taken_by p x.time x.key x.piece s.collection).answer ≡ taken.Refused r
+  plan_leaves : (p : Plan) (r : Refusal) → (taken_by p x.time x.key x.piece s.collection).answer ≡ Err r
       → Leaves (changed_by true (number_of r)) s (record { collection = (taken_by p x.time x.key x.piece s.collection).collection; memory = memory_by p x.piece s.memory })
   plan_leaves Unfit r h = leaves_all _ s _ refl
   plan_leaves Full r h = leaves_all _ s _ refl
@@ -85,7 +77,7 @@ module _ (s : State) (x : Step) where
   plan_leaves (Extend k) r h = settled_leaves k (extended x.piece (place_at s.collection k)) r _ h
   plan_leaves (Begin k) r h = settled_leaves k (extended x.piece (begun x.key x.time)) r _ h
 
-  step_leaves : (r : Refusal) → answer s x ≡ taken.Refused r → Leaves (changed_by true (number_of r)) s (after s x)
+  step_leaves : (r : Refusal) → answer s x ≡ Err r → Leaves (changed_by true (number_of r)) s (after s x)
   unfolding taken_of memory_of
   step_leaves r h = plan_leaves (plan_of x.time x.key x.piece s.collection s.memory) r h
 
@@ -130,12 +122,12 @@ module _ (n : Seat) (e : List ℕ) (j time : ℕ) (memory : List ℕ) (r : Refus
   piece_leaves : arrival n e j memory ≡ Ok tt → is_piece (outer_of e) ≡ true → Leaves (changed_by true (number_of r)) (state_of n memory) (after (state_of n memory) y)
   piece_leaves a b = go (answer (state_of n memory) y) refl (sym (answered_step n e j time memory a b) ∙ h)
     where
-      go : (x : Answer) → answer (state_of n memory) y ≡ x
+      go : (x : Result taken.Joined Refusal) → answer (state_of n memory) y ≡ x
           → joined_by n.service.settings (live n.service.routers) (quad_at e 12) x (after (state_of n memory) y).memory ≡ Refused r
           → Leaves (changed_by true (number_of r)) (state_of n memory) (after (state_of n memory) y)
-      go (taken.Joined k l) q z = let p : List ℕ = part (room * k) l (after (state_of n memory) y).memory in
-          joined_leaves (after (state_of n memory) y) (inward n (quad_at e 12) p) (room * k) (inner_of p).length (inward_changes n (quad_at e 12) p) z
-      go (taken.Refused k) q z = step_leaves (state_of n memory) y r (q ∙ ap taken.Refused (refused-same k r z))
+      go (Ok d) q z = let p : List ℕ = part (room * d.place) d.length (after (state_of n memory) y).memory in
+          joined_leaves (after (state_of n memory) y) (inward n (quad_at e 12) p) (room * d.place) (inner_of p).length (inward_changes n (quad_at e 12) p) z
+      go (Err k) q z = step_leaves (state_of n memory) y r (q ∙ ap Err (refused-same k r z))
 
   -- what a refused call for the number leaves
   pub received_leaves : Leaves (changed_by (is_piece (outer_of e)) (number_of r)) (state_of n memory)

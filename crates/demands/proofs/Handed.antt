@@ -19,10 +19,9 @@ use Rattle.header.specs.Inner.{inner_of, is_inner_malformed}
 use Rattle.settings.specs.Settings.{forbidden_to, is_our_locator}
 use Rattle.routers.specs.Routers.{live, listed}
 use Rattle.pieces.specs.Places.{Part, room, memory_room, is_whole, freed, extended, begun}
-use Rattle.pieces.specs.Take.{Taken, place_at, with_place, plan_of, settled, taken_by, taken_of}
+use Rattle.pieces.specs.Take.{Taken, place_at, with_place, plan_of, settled, taken_by, taken_of, joined_in}
 use Rattle.pieces.specs.History.{Handed}
-use Rattle.pieces.specs.declared.Answer.{Answer}
-use Rattle.pieces.specs.declared.Answer.TheVariants as taken
+use Rattle.pieces.specs.declared.Joined as taken
 use Rattle.pieces.specs.declared.Collection.{Collection}
 use Rattle.pieces.specs.declared.Key.{Key}
 use Rattle.pieces.specs.declared.Place.{Place}
@@ -82,15 +81,15 @@ inward_away n source p =
     go false false false = refl
 
 -- nor do the numbers of a piece
-abbrev away_by : Answer → Bool
-away_by (taken.Joined k n) = false
-away_by (taken.Refused r) = is_turned_away (number_of r)
+abbrev away_by : Result taken.Joined Refusal → Bool
+away_by (Ok d) = false
+away_by (Err r) = is_turned_away (number_of r)
 
 settled_away : (k : ℕ) (d : Place) (c : Collection) → away_by (settled k d c).answer ≡ false
 unfolding settled
 settled_away k d c = go (is_whole d)
   where
-    go : (b : Bool) → away_by (cond {A = Taken} b (record { answer = taken.Joined k d.end; collection = with_place k (freed d) c }) (record { answer = taken.Refused PieceWaits; collection = with_place k d c })).answer ≡ false
+    go : (b : Bool) → away_by (cond {A = Taken} b (record { answer = joined_in k d.end; collection = with_place k (freed d) c }) (record { answer = Err PieceWaits; collection = with_place k d c })).answer ≡ false
     go true = refl
     go false = refl
 
@@ -110,12 +109,12 @@ stop_away : (c : Result Unit Refusal) (o l : ℕ) → away c ≡ false → is_tu
 stop_away (Ok tt) o l h = refl
 stop_away (Err r) o l h = h
 
-joined_away : (n : Seat) (source : ℕ) (a : Answer) (memory : List ℕ) → away_by a ≡ false
+joined_away : (n : Seat) (source : ℕ) (a : Result taken.Joined Refusal) (memory : List ℕ) → away_by a ≡ false
     → is_turned_away (received_given (joined_by n.service.settings (live n.service.routers) source a memory)).number ≡ false
-joined_away n source (taken.Joined k l) memory h =
-    let p : List ℕ = part (room * k) l memory in
-    stop_away (inward n source p) (room * k) (inner_of p).length (inward_away n source p)
-joined_away n source (taken.Refused r) memory h = h
+joined_away n source (Ok d) memory h =
+    let p : List ℕ = part (room * d.place) d.length memory in
+    stop_away (inward n source p) (room * d.place) (inner_of p).length (inward_away n source p)
+joined_away n source (Err r) memory h = h
 
 -- what is handed in by a check and whether it is a piece
 abbrev pub handed_at : Result Unit Refusal → Bool → Handed → List Handed

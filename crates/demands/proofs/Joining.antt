@@ -27,7 +27,7 @@ use Rattle.pieces.specs.Places.{Part, room, is_of, is_live}
 use Rattle.pieces.specs.declared.Collection.{Collection}
 use Rattle.pieces.specs.declared.Key.{Key}
 use Rattle.pieces.specs.declared.Place.{Place}
-use Rattle.pieces.specs.declared.Answer.{Answer}
+use Rattle.pieces.specs.declared.Joined as taken
 use Rattle.pieces.proofs.Joining as pieces
 use Rattle.pieces.proofs.Joining.{Step, State, answer, after, after_all, In, under}
 use Rattle.pieces.proofs.Holds.{pieces_join}
@@ -346,7 +346,7 @@ module _ (v : ServiceName) (i : ℕ) (d : List ℕ) (ps : List (List ℕ)) (n : 
     last-answer : (collected_at end f i u w).answer ≡ stop_or Refused (inward end (quad_at d 12) (encapsulated d)) (Joined (room * k) (inner_length (encapsulated d)))
     last-answer =
         answered_step end f i u w last-arrival last-piece
-        ∙ ap (λ (x : Answer). joined_by end.service.settings (live end.service.routers) (quad_at f 12) x (after (state_of end w) tail).memory) (ap (λ (x : State). answer x tail) state-last ∙ joins.joined)
+        ∙ ap (λ (x : Result taken.Joined Refusal). joined_by end.service.settings (live end.service.routers) (quad_at f 12) x (after (state_of end w) tail).memory) (ap (λ (x : State). answer x tail) state-last ∙ joins.joined)
         ∙ ap (λ (p : List ℕ). stop_or Refused (inward end (quad_at f 12) p) (Joined (room * k) (inner_of p).length)) stands-there
         ∙ ap (λ (s : ℕ). stop_or Refused (inward end s (encapsulated d)) (Joined (room * k) (inner_of (encapsulated d)).length)) (one_key i d ps cut end f u w last_one last-long).source
         ∙ ap (λ (l : ℕ). stop_or Refused (inward end (quad_at d 12) (encapsulated d)) (Joined (room * k) l)) (inner-length (encapsulated d))

@@ -18,8 +18,7 @@ use Rattle.header.specs.Outer.{outer_of}
 use Rattle.routers.specs.Routers.{live}
 use Rattle.settings.specs.declared.Settings.{Settings}
 use Rattle.pieces.specs.Places.{Part, is_same}
-use Rattle.pieces.specs.declared.Answer.{Answer}
-use Rattle.pieces.specs.declared.Answer.TheVariants as taken
+use Rattle.pieces.specs.declared.Joined as taken
 use Rattle.pieces.specs.declared.Key.{Key}
 use Rattle.pieces.proofs.Joining as pieces
 use Rattle.pieces.proofs.Joining.{Step, State, answer, after, after_all, In, is_under, under}
@@ -45,10 +44,10 @@ use Rattle.demands.proofs.Arrivals.{judge_of, onward, passed, one_key, one_piece
 
 -- a step that is refused gives the call's number
 pub step_refused : (n : Seat) (e : List ℕ) (j time : ℕ) (memory : List ℕ) (r : Refusal) → arrival n e j memory ≡ Ok tt → is_piece (outer_of e) ≡ true
-    → answer (state_of n memory) (step_at (max n.latest time) e) ≡ taken.Refused r → (collected_at n e j time memory).answer ≡ Refused r
+    → answer (state_of n memory) (step_at (max n.latest time) e) ≡ Err r → (collected_at n e j time memory).answer ≡ Refused r
 step_refused n e j time memory r a b h =
     answered_step n e j time memory a b
-    ∙ ap (λ (x : Answer). joined_by n.service.settings (live n.service.routers) (quad_at e 12) x (after (state_of n memory) (step_at (max n.latest time) e)).memory) h
+    ∙ ap (λ (x : Result taken.Joined Refusal). joined_by n.service.settings (live n.service.routers) (quad_at e 12) x (after (state_of n memory) (step_at (max n.latest time) e)).memory) h
 
 under-append : (key : Key) (xs ys : List Step) → under key (xs ++ ys) ≡ under key xs ++ under key ys
 under-append key [] ys = refl
@@ -143,7 +142,7 @@ module _ (v : ServiceName) (i : ℕ) (d : List ℕ) (ps : List (List ℕ)) (cut 
       y : Step
       y = step_at (max n.latest time) e
 
-      refusal : (r : Refusal) → arrival (seat_of v n) e j memory ≡ Ok tt → is_piece (outer_of e) ≡ true → answer (state_of (seat_of v n) m) y ≡ taken.Refused r → number (seat_of v n) e j time memory ≡ number_of r
+      refusal : (r : Refusal) → arrival (seat_of v n) e j memory ≡ Ok tt → is_piece (outer_of e) ≡ true → answer (state_of (seat_of v n) m) y ≡ Err r → number (seat_of v n) e j time memory ≡ number_of r
       refusal r a b h =
           ap (λ (z : Received). (received_given z).number)
           (step_refused (seat_of v n) e j time memory r a b (ap (λ (l : List ℕ). answer (state_of (seat_of v n) l) y) (lent_step (seat_of v n) m e j time memory a b lent) ∙ h))

@@ -12,8 +12,7 @@ use Rattle.lists.proofs.Decides.{fails}
 use Rattle.refusals.specs.Refusals.{AnswersFirst}
 use Rattle.pieces.specs.declared.Place.{Place}
 use Rattle.pieces.specs.declared.Collection.{Collection}
-use Rattle.pieces.specs.declared.Answer.{Answer}
-use Rattle.pieces.specs.declared.Answer.TheVariants.{Joined, Refused}
+use Rattle.pieces.specs.declared.Joined.{Joined}
 use Rattle.pieces.specs.Places.{Part, is_apart}
 use Rattle.pieces.specs.Facts.{behind, Unfit, Contradicts, Ignored, JoinedAt, Waits, piece_facts, datagram_at}
 use Rattle.pieces.specs.Exactly.{PieceExactly}
@@ -26,6 +25,9 @@ use Rattle.pieces.proofs.Changes.{code}
 use Rattle.pieces.proofs.Tells.{some-here, some-none, some_cases}
 use Rattle.pieces.proofs.ByPieces.{ByPieces, by_pieces}
 use Rattle.pieces.proofs.History.{EachCollects, kept-grown}
+use Rattle.pieces.specs.Take.{joined_in}
+use Rattle.std.specs.Prelude.{Result, Err}
+use Rattle.refusals.specs.declared.Refusal.{Refusal}
 
 module _ (g : Grown) (each : EachCollects g.collection g.taken) (x : Handed) (nf : Unfit x.piece → ⊥) where
   abbrev p : Part
@@ -109,8 +111,8 @@ module _ (g : Grown) (each : EachCollects g.collection g.taken) (x : Handed) (nf
     by_waits = ⊎_elim (λ h. inl (h.0, known_repeats h.0 h.1 h.2)) (λ h. inr (λ k n m. h k n (joined_completed k n m)))
 
 module _ (g : Grown) (each : EachCollects g.collection g.taken) (x : Handed) where
-  rows : (follows answer : Answer) → AnswersFirst Refused (piece_facts x.time x.key x.piece g.collection x.memory) follows answer
-      → AnswersFirst Refused (history_facts g x) follows answer
+  rows : (follows answer : Result Joined Refusal) → AnswersFirst Err (piece_facts x.time x.key x.piece g.collection x.memory) follows answer
+      → AnswersFirst Err (history_facts g x) follows answer
   rows follows answer =
       ⊎_elim inl
       (λ r.
@@ -133,8 +135,8 @@ module _ (g : Grown) (each : EachCollects g.collection g.taken) (x : Handed) whe
       ))
 
   -- what is joined is refused by none of them
-  passed : (k n : ℕ) (answer : Answer) → AnswersFirst Refused (piece_facts x.time x.key x.piece g.collection x.memory) (Joined k n) answer
-      → answer ≡ Joined k n → (Unfit x.piece → ⊥) × ((j : ℕ) → Contradicts x.time x.key x.piece g.collection x.memory j → ⊥)
+  passed : (k n : ℕ) (answer : Result Joined Refusal) → AnswersFirst Err (piece_facts x.time x.key x.piece g.collection x.memory) (joined_in k n) answer
+      → answer ≡ joined_in k n → (Unfit x.piece → ⊥) × ((j : ℕ) → Contradicts x.time x.key x.piece g.collection x.memory j → ⊥)
   passed k n answer a e =
       ⊎_elim (λ h. absurd (omega (arith, ap code (sym e ∙ h.1))))
       (λ r. ⊎_elim (λ h. absurd (omega (arith, ap code (sym e ∙ h.1)))) (λ q. (r.0, λ j m. q.0 (j, m))) r.1) a
@@ -145,7 +147,7 @@ module _ (g : Grown) (each : EachCollects g.collection g.taken) (x : Handed) whe
       record {
         place = e.place;
         size = e.size;
-        answers = rows (Joined e.place e.size) _ e.answers;
+        answers = rows (joined_in e.place e.size) _ e.answers;
         joins = λ h.
             let f = passed e.place e.size _ e.answers h in
             joined_completed g each x f.0 (λ k m. f.1 k (clashes_contradicts g each x f.0 k m)) e.place e.size (e.joins h);

@@ -14,13 +14,13 @@ use Rattle.pieces.specs.declared.Place.{Place}
 use Rattle.pieces.specs.declared.Collection.{Collection}
 use Rattle.pieces.specs.declared.Plan.{Plan}
 use Rattle.pieces.specs.declared.Plan.TheVariants.{Unfit, Full, Ignore, Drop, Extend, Begin}
-use Rattle.pieces.specs.declared.Answer.TheVariants.{Joined, Refused}
 use Rattle.pieces.specs.declared.Change.{Change}
 use Rattle.pieces.specs.Places.{Part, places, byte_at, no_place, begun, extended, freed, is_whole}
-use Rattle.pieces.specs.Take.{Taken, place_at, with_place, settled, plan_of, taken_by, taken_of, memory_by}
+use Rattle.pieces.specs.Take.{Taken, place_at, with_place, settled, plan_of, taken_by, taken_of, memory_by, joined_in}
 use Rattle.pieces.specs.Change.{Placed, changed_place, is_taken, settled_in, changed_by, change_by, change_of}
 use Rattle.pieces.proofs.Loops.{blank, read_within}
 use Rattle.pieces.proofs.Planned.{plan_placed}
+use Rattle.std.specs.Prelude.{Err}
 
 -- the place that a plan changes is there
 pub placed-there : (plan : Plan) (p : Part) → Placed plan p → changed_place plan < places
@@ -52,18 +52,18 @@ module _ (p : Part) (memory : List ℕ) where
 
 -- a datagram that is complete, and one that is not
 module _ (k : ℕ) (d : Place) where
-  pub settles : (free : Place) → is_whole d ≡ true → free ≡ freed d → record { answer = Joined k d.end; at = k; place = free } ≡ settled_in k d
+  pub settles : (free : Place) → is_whole d ≡ true → free ≡ freed d → record { answer = joined_in k d.end; at = k; place = free } ≡ settled_in k d
   unfolding settled_in
   settles free h e = rw (h, e)
 
-  pub waits : is_whole d ≡ false → record { answer = Refused PieceWaits; at = k; place = d } ≡ settled_in k d
+  pub waits : is_whole d ≡ false → record { answer = Err PieceWaits; at = k; place = d } ≡ settled_in k d
   unfolding settled_in
   waits h = rw h
 
   -- either way it is of place k
   settled_at : (settled_in k d).at ≡ k
   unfolding settled_in
-  settled_at = go (is_whole d) (record { answer = Joined k d.end; at = k; place = freed d }) (record { answer = Refused PieceWaits; at = k; place = d }) refl refl
+  settled_at = go (is_whole d) (record { answer = joined_in k d.end; at = k; place = freed d }) (record { answer = Err PieceWaits; at = k; place = d }) refl refl
     where
       go : (b : Bool) (x y : Change) → x.at ≡ k → y.at ≡ k → (cond b x y).at ≡ k
       go true x y e f = e
@@ -78,15 +78,15 @@ unfolding settled_in settled
 made-settled k d c = go (is_whole d)
   where
     go : (b : Bool)
-        → made (cond b (record { answer = Joined k d.end; at = k; place = freed d }) (record { answer = Refused PieceWaits; at = k; place = d })) c
-        ≡ cond b (record { answer = Joined k d.end; collection = with_place k (freed d) c }) (record { answer = Refused PieceWaits; collection = with_place k d c })
+        → made (cond b (record { answer = joined_in k d.end; at = k; place = freed d }) (record { answer = Err PieceWaits; at = k; place = d })) c
+        ≡ cond b (record { answer = joined_in k d.end; collection = with_place k (freed d) c }) (record { answer = Err PieceWaits; collection = with_place k d c })
     go true = refl
     go false = refl
 
 -- where no place is changed
-made_none : (r : Refusal) (c : Collection) → made (record { answer = Refused r; at = 0; place = place_at c 0 }) c ≡ record { answer = Refused r; collection = c }
+made_none : (r : Refusal) (c : Collection) → made (record { answer = Err r; at = 0; place = place_at c 0 }) c ≡ record { answer = Err r; collection = c }
 made_none r c =
-    ap (λ (ds : List Place). record { answer = Refused r; collection = record { places = ds } }) (set-get_or c.places 0 no_place)
+    ap (λ (ds : List Place). record { answer = Err r; collection = record { places = ds } }) (set-get_or c.places 0 no_place)
 
 module _ (now : ℕ) (key : Key) (p : Part) (c : Collection) where
   made_by : (plan : Plan) → made (change_by plan now key p c) c ≡ taken_by plan now key p c

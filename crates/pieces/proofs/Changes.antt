@@ -15,20 +15,26 @@ use Rattle.pieces.specs.declared.Place.{Place}
 use Rattle.pieces.specs.declared.Collection.{Collection}
 use Rattle.pieces.specs.declared.Plan.{Plan}
 use Rattle.pieces.specs.declared.Plan.TheVariants.{Unfit, Full, Ignore, Drop, Extend, Begin}
-use Rattle.pieces.specs.declared.Answer.{Answer}
-use Rattle.pieces.specs.declared.Answer.TheVariants.{Joined, Refused}
+use Rattle.pieces.specs.declared.Joined.{Joined}
 use Rattle.pieces.specs.Places.{Part, places, room, end_of, is_whole, byte_at, no_place, begun, extended, freed}
-use Rattle.pieces.specs.Take.{Taken, place_at, with_place, settled, plan_of, taken_by, memory_by, taken_of, memory_of}
+use Rattle.pieces.specs.Take.{Taken, place_at, with_place, settled, plan_of, taken_by, memory_by, taken_of, memory_of, joined_in}
 use Rattle.pieces.proofs.Joining.{Step, State, Sized, after, OnlyPlace, Changes, StepChanges}
 use Rattle.pieces.proofs.Kept.{writes}
 use Rattle.pieces.specs.Change.{Placed}
 use Rattle.pieces.proofs.Planned.{plan_placed}
 use Rattle.pieces.proofs.Collecting.{sized_with}
+use Rattle.std.specs.Prelude.{Result, Ok, Err}
+use Rattle.refusals.specs.declared.Refusal.{Refusal}
 
 -- answers are told apart by their numbers
-abbrev pub code : Answer → ℕ
-code (Joined k n) = 0
-code (Refused r) = number_of r
+abbrev pub code : Result Joined Refusal → ℕ
+code (Ok joined) = 0
+code (Err r) = number_of r
+
+-- the place of a datagram that is joined
+abbrev pub place_in : Result Joined Refusal → ℕ
+place_in (Ok joined) = joined.place
+place_in (Err r) = 0
 
 module _ (s : State) (p : Part) where
   abbrev state_of : Taken → List ℕ → State
@@ -45,11 +51,11 @@ module _ (s : State) (p : Part) where
 
   -- what each answer says of collection and memory
   record Left (t : Taken) (memory : List ℕ) : Type 0 where
-    full : t.answer ≡ Refused NoPlace → Same t memory
-    unfit : t.answer ≡ Refused PieceUnfit → Same t memory
-    disagree : t.answer ≡ Refused PiecesDisagree → (memory ≡ s.memory) × ((k : ℕ) × OnlyPlace k s (state_of t memory) × Free k t)
-    waits : t.answer ≡ Refused PieceWaits → Same t memory ⊎ ((k : ℕ) × Into k t memory)
-    joined : (k n : ℕ) → t.answer ≡ Joined k n → Into k t memory × Free k t
+    full : t.answer ≡ Err NoPlace → Same t memory
+    unfit : t.answer ≡ Err PieceUnfit → Same t memory
+    disagree : t.answer ≡ Err PiecesDisagree → (memory ≡ s.memory) × ((k : ℕ) × OnlyPlace k s (state_of t memory) × Free k t)
+    waits : t.answer ≡ Err PieceWaits → Same t memory ⊎ ((k : ℕ) × Into k t memory)
+    joined : (k n : ℕ) → t.answer ≡ joined_in k n → Into k t memory × Free k t
 
   module _ (sized : Sized s) where
     only : (k : ℕ) (d : Place) (memory : List ℕ) → k < places → OnlyPlace k s (record { collection = with_place k d s.collection; memory = memory })
@@ -70,7 +76,7 @@ module _ (s : State) (p : Part) where
           unfit = λ e. absurd (omega (arith, ap code e));
           disagree = λ e. absurd (omega (arith, ap code e));
           waits = λ e. absurd (omega (arith, ap code e));
-          joined = λ j n e. let same : k ≡ j = cc in rw (← same) ((only k (freed d) m h.0, h.1, refl), free k d h.0);
+          joined = λ j n e. let same : k ≡ j = ap place_in e in rw (← same) ((only k (freed d) m h.0, h.1, refl), free k d h.0);
         })
         (λ t. record {
           full = λ e. absurd (omega (arith, ap code e));

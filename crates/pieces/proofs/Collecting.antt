@@ -16,14 +16,14 @@ use Rattle.refusals.specs.declared.Refusal.TheVariants.{PieceWaits}
 use Rattle.pieces.specs.declared.Key.{Key}
 use Rattle.pieces.specs.declared.Place.{Place}
 use Rattle.pieces.specs.declared.Collection.{Collection}
-use Rattle.pieces.specs.declared.Answer.TheVariants.{Joined, Refused}
 use Rattle.pieces.specs.Places.{Part, places, room, lifetime, end_of, is_of, is_whole, byte_at, no_place, extended}
-use Rattle.pieces.specs.Take.{Taken, place_at, with_place, settled}
+use Rattle.pieces.specs.Take.{Taken, place_at, with_place, settled, joined_in}
 use Rattle.pieces.proofs.Joining.{In, State, Sized}
 use Rattle.pieces.proofs.Cut.{Fitted, have_come}
 use Rattle.pieces.proofs.Content.{Content, fits, content_more, complete, standing, ending}
 use Rattle.pieces.proofs.Kept.{Kept, writes}
 use Rattle.pieces.proofs.Live.{of-before, of-later, first-extended, settled-not, settled_so}
+use Rattle.std.specs.Prelude.{Err}
 
 -- a state stays of its sizes where a piece that has room is taken into a place
 pub sized_with : (c : Collection) (memory : List ℕ) → Sized (record { collection = c; memory = memory }) → (k : ℕ) (d : Place) (p : Part) → k < places → end_of p ≤ room
@@ -46,8 +46,8 @@ module _ (key : Key) (ps : List Part) (payload : List ℕ) (cut : Fitted ps payl
 
   -- what comes of a piece: it waits while one is missing, and joins them when none is
   pub record Outcome (come : List Part) (now k : ℕ) (t : Taken) (memory : List ℕ) : Type 0 where
-    pub waits : have_come come ps ≡ false → (t.answer ≡ Refused PieceWaits) × Collecting come now k (record { collection = t.collection; memory = memory })
-    pub joins : have_come come ps ≡ true → (t.answer ≡ Joined k (length payload)) × (part (room * k) (length payload) memory ≡ payload)
+    pub waits : have_come come ps ≡ false → (t.answer ≡ Err PieceWaits) × Collecting come now k (record { collection = t.collection; memory = memory })
+    pub joins : have_come come ps ≡ true → (t.answer ≡ joined_in k (length payload)) × (part (room * k) (length payload) memory ≡ payload)
 
   module _ (come : List Part) (now k : ℕ) (c : Collection) (memory : List ℕ) (d : Place) (p : Part) (i : In p ps)
       (sized : Sized (record { collection = c; memory = memory })) (hk : k < places) (content : Content ps payload cut come k d memory) where
@@ -78,7 +78,7 @@ module _ (key : Key) (ps : List Part) (payload : List ℕ) (cut : Fitted ps payl
         },
       );
       joins = λ h. rw (settled_so k (extended p d) c (whole_with ∙ h)) (
-        ap (Joined k) (ending ps payload cut (p ∷ come) k (extended p d) writing content_with h),
+        ap (joined_in k) (ending ps payload cut (p ∷ come) k (extended p d) writing content_with h),
         standing ps payload cut (p ∷ come) k (extended p d) writing content_with h,
       );
     })

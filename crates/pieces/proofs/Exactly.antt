@@ -16,17 +16,18 @@ use Rattle.pieces.specs.declared.Place.{Place}
 use Rattle.pieces.specs.declared.Collection.{Collection}
 use Rattle.pieces.specs.declared.Plan.{Plan}
 use Rattle.pieces.specs.declared.Plan.TheVariants as plan
-use Rattle.pieces.specs.declared.Answer.{Answer}
-use Rattle.pieces.specs.declared.Answer.TheVariants.{Joined, Refused}
+use Rattle.pieces.specs.declared.Joined.{Joined}
 use Rattle.pieces.specs.Places.{Part, places, is_of, is_apart, is_whole, no_place, begun, extended_to, extended, freed}
-use Rattle.pieces.specs.Take.{Taken, with_place, settled, plan_of, taken_by, memory_by, taken_of, memory_of}
+use Rattle.pieces.specs.Take.{Taken, with_place, settled, plan_of, taken_by, memory_by, taken_of, memory_of, joined_in}
 use Rattle.pieces.specs.Facts.{Unfit, LiveOf, Contradicts, NoneFree, Ignored, JoinedAt, piece_facts, datagram_at}
 use Rattle.pieces.specs.Exactly.{OnlyAt, Continues, Begins, PieceExactly}
 use Rattle.pieces.proofs.Kept.{writes}
-use Rattle.pieces.proofs.Changes.{code}
+use Rattle.pieces.proofs.Changes.{code, place_in}
 use Rattle.pieces.proofs.Facts.{decides_apart, decides_live-of}
 use Rattle.pieces.proofs.Marks.{whole_completes, completes_whole, whole-alone, alone-whole}
 use Rattle.pieces.proofs.Planning.{PlanFact, lowest_one, fit_of_lem, plan_exactly}
+use Rattle.std.specs.Prelude.{Result, Err}
+use Rattle.refusals.specs.declared.Refusal.{Refusal}
 
 -- plans are told apart by numbers
 abbrev kind : Plan → ℕ
@@ -41,11 +42,11 @@ module _ (now : ℕ) (key : Key) (p : Part) (c : Collection) (memory : List ℕ)
   abbrev Fact : Plan → Type 0
   Fact = PlanFact now key p c memory
 
-  record Answered (answer : Answer) : Type 0 where
+  record Answered (answer : Result Joined Refusal) : Type 0 where
     place : ℕ
     size : ℕ
-    answers : AnswersFirst Refused (piece_facts now key p c memory) (Joined place size) answer
-    joins : answer ≡ Joined place size → JoinedAt now key p c memory place size
+    answers : AnswersFirst Err (piece_facts now key p c memory) (joined_in place size) answer
+    joins : answer ≡ joined_in place size → JoinedAt now key p c memory place size
 
   module _ (made : Plan) (e : plan_of now key p c memory ≡ made) where
     -- no other plan has its fact
@@ -146,8 +147,8 @@ module _ (now : ℕ) (key : Key) (p : Part) (c : Collection) (memory : List ℕ)
     only : OnlyAt k c t.collection
     first : (datagram_at t.collection k).first ≡ d.first
     keyed : (datagram_at t.collection k).key ≡ d.key
-    waits : t.answer ≡ Refused PieceWaits → (datagram_at t.collection k).used ≡ d.used
-    frees : (j n : ℕ) → t.answer ≡ Joined j n → (datagram_at t.collection j).used ≡ 0
+    waits : t.answer ≡ Err PieceWaits → (datagram_at t.collection k).used ≡ d.used
+    frees : (j n : ℕ) → t.answer ≡ joined_in j n → (datagram_at t.collection j).used ≡ 0
 
   into_settled : (k : ℕ) (d : Place) → k < places → Into k d (settled k d c)
   unfolding settled
@@ -160,7 +161,7 @@ module _ (now : ℕ) (key : Key) (p : Part) (c : Collection) (memory : List ℕ)
         first = ap (λ (x : Place). x.first) here;
         keyed = ap (λ (x : Place). x.key) here;
         waits = λ e. absurd (omega (arith, ap code e));
-        frees = λ j n e. let same : k ≡ j = cc in rw (← same) (ap (λ (x : Place). x.used) here);
+        frees = λ j n e. let same : k ≡ j = ap place_in e in rw (← same) (ap (λ (x : Place). x.used) here);
       })
       (λ t.
       let here = put-here k d h in
@@ -194,7 +195,7 @@ module _ (now : ℕ) (key : Key) (p : Part) (c : Collection) (memory : List ℕ)
       as_planned (λ (t : Taken). OnlyAt k c t.collection × ((datagram_at t.collection k).used ≡ 0)) (plan.Drop k) (nf, g)
       (put_only k d, ap (λ (x : Place). x.used) (put-here k d g.place.inside))
 
-  frees_by : (plan : Plan) → Fact plan → (k n : ℕ) → (taken_by plan now key p c).answer ≡ Joined k n
+  frees_by : (plan : Plan) → Fact plan → (k n : ℕ) → (taken_by plan now key p c).answer ≡ joined_in k n
       → (datagram_at (taken_by plan now key p c).collection k).used ≡ 0
   frees_by plan.Unfit f k n e = absurd (omega (arith, ap code e))
   frees_by plan.Full f k n e = absurd (omega (arith, ap code e))

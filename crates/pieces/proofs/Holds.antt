@@ -11,7 +11,6 @@ use Rattle.refusals.specs.declared.Refusal.TheVariants.{PieceUnfit}
 use Rattle.pieces.specs.declared.Key.{Key}
 use Rattle.pieces.specs.declared.Plan.{Plan}
 use Rattle.pieces.specs.declared.Plan.TheVariants.{Unfit}
-use Rattle.pieces.specs.declared.Answer.TheVariants.{Refused}
 use Rattle.pieces.specs.Places.{Part, is_unfit}
 use Rattle.pieces.specs.Take.{plan_of, taken_of, taken_by}
 use Rattle.pieces.proofs.Joining.{In, Step, State, answer, after, is_under, under, Arrive, Admitted, PiecesJoin}
@@ -20,6 +19,7 @@ use Rattle.pieces.proofs.Content.{fits, both}
 use Rattle.pieces.proofs.Apart.{offsets}
 use Rattle.pieces.proofs.Come.{moved, fewer}
 use Rattle.pieces.proofs.Join.{under_one, beginning, goes_on}
+use Rattle.std.specs.Prelude.{Err}
 
 -- ---- those that have come, by their offsets
 
@@ -70,7 +70,7 @@ module _ (key : Key) where
       ⊎_elim (λ h. rw h.1 (a.1 h.0)) (λ j. under-pieces ps x.time xs a.2 p j) (in-under p x xs i)
 
   -- and was not refused by 30
-  unfit-answer : (s : State) (x : Step) → is_unfit x.piece ≡ true → answer s x ≡ Refused PieceUnfit
+  unfit-answer : (s : State) (x : Step) → is_unfit x.piece ≡ true → answer s x ≡ Err PieceUnfit
   unfolding taken_of plan_of
   unfit-answer s x h =
       let plan : plan_of x.time x.key x.piece s.collection s.memory ≡ Unfit = rw h in

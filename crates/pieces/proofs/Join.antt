@@ -15,9 +15,8 @@ use Rattle.lists.proofs.First.{first_passes}
 use Rattle.refusals.specs.declared.Refusal.TheVariants.{NoPlace}
 use Rattle.pieces.specs.declared.Key.{Key}
 use Rattle.pieces.specs.declared.Plan.TheVariants.{Full, Ignore, Drop, Extend, Begin}
-use Rattle.pieces.specs.declared.Answer.TheVariants.{Joined, Refused}
 use Rattle.pieces.specs.Places.{Part, places, room, lifetime, is_free, is_of, is_apart, is_equal, bytes_of, no_place, begun}
-use Rattle.pieces.specs.Take.{Taken, place_at, plan_in, plan_held, plan_new, plan_of, taken_by, memory_by, taken_of, memory_of}
+use Rattle.pieces.specs.Take.{Taken, place_at, plan_in, plan_held, plan_new, plan_of, taken_by, memory_by, taken_of, memory_of, joined_in}
 use Rattle.pieces.proofs.Joining.{In, Step, State, Sized, answer, after, after_all, is_under, under, Wait, Arrive}
 use Rattle.pieces.proofs.Cut.{Fitted, has_come, have_come}
 use Rattle.pieces.proofs.Content.{fits, both, content_none, ends-agree}
@@ -27,6 +26,7 @@ use Rattle.pieces.proofs.Apart.{offsets}
 use Rattle.pieces.proofs.Live.{of-extended, of-begun}
 use Rattle.pieces.proofs.Come.{have_same, moved, fewer}
 use Rattle.pieces.proofs.Collecting.{Collecting as Collected, Outcome as Came, later, keeps, takes}
+use Rattle.std.specs.Prelude.{Err}
 
 module _ (key : Key) (ps : List Part) (payload : List ℕ) (cut : Fitted ps payload) (start : ℕ) where
   abbrev Collecting : List Part → ℕ → ℕ → State → Type 0
@@ -96,7 +96,7 @@ module _ (key : Key) (ps : List Part) (payload : List ℕ) (cut : Fitted ps payl
 
   -- no live datagram has the key, and the piece is not refused by 28: it takes a place
   begins : (s : State) (p : Part) → In p ps → Sized s → first_with (is_of key start) s.collection.places ≡ places
-      → ((taken_of start key p s.collection s.memory).answer ≡ Refused NoPlace → ⊥)
+      → ((taken_of start key p s.collection s.memory).answer ≡ Err NoPlace → ⊥)
       → (k : ℕ) × (k < places) × Outcome (p ∷ []) start k (taken_of start key p s.collection s.memory) (memory_of start key p s.collection s.memory)
   unfolding taken_of memory_of plan_of plan_new
   begins s p i sized none taken =
@@ -105,7 +105,7 @@ module _ (key : Key) (ps : List Part) (payload : List ℕ) (cut : Fitted ps payl
       let plan : plan_of start key p c s.memory ≡ plan_new k = rw (cut.fits p i, none) in
       rw plan (go k (ltb k places) refl (rw plan at taken))
     where
-      go : (k : ℕ) (b : Bool) → ltb k places ≡ b → ((taken_by (cond b (Begin k) Full) start key p s.collection).answer ≡ Refused NoPlace → ⊥)
+      go : (k : ℕ) (b : Bool) → ltb k places ≡ b → ((taken_by (cond b (Begin k) Full) start key p s.collection).answer ≡ Err NoPlace → ⊥)
           → (j : ℕ) × (j < places) × Outcome (p ∷ []) start j (taken_by (cond b (Begin k) Full) start key p s.collection) (memory_by (cond b (Begin k) Full) p s.memory)
       go k true h taken =
           let hk = ltb-true k places h in (
@@ -121,7 +121,7 @@ module _ (key : Key) (ps : List Part) (payload : List ℕ) (cut : Fitted ps payl
   -- the rest of the steps
   pub record Rest (k : ℕ) (s : State) (xs : List Step) (last : Step) : Type 0 where
     pub waits : Wait key s xs
-    pub joined : answer (after_all s xs) last ≡ Joined k (length payload)
+    pub joined : answer (after_all s xs) last ≡ joined_in k (length payload)
     pub stands : part (room * k) (length payload) (after_all s (xs ++ last ∷ [])).memory ≡ payload
 
   pub under_one : (x : Step) (xs : List Step) → is_under key x ≡ true → under key (x ∷ xs) ≡ x.piece ∷ under key xs
@@ -136,7 +136,7 @@ module _ (key : Key) (ps : List Part) (payload : List ℕ) (cut : Fitted ps payl
   outcome come now k s c x u e i missing = rw (e, ← same_key key x.key u) (own come now k s c x.piece i missing)
 
   pub beginning : (s : State) (x : Step) → is_under key x ≡ true → x.time ≡ start → In x.piece ps → Sized s → first_with (is_of key x.time) s.collection.places ≡ places
-      → (answer s x ≡ Refused NoPlace → ⊥)
+      → (answer s x ≡ Err NoPlace → ⊥)
       → (k : ℕ) × (k < places) × Outcome (x.piece ∷ []) x.time k (taken_of x.time x.key x.piece s.collection s.memory) (after s x).memory
   beginning s x u e i sized none taken =
       let same : key ≡ x.key = same_key key x.key u in

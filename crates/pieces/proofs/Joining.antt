@@ -11,11 +11,12 @@ use Rattle.lists.specs.Parts.{part}
 use Rattle.lent.specs.Written.{over}
 use Rattle.refusals.specs.declared.Refusal.TheVariants.{PieceWaits, NoPlace, PiecesDisagree, PieceUnfit}
 use Rattle.pieces.specs.Places.{Part, places, room, memory_room, lifetime, end_of, is_same, is_of, byte_at}
-use Rattle.pieces.specs.Take.{place_at, taken_of, memory_of}
+use Rattle.pieces.specs.Take.{place_at, taken_of, memory_of, joined_in}
 use Rattle.pieces.specs.declared.Key.{Key}
 use Rattle.pieces.specs.declared.Collection.{Collection}
-use Rattle.pieces.specs.declared.Answer.{Answer}
-use Rattle.pieces.specs.declared.Answer.TheVariants.{Joined, Refused}
+use Rattle.pieces.specs.declared.Joined.{Joined}
+use Rattle.std.specs.Prelude.{Result, Err}
+use Rattle.refusals.specs.declared.Refusal.{Refusal}
 
 -- ---- a cutting
 
@@ -54,7 +55,7 @@ pub record State : Type 0 where
   pub memory : List ℕ
 
 -- what comes of a step
-abbrev pub answer : State → Step → Answer
+abbrev pub answer : State → Step → Result Joined Refusal
 answer s x = (taken_of x.time x.key x.piece s.collection s.memory).answer
 
 -- the state after a step; the memory is handed on untouched
@@ -87,13 +88,13 @@ module _ (key : Key) where
   -- each step under the key waits
   abbrev pub Wait : State → List Step → Type 0
   Wait s [] = Unit {0}
-  Wait s (x ∷ xs) = (is_under x ≡ true → answer s x ≡ Refused PieceWaits) × Wait (after s x) xs
+  Wait s (x ∷ xs) = (is_under x ≡ true → answer s x ≡ Err PieceWaits) × Wait (after s x) xs
 
   -- no step under the key is refused by 28 or 30
   abbrev pub Admitted : State → List Step → Type 0
   Admitted s [] = Unit {0}
   Admitted s (x ∷ xs) =
-      (is_under x ≡ true → (answer s x ≡ Refused NoPlace → ⊥) × (answer s x ≡ Refused PieceUnfit → ⊥)) × Admitted (after s x) xs
+      (is_under x ≡ true → (answer s x ≡ Err NoPlace → ⊥) × (answer s x ≡ Err PieceUnfit → ⊥)) × Admitted (after s x) xs
 
   -- times do not fall from `now` on, and each step under the key is a piece of the cutting
   abbrev pub Arrive : List Part → ℕ → List Step → Type 0
@@ -119,7 +120,7 @@ pub record Joins (key : Key) (payload : List ℕ) (s : State) (first : Step) (ot
   pub waits : Wait key s (first ∷ others)
   pub place : ℕ
   pub inside : place < places
-  pub joined : answer (after_all s (first ∷ others)) last ≡ Joined place (length payload)
+  pub joined : answer (after_all s (first ∷ others)) last ≡ joined_in place (length payload)
   pub stands : part (room * place) (length payload) (after_all s (first ∷ others ++ last ∷ [])).memory ≡ payload
 
 -- the pieces of one cutting are joined (proved in Holds)
@@ -143,12 +144,12 @@ pub record TakenInto (k : ℕ) (s : State) (x : Step) : Type 0 where
 -- 28 and 30 change nothing; 29 leaves the memory and drops the datagram of one place; 27 changes nothing, or the piece is taken; a
 -- datagram that is joined is so by a piece that is taken, and its place is not in use afterwards
 pub record Changes (s : State) (x : Step) : Type 0 where
-  pub full : answer s x ≡ Refused NoPlace → after s x ≡ s
-  pub unfit : answer s x ≡ Refused PieceUnfit → after s x ≡ s
-  pub disagree : answer s x ≡ Refused PiecesDisagree
+  pub full : answer s x ≡ Err NoPlace → after s x ≡ s
+  pub unfit : answer s x ≡ Err PieceUnfit → after s x ≡ s
+  pub disagree : answer s x ≡ Err PiecesDisagree
       → ((after s x).memory ≡ s.memory) × ((k : ℕ) × OnlyPlace k s (after s x) × ((place_at (after s x).collection k).used ≡ 0))
-  pub waits : answer s x ≡ Refused PieceWaits → (after s x ≡ s) ⊎ ((k : ℕ) × TakenInto k s x)
-  pub joined : (k n : ℕ) → answer s x ≡ Joined k n → TakenInto k s x × ((place_at (after s x).collection k).used ≡ 0)
+  pub waits : answer s x ≡ Err PieceWaits → (after s x ≡ s) ⊎ ((k : ℕ) × TakenInto k s x)
+  pub joined : (k n : ℕ) → answer s x ≡ joined_in k n → TakenInto k s x × ((place_at (after s x).collection k).used ≡ 0)
 
 -- every step from a state of these sizes changes so much, and keeps the sizes (proved in Changes)
 pub record StepChanges : Type 0 where

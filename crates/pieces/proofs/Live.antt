@@ -10,10 +10,10 @@ use Rattle.refusals.specs.declared.Refusal.TheVariants.{PieceWaits}
 use Rattle.pieces.specs.declared.Key.{Key}
 use Rattle.pieces.specs.declared.Place.{Place}
 use Rattle.pieces.specs.declared.Collection.{Collection}
-use Rattle.pieces.specs.declared.Answer.TheVariants.{Joined, Refused}
 use Rattle.pieces.specs.Places.{Part, extended_to, lifetime, is_same, is_live, is_of, is_whole, begun, extended, freed}
-use Rattle.pieces.specs.Take.{with_place, settled}
+use Rattle.pieces.specs.Take.{with_place, settled, joined_in}
 use Rattle.pieces.proofs.Keys.{key-same}
+use Rattle.std.specs.Prelude.{Err}
 
 -- a datagram that was live was live before
 pub live-before : (now later : ℕ) (d : Place) → now ≤ later → is_live later d ≡ true → is_live now d ≡ true
@@ -52,11 +52,11 @@ unfolding extended_to
 first-extended p d = refl
 
 pub settled-not : (k : ℕ) (d : Place) (c : Collection) → is_whole d ≡ false
-    → settled k d c ≡ record { answer = Refused PieceWaits; collection = with_place k d c }
+    → settled k d c ≡ record { answer = Err PieceWaits; collection = with_place k d c }
 unfolding settled
 settled-not k d c h = rw h
 
 pub settled_so : (k : ℕ) (d : Place) (c : Collection) → is_whole d ≡ true
-    → settled k d c ≡ record { answer = Joined k d.end; collection = with_place k (freed d) c }
+    → settled k d c ≡ record { answer = joined_in k d.end; collection = with_place k (freed d) c }
 unfolding settled
 settled_so k d c h = rw h

@@ -1,15 +1,14 @@
 -- R23 in its own words: the number of the next piece, said by the pieces that were taken before it, byte by byte.
-use Rattle.std.specs.Prelude.{ℕ, ◌+◌, ◌*◌, ◌≡◌, ◌⊎◌, List, [], ◌∷◌, length}
+use Rattle.std.specs.Prelude.{ℕ, ◌+◌, ◌*◌, ◌≡◌, ◌⊎◌, List, [], ◌∷◌, length, Err}
 use Rattle.lists.specs.Any.{Some}
 use Rattle.lists.specs.Parts.{part}
 use Rattle.refusals.specs.Refusals.{AnswersFirst}
 use Rattle.refusals.specs.declared.Refusal.{Refusal}
 use Rattle.refusals.specs.declared.Refusal.TheVariants.{PieceWaits, NoPlace, PiecesDisagree, PieceUnfit}
 use Rattle.pieces.specs.Places.{Part}
-use Rattle.pieces.specs.Take.{taken_of}
+use Rattle.pieces.specs.Take.{taken_of, joined_in}
 use Rattle.pieces.specs.Facts.{Unfit, Live, LiveOf, Lowest, Nowhere, NoneFree}
 use Rattle.pieces.specs.History.{Disagree, HasByte, Whole, Handed, Grown, nothing, grown, pieces}
-use Rattle.pieces.specs.declared.Answer.TheVariants.{Joined, Refused}
 
 module _ (g : Grown) (x : Handed) where
   -- the pieces that were taken into place k
@@ -52,8 +51,8 @@ module _ (g : Grown) (x : Handed) where
   pub record NextExactly : Type 0 where
     pub place : ℕ
     pub size : ℕ
-    pub answers : AnswersFirst Refused history_facts (Joined place size) (taken_of x.time x.key x.piece g.collection x.memory).answer
-    pub joins : (taken_of x.time x.key x.piece g.collection x.memory).answer ≡ Joined place size → Completed place size
+    pub answers : AnswersFirst Err history_facts (joined_in place size) (taken_of x.time x.key x.piece g.collection x.memory).answer
+    pub joins : (taken_of x.time x.key x.piece g.collection x.memory).answer ≡ joined_in place size → Completed place size
 
 -- so it is after whatever was handed in before
 abbrev pub HistoryExactly : Type 0

@@ -1,15 +1,14 @@
 -- What comes of a piece, by the one place that it changes (R23.10, R23.12, R23.15): that this is `taken_of` is proved. No contract of node, boundary or program rests on this.
-use Rattle.std.specs.Prelude.{ℕ, ◌<◌, ◌≤◌, Bool, true, false, cond, List}
+use Rattle.std.specs.Prelude.{ℕ, ◌<◌, ◌≤◌, Bool, true, false, cond, List, Err}
 use Rattle.refusals.specs.declared.Refusal.TheVariants.{PieceWaits, NoPlace, PiecesDisagree, PieceUnfit}
 use Rattle.pieces.specs.Places.{Part, places, room, end_of, begun, extended, freed, is_whole}
 use Rattle.pieces.specs.declared.Key.{Key}
 use Rattle.pieces.specs.declared.Place.{Place}
 use Rattle.pieces.specs.declared.Plan.{Plan}
 use Rattle.pieces.specs.declared.Plan.TheVariants.{Unfit, Full, Ignore, Drop, Extend, Begin}
-use Rattle.pieces.specs.declared.Answer.TheVariants.{Joined, Refused}
 use Rattle.pieces.specs.declared.Collection.{Collection}
 use Rattle.pieces.specs.declared.Change.{Change}
-use Rattle.pieces.specs.Take.{place_at, plan_of}
+use Rattle.pieces.specs.Take.{place_at, plan_of, joined_in}
 
 -- R23.4, R23.5: the place of a plan is there, and has room for the piece where that is taken
 abbrev pub Placed : Plan → Part → Type 0
@@ -42,15 +41,15 @@ is_taken (Begin k) = true
 unfoldable pub settled_in : ℕ → Place → Change
 settled_in k d =
     cond (is_whole d)
-    (record { answer = Joined k d.end; at = k; place = freed d })
-    (record { answer = Refused PieceWaits; at = k; place = d })
+    (record { answer = joined_in k d.end; at = k; place = freed d })
+    (record { answer = Err PieceWaits; at = k; place = d })
 
 -- the answer, and what then stands in the place that the plan changes, where d stood
 abbrev pub changed_by : Plan → ℕ → Key → Part → Place → Change
-changed_by Unfit now key p d = record { answer = Refused PieceUnfit; at = 0; place = d }
-changed_by Full now key p d = record { answer = Refused NoPlace; at = 0; place = d }
-changed_by Ignore now key p d = record { answer = Refused PieceWaits; at = 0; place = d }
-changed_by (Drop k) now key p d = record { answer = Refused PiecesDisagree; at = k; place = freed d }
+changed_by Unfit now key p d = record { answer = Err PieceUnfit; at = 0; place = d }
+changed_by Full now key p d = record { answer = Err NoPlace; at = 0; place = d }
+changed_by Ignore now key p d = record { answer = Err PieceWaits; at = 0; place = d }
+changed_by (Drop k) now key p d = record { answer = Err PiecesDisagree; at = k; place = freed d }
 changed_by (Extend k) now key p d = settled_in k (extended p d)
 changed_by (Begin k) now key p d = settled_in k (extended p (begun key now))
 

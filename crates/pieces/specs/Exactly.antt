@@ -1,15 +1,14 @@
 -- The number of a piece, what is written and what becomes of the collection are exactly what the plain facts say (R23), in any collection of
 -- 8 places.
-use Rattle.std.specs.Prelude.{ℕ, ◌+◌, ◌*◌, ◌≤◌, ◌≡◌, ◌⊎◌, List, length}
+use Rattle.std.specs.Prelude.{ℕ, ◌+◌, ◌*◌, ◌≤◌, ◌≡◌, ◌⊎◌, List, length, Err}
 use Rattle.lent.specs.Written.{over}
 use Rattle.refusals.specs.Refusals.{AnswersFirst}
 use Rattle.refusals.specs.declared.Refusal.TheVariants.{PieceWaits}
 use Rattle.pieces.specs.Places.{Part}
-use Rattle.pieces.specs.Take.{taken_of, memory_of}
+use Rattle.pieces.specs.Take.{taken_of, memory_of, joined_in}
 use Rattle.pieces.specs.Facts.{Unfit, Live, LiveOf, Lowest, Nowhere, EndsApart, SomeHeld, Contradicts, NoneFree, Ignored, JoinedAt, piece_facts, datagram_at}
 use Rattle.pieces.specs.declared.Key.{Key}
 use Rattle.pieces.specs.declared.Collection.{Collection}
-use Rattle.pieces.specs.declared.Answer.TheVariants.{Joined, Refused}
 
 -- R23.10, R23.12: no place changes but k
 abbrev pub OnlyAt : ℕ → Collection → Collection → Type 0
@@ -36,8 +35,8 @@ module _ (now : ℕ) (key : Key) (p : Part) (c : Collection) (memory : List ℕ)
   pub record PieceExactly : Type 0 where
     pub place : ℕ
     pub size : ℕ
-    pub answers : AnswersFirst Refused (piece_facts now key p c memory) (Joined place size) (taken_of now key p c memory).answer
-    pub joins : (taken_of now key p c memory).answer ≡ Joined place size → JoinedAt now key p c memory place size
+    pub answers : AnswersFirst Err (piece_facts now key p c memory) (joined_in place size) (taken_of now key p c memory).answer
+    pub joins : (taken_of now key p c memory).answer ≡ joined_in place size → JoinedAt now key p c memory place size
     pub more : (k : ℕ) → (Unfit p → ⊥) → Continues k → 16384 ≤ length memory
         → memory_of now key p c memory ≡ over (2048 * k + 8 * p.offset) p.payload memory
     pub first : (k : ℕ) → (Unfit p → ⊥) → Begins k → 16384 ≤ length memory
@@ -60,7 +59,7 @@ module _ (now : ℕ) (key : Key) (p : Part) (c : Collection) (memory : List ℕ)
     pub begins : (k : ℕ) → (Unfit p → ⊥) → Begins k
         → OnlyAt k c after × ((datagram_at after k).first ≡ now) × ((datagram_at after k).key ≡ key)
     -- R23.15: the place of a complete datagram is free
-    pub frees : (k n : ℕ) → (taken_of now key p c memory).answer ≡ Joined k n → (datagram_at after k).used ≡ 0
+    pub frees : (k n : ℕ) → (taken_of now key p c memory).answer ≡ joined_in k n → (datagram_at after k).used ≡ 0
     -- R23.13: the place of a datagram with one more piece that still waits is not
-    pub still_used : (k : ℕ) → (Unfit p → ⊥) → Continues k ⊎ Begins k → (taken_of now key p c memory).answer ≡ Refused PieceWaits
+    pub still_used : (k : ℕ) → (Unfit p → ⊥) → Continues k ⊎ Begins k → (taken_of now key p c memory).answer ≡ Err PieceWaits
         → (datagram_at after k).used ≡ 0 → ⊥

@@ -1,5 +1,5 @@
 -- What comes of a piece (R23), in the order 30, 29, 28, 27: the answer, the collection and its memory.
-use Rattle.std.specs.Prelude.{ℕ, cond, ◌&&◌, List, ltb, get_or, set, replicate}
+use Rattle.std.specs.Prelude.{ℕ, cond, ◌&&◌, List, ltb, get_or, set, replicate, Result, Err, Ok}
 use Rattle.lists.specs.Any.{first_with}
 use Rattle.lent.specs.Written.{written_at}
 use Rattle.refusals.specs.declared.Refusal.TheVariants.{PieceWaits, NoPlace, PiecesDisagree, PieceUnfit}
@@ -10,12 +10,16 @@ use Rattle.pieces.specs.declared.Place.{Place}
 use Rattle.pieces.specs.declared.Collection.{Collection}
 use Rattle.pieces.specs.declared.Plan.{Plan}
 use Rattle.pieces.specs.declared.Plan.TheVariants.{Unfit, Full, Ignore, Drop, Extend, Begin}
-use Rattle.pieces.specs.declared.Answer.{Answer}
-use Rattle.pieces.specs.declared.Answer.TheVariants.{Joined, Refused}
+use Rattle.pieces.specs.declared.Joined.{Joined}
+use Rattle.refusals.specs.declared.Refusal.{Refusal}
+
+-- the answer of a datagram that is complete, in place k and of n bytes
+abbrev pub joined_in : ℕ → ℕ → Result Joined Refusal
+joined_in k n = Ok (record { place = k; length = n })
 
 -- the answer to a piece, and the collection afterwards
 pub record Taken : Type 0 where
-  pub answer : Answer
+  pub answer : Result Joined Refusal
   pub collection : Collection
 
 -- at setup nothing is collected
@@ -57,15 +61,15 @@ plan_of now key p c memory =
 unfoldable pub settled : ℕ → Place → Collection → Taken
 settled k d c =
     cond (is_whole d)
-    (record { answer = Joined k d.end; collection = with_place k (freed d) c })
-    (record { answer = Refused PieceWaits; collection = with_place k d c })
+    (record { answer = joined_in k d.end; collection = with_place k (freed d) c })
+    (record { answer = Err PieceWaits; collection = with_place k d c })
 
 -- the answer and the collection, as planned
 abbrev pub taken_by : Plan → ℕ → Key → Part → Collection → Taken
-taken_by Unfit now key p c = record { answer = Refused PieceUnfit; collection = c }
-taken_by Full now key p c = record { answer = Refused NoPlace; collection = c }
-taken_by Ignore now key p c = record { answer = Refused PieceWaits; collection = c }
-taken_by (Drop k) now key p c = record { answer = Refused PiecesDisagree; collection = with_place k (freed (place_at c k)) c }
+taken_by Unfit now key p c = record { answer = Err PieceUnfit; collection = c }
+taken_by Full now key p c = record { answer = Err NoPlace; collection = c }
+taken_by Ignore now key p c = record { answer = Err PieceWaits; collection = c }
+taken_by (Drop k) now key p c = record { answer = Err PiecesDisagree; collection = with_place k (freed (place_at c k)) c }
 taken_by (Extend k) now key p c = settled k (extended p (place_at c k)) c
 taken_by (Begin k) now key p c = settled k (extended p (begun key now)) c
 

@@ -1,13 +1,12 @@
 // What was planned, carried out: one place, and its bytes, with one more piece, or free.
-ghost use Rattle.std.specs.Prelude.{◌≡◌, length};
+ghost use Rattle.std.specs.Prelude.{◌≡◌, length, Err};
 ghost use Rattle.units.specs.Held.{range_of};
 ghost use Rattle.pieces.specs.Places.{units_of, part_of};
-ghost use Rattle.pieces.specs.declared.Answer.TheVariants.{Refused};
 ghost use Rattle.pieces.specs.Take.{memory_by};
 ghost use Rattle.pieces.specs.Change.{Placed, changed_place, is_taken, settled_in, changed_by};
 
 use crate::places::byte_at;
-use crate::{Answer, Change, Piece, Place, Plan};
+use crate::{Change, Joined, Piece, Place, Plan};
 use refusals::Refusal;
 use units::Held;
 
@@ -51,10 +50,10 @@ pub(crate) fn write(plan: Plan, piece: Piece, payload: &[u8], memory: &mut [u8])
 
 // A number, and place k with what stands there.
 fn refused(refusal: Refusal, k: usize, d: Place) -> Change
-    ensures { result ≡ record { answer = Refused refusal; at = k; place = d } }
+    ensures { result ≡ record { answer = Err refusal; at = k; place = d } }
 {
     Change {
-        answer: Answer::Refused(refusal),
+        answer: Err(refusal),
         at: k,
         place: d,
     }
@@ -67,10 +66,10 @@ fn settled(k: usize, d: Place) -> Change
     if d.whole() {
         let free = d.freed();
         Change {
-            answer: Answer::Joined {
+            answer: Ok(Joined {
                 place: k,
                 length: d.end as usize,
-            },
+            }),
             at: k,
             place: free,
         }

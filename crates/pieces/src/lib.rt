@@ -74,17 +74,17 @@ pub enum Plan {
     Begin(usize),
 }
 
-// What comes of a piece: the datagram that it completes, by its place and the length of its payload, or the number.
-#[derive(Clone, Copy)]
-pub enum Answer {
-    Joined { place: usize, length: usize },
-    Refused(Refusal),
+// A datagram that a piece completes, by its place and the length of its payload.
+#[derive(Clone, Copy, Debug, PartialEq, Eq)]
+pub struct Joined {
+    pub place: usize,
+    pub length: usize,
 }
 
 // The answer to a piece, and what then stands in the place `at`: where nothing changes, what stands in the first.
 #[derive(Clone, Copy)]
 pub struct Change {
-    pub answer: Answer,
+    pub answer: Result<Joined, Refusal>,
     pub at: usize,
     pub place: Place,
 }

@@ -1,5 +1,5 @@
 -- Receiving's call for the number (R23): a whole datagram is judged as it is, a piece is collected, and what it completes is judged.
-use Rattle.std.specs.Prelude.{ℕ, ◌*◌, ◌%◌, Bool, cond, not, List, [], ◌∷◌, ◌++◌, length, eqb, leb, ltb}
+use Rattle.std.specs.Prelude.{ℕ, ◌*◌, ◌%◌, Bool, cond, not, List, [], ◌∷◌, ◌++◌, length, eqb, leb, ltb, Result, Ok, Err}
 use Rattle.lists.specs.Parts.{part}
 use Rattle.refusals.specs.Refusals.{first_of, stop_or}
 use Rattle.refusals.specs.declared.Refusal.{Refusal}
@@ -16,8 +16,7 @@ use Rattle.routers.specs.Routers.{listed}
 use Rattle.routers.specs.declared.Router.{Router}
 use Rattle.pieces.specs.Places.{Part, room, memory_room, part_of}
 use Rattle.pieces.specs.Take.{Taken, taken_of, memory_of}
-use Rattle.pieces.specs.declared.Answer as taken
-use Rattle.pieces.specs.declared.Answer.TheVariants as taken_as
+use Rattle.pieces.specs.declared.Joined as taken
 use Rattle.pieces.specs.declared.Collection.{Collection}
 use Rattle.pieces.specs.declared.Piece.{Piece}
 use Rattle.receiving.specs.Receive.{inner_rows}
@@ -63,11 +62,11 @@ piece_of d o = record {
 }
 
 -- R23.14: what a piece completes is judged by 8 to 10 on the payload that stands in the memory, from the key's source
-abbrev pub joined_by : Settings → List Router → ℕ → taken.Answer → List ℕ → Received
-joined_by s routers source (taken_as.Joined k n) memory =
-    let p : List ℕ = part (room * k) n memory in
-    stop_or Refused (first_of (inner_rows s (listed source routers) source (length p) (inner_of p))) (Joined (room * k) (inner_of p).length)
-joined_by s routers source (taken_as.Refused r) memory = Refused r
+abbrev pub joined_by : Settings → List Router → ℕ → Result taken.Joined Refusal → List ℕ → Received
+joined_by s routers source (Ok d) memory =
+    let p : List ℕ = part (room * d.place) d.length memory in
+    stop_or Refused (first_of (inner_rows s (listed source routers) source (length p) (inner_of p))) (Joined (room * d.place) (inner_of p).length)
+joined_by s routers source (Err r) memory = Refused r
 
 -- what comes of a piece with the outer fields o that passes 15, 2, 3, 4, 6, 7: 30, 29, 28, 27, then 8 to 10
 unfoldable pub taken_piece : Settings → List Router → Collection → ℕ → List ℕ → Outer → List ℕ → Collected

@@ -1,5 +1,5 @@
 -- Demand 2 of the call for the number (R23), said over the datagram's bytes, the settings, the listed routers, and what comes of a piece.
-use Rattle.std.specs.Prelude.{ℕ, ◌*◌, ◌/◌, ◌%◌, ◌<◌, ◌≡◌, true, List, [], ◌∷◌, ◌++◌, get_or, length}
+use Rattle.std.specs.Prelude.{ℕ, ◌*◌, ◌/◌, ◌%◌, ◌<◌, ◌≡◌, true, List, [], ◌∷◌, ◌++◌, get_or, length, Err}
 use Rattle.lists.specs.Parts.{part}
 use Rattle.refusals.specs.Refusals.{AnswersFirst}
 use Rattle.refusals.specs.declared.Refusal.{Refusal}
@@ -8,8 +8,7 @@ use Rattle.header.specs.Fields.{word_at, quad_at}
 use Rattle.settings.specs.declared.Settings.{Settings}
 use Rattle.routers.specs.declared.Router.{Router}
 use Rattle.pieces.specs.Places.{part_of}
-use Rattle.pieces.specs.Take.{Taken, taken_of, memory_of}
-use Rattle.pieces.specs.declared.Answer.TheVariants as taken
+use Rattle.pieces.specs.Take.{Taken, taken_of, memory_of, joined_in}
 use Rattle.pieces.specs.declared.Collection.{Collection}
 use Rattle.pieces.specs.declared.Piece.{Piece}
 use Rattle.receiving.specs.Collect.{Collected, collected_of, collected_memory}
@@ -42,10 +41,10 @@ module _ (s : Settings) (routers : List Router) (c : Collection) (now : ℕ) (d 
   -- R23.14: the answer to a piece of which t comes and behind which the memory has these bytes: a datagram that it completes, of n bytes in
   -- place k, is judged by 8, 9, 10 on what stands there from byte 2,048 k on, from the outer source of d; otherwise it is the piece's number
   pub record Judged (t : Taken) (after : List ℕ) (answer : Received) : Type 0 where
-    pub joined : (k n : ℕ) → t.answer ≡ taken.Joined k n
+    pub joined : (k n : ℕ) → t.answer ≡ joined_in k n
         → AnswersFirst Refused (inner_facts s routers (quad_at d 12) (part (2048 * k) n after)) (Joined (2048 * k) (inner_length (part (2048 * k) n after)))
         answer
-    pub refused : (r : Refusal) → t.answer ≡ taken.Refused r → answer ≡ Refused r
+    pub refused : (r : Refusal) → t.answer ≡ Err r → answer ≡ Refused r
 
   -- of a piece: the first of 15, 2, 3, 4, 6, 7 whose fact holds, and then collection and memory stay (R23.16); where none holds, what comes of
   -- the piece that its bytes say, with the payload between the end of its header and its total length

@@ -1,6 +1,6 @@
 -- The orders of receiving in stages, as the code goes through them: 2 to 4, and 2 to 5, are read with the outer header (`header_read_of`,
 -- `outer_read_of`). That they are the tables of `receive_rows` and `arrival_rows` is proved. No contract of node, boundary or program rests on this.
-use Rattle.std.specs.Prelude.{ℕ, ◌<◌, ◌≡◌, Bool, false, cond, not, ◌&&◌, List, [], ◌∷◌, length, eqb, Result, Err}
+use Rattle.std.specs.Prelude.{ℕ, ◌<◌, ◌≡◌, Bool, false, cond, not, ◌&&◌, List, [], ◌∷◌, length, eqb, Result, Err, Ok}
 use Rattle.address.specs.Address.{is_link_local, is_identifier}
 use Rattle.address.specs.Quads.{bytes_in}
 use Rattle.refusals.specs.Refusals.{first_of, stop_or}
@@ -16,8 +16,7 @@ use Rattle.routers.specs.Routers.{listed}
 use Rattle.routers.specs.declared.Router.{Router}
 use Rattle.pieces.specs.Places.{places}
 use Rattle.pieces.specs.Take.{with_place}
-use Rattle.pieces.specs.declared.Answer as taken
-use Rattle.pieces.specs.declared.Answer.TheVariants as taken_as
+use Rattle.pieces.specs.declared.Joined as taken
 use Rattle.pieces.specs.declared.Collection.{Collection}
 use Rattle.receiving.specs.Receive.{inner_rows}
 use Rattle.receiving.specs.Collect.{Collected, arrival_rows, is_piece, taken_piece, taken_memory}
@@ -87,9 +86,9 @@ unfoldable pub delivered_of : Settings → List Router → List ℕ → Result O
 delivered_of s routers d r = read_or Refused r (λ (o : Outer). whole_opened s routers d o)
 
 -- the place of a joined datagram is one of the eight
-abbrev pub InMemory : taken.Answer → Type 0
-InMemory (taken_as.Joined k n) = k < places
-InMemory (taken_as.Refused r) = Unit {0}
+abbrev pub InMemory : Result taken.Joined Refusal → Type 0
+InMemory (Ok d) = d.place < places
+InMemory (Err r) = Unit {0}
 
 -- what is collected then: a piece changes one place, if any
 abbrev pub collected_after : Gathered → Collection → Collection

@@ -9,7 +9,7 @@ use crate::judging::Stage;
 use crate::{arrive, bytes_at, judging, read_whole};
 use header::outer::Outer;
 use header::{fields, outer};
-use pieces::{Answer, Collection, Key, MEMORY, Piece, Place, ROOM};
+use pieces::{Collection, Joined, Key, MEMORY, Piece, Place, ROOM};
 use refusals::Refusal;
 use settings::Settings;
 
@@ -51,17 +51,17 @@ fn piece_of(d: &[u8], o: Outer) -> Piece
 }
 
 // What is read of a joined datagram from that outer source, once it is known what comes of a piece.
-fn stage_of(taken: Answer, source: u32, memory: &[u8]) -> Stage
+fn stage_of(taken: Result<Joined, Refusal>, source: u32, memory: &[u8]) -> Stage
     requires { InMemory taken }
     ensures { ReadAs (λ s routers. joined_by s routers source taken memory.now) result }
 {
     match taken {
-        Answer::Joined { place, length } => {
-            let offset = ROOM * place;
-            let payload = bytes_at(memory, offset, length);
+        Ok(joined) => {
+            let offset = ROOM * joined.place;
+            let payload = bytes_at(memory, offset, joined.length);
             judging::read_inner(true, offset, source, payload)
         }
-        Answer::Refused(refusal) => Stage::Refused(refusal),
+        Err(refusal) => Stage::Refused(refusal),
     }
 }
 

@@ -2,10 +2,10 @@
 use Rattle.receiving.specs.Stages.{inner_check, opened_of, judged_of}
 use Rattle.receiving.proofs.collect.stage_of.Goals as goal
 
-pub returns-in-Joined : goal.returns-in-Joined
+pub returns-in-Ok : goal.returns-in-Ok
 unfolding opened_of inner_check
-returns-in-Joined c s routers = rw (c.in-Joined.is, c.read_inner.ensures, c.bytes_at-payload.ensures)
+returns-in-Ok c s routers = rw (c.in-Ok.is, c.read_inner.ensures, c.bytes_at-payload.ensures)
 
-pub returns-in-Refused : goal.returns-in-Refused
+pub returns-in-Err : goal.returns-in-Err
 unfolding judged_of
-returns-in-Refused c s routers = rw c.in-Refused.is
+returns-in-Err c s routers = rw c.in-Err.is
