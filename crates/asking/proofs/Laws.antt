@@ -1,7 +1,7 @@
 -- When an asking is answered, and what an answered and a refused one leave. Assumes nothing.
-use Rattle.std.specs.Prelude.{Option, Some, None, Ok, Err}
+use Rattle.std.specs.Prelude.{Option, Some, None, Result, Ok, Err}
 use Prim.Native.Nat.{ℕ, ◌+◌, ◌≤◌, ◌<◌}
-use mathlib.Core.Path.{◌≡◌, refl, sym, ap, ◌∙◌}
+use mathlib.Core.Path.{◌≡◌, refl, ap, ◌∙◌}
 use mathlib.Core.Bool.{Bool, true, false, cond}
 use mathlib.Core.List.{List}
 use native.Mathlib.Omega.{arith}
@@ -21,60 +21,47 @@ use Rattle.settings.specs.Settings.{locator_of}
 use Rattle.settings.specs.Facts.{LocatorAt}
 use Rattle.settings.proofs.Facts.{found-locator, locator-found}
 use Rattle.settings.specs.declared.Settings.{Settings}
-use Rattle.asking.specs.Ask.{plan_for, ask_plan, carried_out, planned_output, asked_of, asked_output}
+use Rattle.asking.specs.Ask.{Asking, plan_for, ask_plan, carried_out, planned_output, asked_of, asked_output}
 use Rattle.asking.specs.Facts.{MayAsk, solicitation_bytes, AskedExactly}
-use Rattle.asking.specs.declared.Plan.{Plan}
-use Rattle.asking.specs.declared.Plan.TheVariants.{Ask, Refuse}
 
-within : (short : Bool) (f a from router : ℕ) → cond short (Refuse OutputShort) (Ask f a) ≡ Ask from router
-    → (short ≡ false) × (f ≡ from) × (a ≡ router)
-within true f a from router h = (cc, cc, cc)
-within false f a from router h = (refl, cc, cc)
+within : (short : Bool) (a p : Asking) → cond short (Err OutputShort) (Ok a) ≡ Ok p → (short ≡ false) × (a ≡ p)
+within true a p h = (cc, cc)
+within false a p h = (refl, cc)
 
 -- a router is asked only from a locator that there is, if it is the next one, and if there is room
-pub planned : (found : Option ℕ) (next : Option ℕ) (room from router : ℕ) → plan_for found next room ≡ Ask from router
-    → (found ≡ Some from) × (next ≡ Some router) × (solicitation_length ≤ room)
+pub planned : (found : Option ℕ) (next : Option ℕ) (room : ℕ) (p : Asking) → plan_for found next room ≡ Ok p
+    → (found ≡ Some p.from) × (next ≡ Some p.router) × (solicitation_length ≤ room)
 unfolding plan_for
-planned None next room from router h = let z : ◌≡◌ {A = ℕ} 0 1 = cc in (cc, cc, omega arith)
-planned (Some f) None room from router h = let z : ◌≡◌ {A = ℕ} 0 1 = cc in (cc, cc, omega arith)
-planned (Some f) (Some a) room from router h =
-    let w = within (ltb room solicitation_length) f a from router h in
-    (cc, cc, ltb-false _ _ w.0)
-
--- a plan that asks a router has room for the solicitation
-pub room_planned : (s : Settings) (routers : RouterList) (now number room : ℕ) {p : Plan} {from router : ℕ} → p ≡ ask_plan s routers now number room
-    → p ≡ Ask from router → solicitation_length ≤ room
-unfolding ask_plan
-room_planned s routers now number room {p} {from} {router} e h =
-    (planned (locator_of s number) (next_of now (live routers)) room from router (sym e ∙ h)).2
+planned None next room p h = let z : ◌≡◌ {A = ℕ} 0 1 = cc in (cc, cc, omega arith)
+planned (Some f) None room p h = let z : ◌≡◌ {A = ℕ} 0 1 = cc in (cc, cc, omega arith)
+planned (Some f) (Some a) room p h =
+    let w = within (ltb room solicitation_length) (record { from = f; router = a }) p h in
+    (ap (λ (x : Asking). Some x.from) w.1, ap (λ (x : Asking). Some x.router) w.1, ltb-false _ _ w.0)
 
 -- 22 is given only from a locator that there is, if no router is due
-none_planned : (found : Option ℕ) (next : Option ℕ) (room : ℕ) → plan_for found next room ≡ Refuse NoRouterDue → ((from : ℕ) × (found ≡ Some from)) × (next ≡ None)
+none_planned : (found : Option ℕ) (next : Option ℕ) (room : ℕ) → plan_for found next room ≡ Err NoRouterDue → ((from : ℕ) × (found ≡ Some from)) × (next ≡ None)
 unfolding plan_for
 none_planned None next room h = let z : ◌≡◌ {A = ℕ} 0 1 = cc in absurd (omega arith)
 none_planned (Some f) None room h = ((f, refl), refl)
 none_planned (Some f) (Some a) room h = ((f, refl), never (ltb room solicitation_length) h)
   where
-    never : (short : Bool) → cond short (Refuse OutputShort) (Ask f a) ≡ Refuse NoRouterDue → Some a ≡ None
+    never : (short : Bool) → cond {A = Result Asking Refusal} short (Err OutputShort) (Ok (record { from = f; router = a })) ≡ Err NoRouterDue → Some a ≡ None
     never true h = cc
     never false h = cc
 
-record AskedFrom (p : Plan) (router : ℕ) : Type 0 where
-  pub from : ℕ
-  pub is : p ≡ Ask from router
+asked_from : (p : Result Asking Refusal) (due : ℕ) (routers : RouterList) (router : ℕ) → (carried_out p due routers).answer ≡ Ok router
+    → (a : Asking) × (p ≡ Ok a) × (a.router ≡ router)
+asked_from (Ok a) due routers router h = (a, refl, cc)
+asked_from (Err r) due routers router h = (record { from = 0; router = router }, cc, refl)
 
-asked_from : (p : Plan) (due : ℕ) (routers : RouterList) (router : ℕ) → (carried_out p due routers).answer ≡ Ok router → AskedFrom p router
-asked_from (Ask f a) due routers router h = record { from = f; is = cc }
-asked_from (Refuse r) due routers router h = record { from = 0; is = cc }
+asked-refused : (p : Result Asking Refusal) (due : ℕ) (routers : RouterList) (r : Refusal) → (carried_out p due routers).answer ≡ Err r → p ≡ Err r
+asked-refused (Ok a) due routers r h = cc
+asked-refused (Err x) due routers r h = cc
 
-asked-refused : (p : Plan) (due : ℕ) (routers : RouterList) (r : Refusal) → (carried_out p due routers).answer ≡ Err r → p ≡ Refuse r
-asked-refused (Ask f a) due routers r h = cc
-asked-refused (Refuse x) due routers r h = cc
-
-refused_plan : (p : Plan) (due : ℕ) (routers : RouterList) (out : List ℕ) (r : Refusal) → (carried_out p due routers).answer ≡ Err r
+refused_plan : (p : Result Asking Refusal) (due : ℕ) (routers : RouterList) (out : List ℕ) (r : Refusal) → (carried_out p due routers).answer ≡ Err r
     → ((carried_out p due routers).routers ≡ routers) × (planned_output p out ≡ out)
-refused_plan (Ask f a) due routers out r h = (cc, cc)
-refused_plan (Refuse x) due routers out r h = (refl, refl)
+refused_plan (Ok a) due routers out r h = (cc, cc)
+refused_plan (Err x) due routers out r h = (refl, refl)
 
 -- the definitions that an answered asking went by, for the laws over lists of calls
 pub record AskedNext (s : Settings) (routers : RouterList) (now number : ℕ) (out : List ℕ) (router : ℕ) : Type 0 where
@@ -97,13 +84,13 @@ module _ (s : Settings) (routers : RouterList) (now number : ℕ) (out : List �
   answered-next router h =
       let found = locator_of s number in
       let f = asked_from (ask_plan s routers now number (length out)) (now + s.interval) routers router h in
-      let w = planned found (next_of now (live routers)) (length out) f.from router f.is in
+      let w = planned found (next_of now (live routers)) (length out) f.0 f.1 in
       record {
-        from = f.from;
+        from = f.0.from;
         locator = w.0;
-        next = w.1;
+        next = w.1 ∙ ap Some f.2;
         long = w.2;
-        rescheduled = ap (λ (q : Plan). (carried_out q (now + s.interval) routers).routers) f.is;
+        rescheduled = rw f.1 (ap (λ (r : ℕ). rescheduled_of r (now + s.interval) routers) f.2);
       }
 
   only_if : (router : ℕ) → (asked_of s routers now number (length out)).answer ≡ Ok router → (from : ℕ) × MayAsk s routers now number (length out) from router
@@ -112,17 +99,17 @@ module _ (s : Settings) (routers : RouterList) (now number : ℕ) (out : List �
       (n.from, record { locator = found-locator s number n.from n.locator; next = earliest-due now router (live routers) n.next; long = n.long })
 
   module _ (from router : ℕ) (m : MayAsk s routers now number (length out) from router) where
-    plan : ask_plan s routers now number (length out) ≡ Ask from router
+    plan : ask_plan s routers now number (length out) ≡ Ok (record { from = from; router = router })
     unfolding ask_plan plan_for
     plan = rw (locator-found s number from m.locator, due-earliest now router (live routers) m.next, le-ltb (length out) solicitation_length m.long)
 
     whenever : (asked_of s routers now number (length out)).answer ≡ Ok router
     unfolding asked_of
-    whenever = ap (λ (q : Plan). (carried_out q (now + s.interval) routers).answer) plan
+    whenever = ap (λ (q : Result Asking Refusal). (carried_out q (now + s.interval) routers).answer) plan
 
     output : asked_output s routers now number out ≡ written (solicitation_bytes from router) out
     unfolding asked_output solicitation_of icmp_packet icmp_message icmp_sum link_local_of
-    output = ap (λ (q : Plan). planned_output q out) plan
+    output = ap (λ (q : Result Asking Refusal). planned_output q out) plan
 
     due : OnlyDue routers router (now + s.interval) (asked_of s routers now number (length out)).routers
     unfolding asked_of

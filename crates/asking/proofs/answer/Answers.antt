@@ -1,28 +1,39 @@
--- `asking::answer` meets its contract: by cases on the plan, which has room for what it writes.
-use mathlib.Core.Path.{◌∙◌}
-use lib.ListN.{length}
-use Rattle.messages.specs.Icmp.{solicitation_output}
-use Rattle.messages.proofs.WriterLaws.{solicitation_pass}
-use Rattle.asking.specs.Ask.{asked_of, asked_output}
-use Rattle.asking.proofs.Laws.{room_planned}
+-- `asking::answer` meets its contract: at each return the steps that led there.
+use Rattle.std.proofs.Common.{rules}
+use Rattle.messages.specs.Icmp.{solicitation_check, solicitation_answer, solicitation_output}
+use Rattle.asking.specs.Ask.{plan_for, ask_plan, asked_of, asked_output}
 use Rattle.asking.proofs.answer.Goals as goal
 
-pub returns-in-Ask : goal.returns-in-Ask
-unfolding asked_of asked_output solicitation_output
-returns-in-Ask c = let a = c.args in
-    let plan = c.ask_plan-plan.ensures in
-    let is = c.in-Ask.is in
-    let pass = solicitation_pass (length a.out.now) (room_planned a.settings a.routers a.time a.locator (length a.out.now) plan is) in
-    record {
-      routers_value = rw (← plan, is);
-      out_after = rw (← plan, is) (c.solicitation.ensures.out_after ∙ rw (pass, c.link_local-destination.ensures, c.link_local-source.ensures));
-    }
+pub returns-in_err-from-clause-routers_value : goal.returns-in_err-from-clause-routers_value
+unfolding asked_of ask_plan plan_for
+returns-in_err-from-clause-routers_value c = search rules
 
-pub returns-in-Refuse : goal.returns-in-Refuse
-unfolding asked_of asked_output
-returns-in-Refuse c = let plan = c.ask_plan-plan.ensures in
-    let is = c.in-Refuse.is in
-    record {
-      routers_value = rw (← plan, is);
-      out_after = rw (← plan, is);
-    }
+pub returns-in_err-from-clause-out_after : goal.returns-in_err-from-clause-out_after
+unfolding asked_output ask_plan plan_for
+returns-in_err-from-clause-out_after c = search rules
+
+pub returns-in_err-router-clause-routers_value : goal.returns-in_err-router-clause-routers_value
+unfolding asked_of ask_plan plan_for
+returns-in_err-router-clause-routers_value c = search rules
+
+pub returns-in_err-router-clause-out_after : goal.returns-in_err-router-clause-out_after
+unfolding asked_output ask_plan plan_for
+returns-in_err-router-clause-out_after c = search rules
+
+pub returns-in_err-solicitation-clause-routers_value :
+    goal.returns-in_err-solicitation-clause-routers_value
+unfolding asked_of ask_plan plan_for solicitation_answer solicitation_check
+returns-in_err-solicitation-clause-routers_value c = search rules
+
+pub returns-in_err-solicitation-clause-out_after :
+    goal.returns-in_err-solicitation-clause-out_after
+unfolding asked_output ask_plan plan_for solicitation_output solicitation_check
+returns-in_err-solicitation-clause-out_after c = search rules
+
+pub returns-clause-routers_value : goal.returns-clause-routers_value
+unfolding asked_of ask_plan plan_for solicitation_answer solicitation_check
+returns-clause-routers_value c = search rules
+
+pub returns-clause-out_after : goal.returns-clause-out_after
+unfolding asked_output ask_plan plan_for solicitation_output solicitation_check
+returns-clause-out_after c = search rules
