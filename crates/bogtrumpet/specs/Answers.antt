@@ -1,7 +1,7 @@
 -- Answers as plain structs (R4): the number, 0 where the call is not refused, and the values that go
 -- with it; a value that an answer does not have is 0.
 use Rattle.refusals.specs.declared.Refusal.{Refusal}
-use Rattle.std.specs.Prelude.{true, false, Result, Ok, Err}
+use Rattle.std.specs.Prelude.{true, false, Result, Ok, Err, ℕ}
 use Rattle.receiving.specs.declared.Received as receiving
 use Rattle.receiving.specs.declared.Received.TheVariants as received
 use Rattle.refusals.specs.Refusals.{number_of}

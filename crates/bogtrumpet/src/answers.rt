@@ -5,6 +5,7 @@ ghost use Rattle.bogtrumpet.specs.Answers.{plain_received, plain_sized, plain_se
 
 use reports::ReportAnswer;
 use sending::SendAnswer;
+use refusals::Refusal;
 
 // Where the inner packet stands: in the memory where it was joined of pieces, else in the datagram.
 #[repr(C)]

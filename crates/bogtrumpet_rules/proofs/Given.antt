@@ -1,6 +1,6 @@
 -- A plain answer read back has the number and values (R1.17) of the writer's, or of comparing. Assumes nothing.
 use Rattle.refusals.specs.declared.Refusal.{Refusal}
-use Rattle.std.specs.Prelude.{◌≡◌, refl, [], ◌∷◌, Result, Ok, Err}
+use Rattle.std.specs.Prelude.{◌≡◌, refl, [], ◌∷◌, Result, Ok, Err, ℕ}
 use Rattle.header.specs.Wrap.{written_given}
 use Rattle.refusals.proofs.Numbers.{refused-back}
 use Rattle.comparing.specs.Given.{compared_given}

@@ -1,11 +1,10 @@
 -- Answers as plain numbers and structs, for C. What an answer does not have is 0.
-use Rattle.std.specs.Prelude.{ℕ, true, false, ltb, Some, None, Ok, Err}
+use Rattle.std.specs.Prelude.{ℕ, true, false, ltb, Some, None, Ok, Err, Option, Result}
 use Rattle.address.specs.Address.{embedded_in, link_local_of}
 use Rattle.address.specs.Prefixes.{rows_of}
-use Rattle.address.specs.declared.Embedded as address
 use Rattle.header.specs.declared.wrap.OuterFields.{OuterFields}
-use Rattle.header.specs.declared.wrap.Written as wrap
 use Rattle.refusals.specs.Refusals.{number_of}
+use Rattle.refusals.specs.declared.Refusal.{Refusal}
 use Rattle.bogtrumpet_rules.specs.declared.addresses.Address.{Address}
 use Rattle.bogtrumpet_rules.specs.declared.addresses.Prefixes.{Prefixes}
 use Rattle.bogtrumpet_rules.specs.declared.addresses.Embedded.{Embedded}
@@ -13,7 +12,7 @@ use Rattle.bogtrumpet_rules.specs.declared.writers.Written.{Written}
 use Rattle.bogtrumpet_rules.specs.declared.writers.Outer.{Outer}
 
 -- the number, and with 0 the length written
-abbrev pub plain_written : wrap.Written → Written
+abbrev pub plain_written : Result ℕ Refusal → Written
 plain_written (Ok n) = record { number = 0; length = n }
 plain_written (Err refusal) = record { number = number_of refusal; length = 0 }
 
@@ -29,7 +28,7 @@ fields_in o = record {
 }
 
 -- the IPv4 address that an ISATAP address embeds
-abbrev pub plain_embedded : address.Embedded → Embedded
+abbrev pub plain_embedded : Option ℕ → Embedded
 plain_embedded (Some a) = record { found = true; address = a }
 plain_embedded None = record { found = false; address = 0 }
 

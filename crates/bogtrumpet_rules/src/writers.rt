@@ -8,6 +8,7 @@ ghost use Rattle.bogtrumpet_rules.specs.Answers.{plain_written, fields_in};
 use crate::addresses::Address;
 use header::wrap;
 use header::wrap::OuterFields;
+use refusals::Refusal;
 
 #[repr(C)]
 #[derive(Clone, Copy)]

@@ -16,7 +16,6 @@ use Rattle.address.specs.Facts.{formed}
 use Rattle.lent.specs.Written.{written}
 use Rattle.header.specs.Fields.{bytes_from, address_at}
 use Rattle.refusals.specs.declared.Refusal.TheVariants.{NoLocator}
-use Rattle.header.specs.declared.wrap.Written as wrap
 use Rattle.messages.specs.Icmp.{icmp_message, icmp_packet}
 use Rattle.options.specs.Facts.{WholeOptions, IsLifetime, Counts, DueBy}
 use Rattle.options.proofs.Facts.{due-same}
@@ -94,7 +93,7 @@ module _ (w : Node) (u : ServiceName) (packet : List ℕ) (k : ℕ) (a : Adverti
   packet_out = advertisement_of (formed v) asker a
 
   -- an answered length says that the service is there
-  abbrev advertised_by : Bool → wrap.Written
+  abbrev advertised_by : Bool → Result ℕ Refusal
   advertised_by b = cond b (advertised_of (locator_of s k) packet a (length out)) (Err NoLocator)
 
   own : advertised_by (has_service w u) ≡ Ok n
@@ -108,7 +107,7 @@ module _ (w : Node) (u : ServiceName) (packet : List ℕ) (k : ℕ) (a : Adverti
       never : Err NoLocator ≡ Ok n → ⊥
       never q = let z : ◌≡◌ {A = ℕ} 0 1 = ap marked q in omega arith
         where
-          marked : wrap.Written → ℕ
+          marked : Result ℕ Refusal → ℕ
           marked (Err r) = 0
           marked (Ok l) = 1
 

@@ -7,6 +7,7 @@ use header::wrap::OuterFields;
 use header::{fields, inner, outer, wrap};
 use input::section;
 use std::io;
+use refusals::Refusal;
 
 pub(crate) fn answer(rt: &impl Print, kind: u8, c: &[u8]) -> io::Result<()> {
     match kind {
