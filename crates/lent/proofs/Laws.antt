@@ -1,12 +1,12 @@
 -- Laws of writing: one write behind another, and a write inside of what was written. Assumes nothing.
 use Prim.Native.Nat.{ℕ, ◌+◌, ◌-◌, ◌<◌, ◌≤◌}
-use mathlib.Core.Path.{◌≡◌, ap, sym, ◌∙◌}
+use mathlib.Core.Path.{◌≡◌, ap, ◌∙◌}
 use mathlib.Core.List.{List, [], ◌++◌, append_assoc, append-nil}
 use native.Mathlib.Omega.{arith}
 use native.Mathlib.Nat.{zero-add}
 use borrow.Author.Tests.{lt-ltb, le-ltb}
 use lib.ListN.{length, take, drop, length-take, length-drop, length-append, drop_of_length-le}
-use lib.Seq.{take-append_seam, drop-append_seam, take-append-le, drop-append-le, drop-append-add, drop-drop, take_all, take-add, length-take-le}
+use lib.Seq.{take-append_seam, drop-append_seam, take-append-le, drop-append-le, drop-append-add, drop-drop, take_all}
 use Rattle.lent.specs.Written.{written, over, written_at}
 
 -- what fits is written
@@ -63,13 +63,3 @@ part-over at p d h =
     let t : take (length d - at) (drop at d) ≡ drop at d = take_all (length d - at) (drop at d) (omega (arith, length-drop at d)) in
     let e : drop (length d - at) (drop at d) ≡ [] = drop_of_length-le (drop at d) {i = length d - at} (omega (arith, length-drop at d)) in
     simp (t, e, append-nil, drop-drop)
-
--- a block of p, written right behind what p has before it
-pub written-block : (i e : ℕ) (p d : List ℕ) {d₁ d₂ : List ℕ} → i ≤ e → e ≤ length p → length p ≤ length d → d₁ ≡ written (take i p) d
-    → d₂ ≡ over i (take (e - i) (drop i p)) d₁ → d₂ ≡ written (take e p) d
-written-block i e p d h k l f g =
-    let block = take (e - i) (drop i p) in
-    let long : length (take i p) ≡ i = length-take-le i p (omega arith) in
-    let whole : e ≡ i + (e - i) = omega arith in
-    let parts : take e p ≡ take i p ++ block = ap (λ (j : ℕ). take j p) whole ∙ take-add i (e - i) p in
-    g ∙ rw (f, parts) (ap (λ (j : ℕ). over j block (written (take i p) d)) (sym long) ∙ over-next (take i p) block d)
