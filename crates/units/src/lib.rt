@@ -33,9 +33,9 @@ impl Held {
         Held {
             words: [
                 ones(n),
-                ones(less(n, 64)),
-                ones(less(n, 128)),
-                ones(less(n, 192)),
+                ones(n.saturating_sub(64)),
+                ones(n.saturating_sub(128)),
+                ones(n.saturating_sub(192)),
             ],
         }
     }
@@ -44,7 +44,7 @@ impl Held {
     pub fn range(from: usize, count: usize) -> Held
         ensures { result ≡ range_of from count }
     {
-        let end = lists::least(from, UNITS) + lists::least(count, UNITS);
+        let end = from.min(UNITS) + count.min(UNITS);
         let up_to = Held::first(end);
         let before = Held::first(from);
         let a = up_to.words;
@@ -92,7 +92,7 @@ impl Held {
     }
 }
 
-// The bits of the one word and the other.
+// The bits of the one word and the other. It is a function since a proof knows of an argument, and not of an element, that it has 64 bits.
 fn both(a: u64, b: u64) -> u64
     ensures { result ≡ bit_or a b % 2 ^ 64 }
 {
@@ -104,11 +104,4 @@ fn ones(n: usize) -> u64
     ensures { result ≡ 2 ^ min n 64 - 1 }
 {
     if n < WORD { (1 << n) - 1 } else { u64::MAX }
-}
-
-// What is left of a when b is taken from it.
-fn less(a: usize, b: usize) -> usize
-    ensures { result ≡ a - b }
-{
-    if a < b { 0 } else { a - b }
 }

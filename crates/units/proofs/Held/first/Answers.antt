@@ -5,11 +5,11 @@ use Rattle.units.proofs.Held.first.Goals as goal
 pub returns : goal.returns
 returns c = rw (
   c.ones-4.ensures,
-  c.less-3.ensures,
+  c.saturating_sub-3.ensures,
   c.ones-3.ensures,
-  c.less-2.ensures,
+  c.saturating_sub-2.ensures,
   c.ones-2.ensures,
-  c.less.ensures,
+  c.saturating_sub.ensures,
   c.ones.ensures,
 )
     (first-words c.args.n)
