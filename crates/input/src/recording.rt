@@ -72,12 +72,9 @@ pub fn well_formed(r: &[u8]) -> bool
     let n = section::count(r);
     let mut rest = first(r);
     let mut good = 2 <= r.len();
-    let mut i: usize = 0;
-    while i < n {
+    for i in 0..n {
         good = good & there(rest);
-        let after = next(rest);
-        rest = after;
-        i += 1;
+        rest = next(rest);
     }
     good & (rest.len() == 0)
 }

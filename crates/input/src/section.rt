@@ -46,8 +46,7 @@ pub fn behind(s: &[u8], size: u8) -> &[u8]
 pub fn front(d: &[u8], n: usize) -> &[u8]
     ensures { result.now ≡ take n d.now }
 {
-    let end = lists::least(n, d.len());
-    &d[..end]
+    &d[..n.min(d.len())]
 }
 
 // The record of number i, counted from 0.
@@ -75,12 +74,9 @@ pub fn locators(s: &[u8]) -> [Locator; 8]
         address: 0,
         interface: 0,
     };
-    let n = lists::least(count(s), 8);
     let mut all = [none; 8];
-    let mut i: usize = 0;
-    while i < n {
+    for i in 0..count(s).min(8) {
         all[i] = locator(record_at(s, LOCATOR, i));
-        i += 1;
     }
     all
 }
@@ -90,7 +86,7 @@ pub fn prefixes(s: &[u8]) -> [u8; 64]
     ensures { result ≡ prefixes_in s.now }
 {
     let mut all = [0u8; 64];
-    let n = lists::least(count(s), 8) * PREFIX as usize;
+    let n = count(s).min(8) * PREFIX as usize;
     let bytes = front(fields::tail(s, 2), n);
     lent::write_at(bytes, &mut all, 0);
     all
@@ -100,12 +96,9 @@ pub fn prefixes(s: &[u8]) -> [u8; 64]
 pub fn routers(s: &[u8]) -> [u32; 16]
     ensures { result ≡ routers_in s.now }
 {
-    let n = lists::least(count(s), 16);
     let mut all = [0u32; 16];
-    let mut i: usize = 0;
-    while i < n {
+    for i in 0..count(s).min(16) {
         all[i] = fields::quad(record_at(s, ROUTER, i), 0);
-        i += 1;
     }
     all
 }

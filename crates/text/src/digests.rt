@@ -9,13 +9,9 @@ const PRIME: u64 = 16777619;
 pub fn digest(bytes: &[u8]) -> u32
     ensures { result ≡ digest_of bytes.now }
 {
-    let mut hash = OFFSET_BASIS;
-    let mut i = 0;
-    while i < bytes.len() {
-        hash = mix(hash, bytes[i]);
-        i += 1;
-    }
-    hash
+    bytes
+        .iter()
+        .fold(OFFSET_BASIS, |hash, byte| mix(hash, *byte))
 }
 
 // The hash with one byte more.

@@ -12,13 +12,10 @@ ghost use Rattle.text.specs.Digest.{hex_digit, hexadecimal};
 fn end_of(at: usize, n: usize, room: usize) -> usize
     ensures { result ≡ end_of at n room }
 {
-    if room < at {
-        return at;
+    match at.checked_add(n) {
+        Some(end) if end <= room => end,
+        _ => at,
     }
-    if room - at < n {
-        return at;
-    }
-    at + n
 }
 
 // Writes the bytes of a word.

@@ -9,11 +9,11 @@ use Rattle.input.proofs.recording.well_formed.Goals as goal
 pub loop-i-init : goal.loop-i-init
 unfolding is_recording
 loop-i-init c = let e : c.count-n.result - 0 ≡ c.count-n.result = omega arith in
-    (omega arith, rw (e, c.count-n.ensures, c.first-rest.ensures))
+    rw (e, c.count-n.ensures, c.first-rest.ensures)
 
 pub loop-i-preserved : goal.loop-i-preserved
-loop-i-preserved c = (omega arith, rw (c.there-good.ensures, c.next-after.ensures) (there_turn c.count-n.result c.loop-i.i c.loop-i.good c.loop-i.rest.now (omega arith) ∙ c.loop-i.invariant.1))
+loop-i-preserved c = rw (c.there-good.ensures, c.next-rest.ensures) (there_turn c.count-n.result c.loop-i.i c.loop-i.good c.loop-i.rest.now (omega arith) ∙ c.loop-i.invariant)
 
 pub returns : goal.returns
 returns c = let e : c.count-n.result - c.loop-i.i ≡ 0 = omega arith in
-    rw e at c.loop-i.invariant.1
+    rw e at c.loop-i.invariant

@@ -1,5 +1,4 @@
 -- `input::section::routers` meets its contract: the records read so far stand in front.
-use Prim.Native.Nat.{◌≤◌, ◌-◌}
 use mathlib.Core.Path.{◌≡◌}
 use lib.ListN.{length}
 use Rattle.input.specs.Section.{router_bytes, router_of}
@@ -7,7 +6,4 @@ use Rattle.input.proofs.Records.{filled_to}
 use Rattle.input.proofs.section.routers.Given as goal
 
 abbrev pub invariant-loop-i : goal.invariant-loop-i
-invariant-loop-i l = (l.i ≤ l.n) × (length l.all ≡ 16) × (l.all ≡ filled_to router_of 0 router_bytes 16 l.s l.i)
-
-abbrev pub decreases-loop-i : goal.decreases-loop-i
-decreases-loop-i l = l.n - l.i
+invariant-loop-i l = (length l.all ≡ 16) × (l.all ≡ filled_to router_of 0 router_bytes 16 l.s l.i)
