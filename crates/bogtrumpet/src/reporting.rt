@@ -75,7 +75,7 @@ pub(crate) fn looked<'a>(
 ) -> ReportLook
     ensures { result ≡ looked_among first second both neighbours.now sizes.now times.now count latest read time }
 {
-    let latest = node::later(latest, time);
+    let latest = latest.max(time);
     let judged = reading::judge(first, second, 0 < both, read);
     match judged {
         JudgedOver::Report {

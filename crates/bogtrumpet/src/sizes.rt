@@ -54,6 +54,6 @@ pub fn size_toward<'a>(
     let c = next_hop.third;
     let d = next_hop.last;
     let tunnel_end = address::last_quad(plain::whole(a, b, c, d));
-    let later = node::later(latest, time);
+    let later = latest.max(time);
     paths::size_among(link, neighbours, sizes, times, count, tunnel_end, later)
 }

@@ -89,7 +89,7 @@ pub(crate) fn gathered(
     ensures { GatheredAs (is_there both service) named (max latest time) datagram.now interface memory.old result
         × (memory.new ≡ collected_through (is_there both service) named (max latest time) datagram.now interface memory.old) }
 {
-    let latest = node::later(latest, time);
+    let latest = latest.max(time);
     if numbered::there(both, service) {
         let settings = named.settings;
         let pieces = named.pieces;
@@ -173,7 +173,7 @@ pub fn sent(
     SentStep {
         answer,
         identification: sent.identification,
-        latest: node::later(latest, time),
+        latest: latest.max(time),
     }
 }
 
@@ -189,7 +189,7 @@ pub fn replaced(
 ) -> ReplacedStep
     ensures { result ≡ replaced_step (is_there both service) named latest list.routers list.count time }
 {
-    let latest = node::later(latest, time);
+    let latest = latest.max(time);
     let there = numbered::there(both, service);
     let addresses = list.routers;
     let done = router_list::replaced_by(there, named, latest, addresses, list.count);
@@ -216,7 +216,7 @@ pub fn asked(
     ensures { AskedAs (is_there both service) named latest locator time (length out.old) result
         × (out.new ≡ asked_through (is_there both service) named (max latest time) locator out.old) }
 {
-    let latest = node::later(latest, time);
+    let latest = latest.max(time);
     let there = numbered::there(both, service);
     let given = ask::answered_by(there, named, latest, locator, out);
     let due = latest as u64 + named.settings.interval as u64;
@@ -238,7 +238,7 @@ pub fn heard(
 ) -> RouterStep<Heard>
     ensures { HeardAs (is_there both service) named latest packet.now time result }
 {
-    let latest = node::later(latest, time);
+    let latest = latest.max(time);
     let there = numbered::there(both, service);
     let judged = hear::judged_by(there, named, latest, packet);
     let given = judged.answer;

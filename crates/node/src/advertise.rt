@@ -18,13 +18,12 @@ pub fn advertised_by(
     ensures value { result ≡ advertised_by there service packet.now locator advertisement (length out.old) }
     ensures out_after { out.new ≡ advertised_through there service packet.now locator advertisement out.old }
 {
-    if there {
-        let settings = service.settings;
-        let found = settings.locator(locator);
-        advertising::advertise(found, packet, advertisement, out)
-    } else {
-        Err(Refusal::NoLocator)
+    if !there {
+        return Err(Refusal::NoLocator);
     }
+    let settings = service.settings;
+    let found = settings.locator(locator);
+    advertising::advertise(found, packet, advertisement, out)
 }
 
 impl Node {

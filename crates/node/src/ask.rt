@@ -3,7 +3,7 @@ ghost use Rattle.std.specs.Prelude.{◌≡◌, ◌+◌, length};
 ghost use Rattle.asking.specs.Ask.{answered_with};
 ghost use Rattle.node.specs.Ask.{asked_by, asked_through, ask_of, ask_output};
 
-use super::{Node, Service, ServiceName, later};
+use super::{Node, Service, ServiceName};
 use refusals::Refusal;
 
 #[derive(Clone, Copy)]
@@ -12,30 +12,8 @@ pub struct Asked {
     pub node: Node,
 }
 
-// What a service makes of it at the latest time; 11 where the node has none such.
-pub fn asked_by(
-    there: bool,
-    service: Service,
-    latest: u32,
-    locator: usize,
-    out: &mut [u8],
-) -> asking::Asked
-    ensures value { result ≡ asked_by there service latest locator (length out.old) }
-    ensures out_after { out.new ≡ asked_through there service latest locator out.old }
-{
-    let routers = service.routers;
-    if there {
-        let settings = service.settings;
-        asking::ask(settings, routers, latest, locator, out)
-    } else {
-        asking::Asked {
-            answer: Err(Refusal::NoLocator),
-            routers,
-        }
-    }
-}
-
-// Its answer alone, of which the router list afterwards follows.
+// The answer of a service at the latest time, of which the router list afterwards follows; 11 where the node has none such.
+#[tactic(auto, unfolding(crate::specs::Ask::asked_by, crate::specs::Ask::asked_through))]
 pub fn answered_by(
     there: bool,
     service: Service,
@@ -46,13 +24,29 @@ pub fn answered_by(
     ensures routers_value { answered_with result (latest + service.settings.interval) service.routers ≡ asked_by there service latest locator (length out.old) }
     ensures out_after { out.new ≡ asked_through there service latest locator out.old }
 {
-    let routers = service.routers;
-    if there {
-        let settings = service.settings;
-        asking::answer(settings, routers, latest, locator, out)
-    } else {
-        Err(Refusal::NoLocator)
+    if !there {
+        return Err(Refusal::NoLocator);
     }
+    let settings = service.settings;
+    let routers = service.routers;
+    asking::answer(settings, routers, latest, locator, out)
+}
+
+// The answer, and the router list afterwards.
+pub fn asked_by(
+    there: bool,
+    service: Service,
+    latest: u32,
+    locator: usize,
+    out: &mut [u8],
+) -> asking::Asked
+    ensures value { result ≡ asked_by there service latest locator (length out.old) }
+    ensures out_after { out.new ≡ asked_through there service latest locator out.old }
+{
+    let answer = answered_by(there, service, latest, locator, out);
+    let due = latest as u64 + service.settings.interval as u64;
+    let routers = service.routers;
+    asking::answered_with(answer, due, routers)
 }
 
 impl Node {
@@ -64,7 +58,7 @@ impl Node {
         let asked = asked_by(
             self.has(name),
             service,
-            later(self.latest, time),
+            self.latest.max(time),
             locator,
             out,
         );

@@ -82,13 +82,6 @@ fn no_settings() -> Settings
     }
 }
 
-// The later of two times.
-pub fn later(a: u32, b: u32) -> u32
-    ensures { result ≡ max a b }
-{
-    if a < b { b } else { a }
-}
-
 impl Service {
     fn of(settings: Settings) -> Service
         ensures { result ≡ service_from settings }
@@ -201,7 +194,7 @@ impl Node {
         ensures value { result ≡ node_with self name service time }
         ensures reporting_len { (length self.first.settings.reporting ≡ 16) × (length self.second.settings.reporting ≡ 16) }
     {
-        self.latest = later(self.latest, time);
+        self.latest = self.latest.max(time);
         match name {
             ServiceName::First => {
                 self.first = service;

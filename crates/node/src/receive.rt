@@ -2,7 +2,7 @@
 ghost use Rattle.std.specs.Prelude.{◌≡◌};
 ghost use Rattle.node.specs.Receive.{receive_of, receive_memory, part_in};
 
-use super::{Node, ServiceName, later};
+use super::{Node, ServiceName};
 use receiving::{Received, collect, judging};
 use refusals::Refusal;
 
@@ -26,7 +26,7 @@ impl Node {
         ensures value { result ≡ receive_of self name d.now interface time memory.old }
         ensures memory_after { memory.new ≡ receive_memory self name d.now interface time memory.old }
     {
-        let now = later(self.latest, time);
+        let now = self.latest.max(time);
         let mut service = self.service(name);
         if self.has(name) {
             let settings = service.settings;

@@ -3,7 +3,7 @@ ghost use Rattle.std.specs.Prelude.{◌≡◌};
 ghost use Rattle.reports.specs.Report.{neighbour_in};
 ghost use Rattle.node.specs.Report.{paths_after, reported_to, reported_by, report_of};
 
-use super::{Node, ServiceName, later};
+use super::{Node, ServiceName};
 use header::outer;
 use paths::PathTable;
 use reports::{Judged, ReportAnswer};
@@ -75,7 +75,7 @@ impl Node {
     pub fn report(mut self, message: &[u8], time: u32) -> Reported
         ensures { result ≡ report_of self message.now time }
     {
-        let latest = later(self.latest, time);
+        let latest = self.latest.max(time);
         let step = self.reported_by(message, latest);
         let paths = step.paths;
         let answer = step.answer;

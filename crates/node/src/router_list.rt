@@ -2,7 +2,7 @@
 ghost use Rattle.std.specs.Prelude.{◌≡◌};
 ghost use Rattle.node.specs.RouterList.{list_given, list_refusal, replaced_by, replace_of};
 
-use super::{Node, Service, ServiceName, later};
+use super::{Node, Service, ServiceName};
 use refusals::Refusal;
 use routers::RouterList;
 
@@ -70,7 +70,7 @@ impl Node {
         let step = replaced_by(
             self.has(name),
             service,
-            later(self.latest, time),
+            self.latest.max(time),
             addresses,
             count,
         );

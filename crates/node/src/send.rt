@@ -2,7 +2,7 @@
 ghost use Rattle.std.specs.Prelude.{◌≡◌, length};
 ghost use Rattle.node.specs.Send.{sent_by, sent_through, send_of, send_output};
 
-use super::{Node, Service, ServiceName, later};
+use super::{Node, Service, ServiceName};
 use refusals::Refusal;
 use sending::SendAnswer;
 
@@ -57,7 +57,7 @@ impl Node {
         ensures value { result ≡ send_of self name packet.now next_hop locator time (length out.old) }
         ensures out_after { out.new ≡ send_output self name packet.now next_hop locator time out.old }
     {
-        let now = later(self.latest, time);
+        let now = self.latest.max(time);
         let size = self.size_at(name, address::last_quad(next_hop), now);
         let mut service = self.service(name);
         let sent = sent_by(

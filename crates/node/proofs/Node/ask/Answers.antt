@@ -4,7 +4,7 @@ use Rattle.node.proofs.Node.ask.Goals as goal
 
 pub returns : goal.returns
 unfolding ask_of ask_output
-returns c = let at = c.later.ensures in
+returns c = let at = c.max.ensures in
     let has = c.has.ensures in
     let service = c.service-service.ensures in
     record {

@@ -4,4 +4,4 @@ use Rattle.node.proofs.Node.hear.Goals as goal
 
 pub returns : goal.returns
 unfolding hear_of
-returns c = rw (c.put_back-node.ensures.value, c.heard_by-heard.ensures, c.later.ensures, c.has.ensures, c.service-service.ensures)
+returns c = rw (c.put_back-node.ensures.value, c.heard_by-heard.ensures, c.max.ensures, c.has.ensures, c.service-service.ensures)

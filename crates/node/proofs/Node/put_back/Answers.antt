@@ -10,7 +10,7 @@ returns-in-First c = let full : (let self = c.args.self in (length self.first.se
     let second = services.1.0.1.1.0.1.1.1.1.1.1.1.1.1.1.1.1.0 in
     (first.1.0.1, second.1.0.1)) in
     record {
-      value = rw (c.later.ensures, c.in-First.is);
+      value = rw (c.max.ensures, c.in-First.is);
       reporting_len = full;
     }
 
@@ -20,6 +20,6 @@ returns-in-Second c = let full : (let self = c.args.self in (length self.first.s
     let second = services.1.0.1.1.0.1.1.1.1.1.1.1.1.1.1.1.1.0 in
     (first.1.0.1, second.1.0.1)) in
     record {
-      value = rw (c.later.ensures, c.in-Second.is);
+      value = rw (c.max.ensures, c.in-Second.is);
       reporting_len = full;
     }

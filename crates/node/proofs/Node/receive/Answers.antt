@@ -55,11 +55,11 @@ returns-then-has c = let s = c.service-service in
       | then-gathered w ↦ stored s.result c.if-gathered.service c.gather-gathered.result w.if-gathered.true w.service-is
       | else-gathered w ↦ left s.result c.if-gathered.service c.gather-gathered.result w.if-gathered.false w.service-is
     ] in
-    let told = rw c.later-now.ensures at (c.gather-gathered.ensures.at_lt_places.0 (live s.result.routers)) in
+    let told = rw c.max-now.ensures at (c.gather-gathered.ensures.at_lt_places.0 (live s.result.routers)) in
     let has = c.has in record {
       value = rw c.put_back-node.ensures.value
           (present a.self a.name a.d.now a.interface a.time a.memory.now has.result s.result has.ensures s.ensures c.if-has.true c.judge-answer.result c.if-gathered.service service c.judge-answer.ensures told);
-      memory_after = rw (c.gather-gathered.ensures.memory_after, c.later-now.ensures)
+      memory_after = rw (c.gather-gathered.ensures.memory_after, c.max-now.ensures)
           (present-memory a.self a.name a.d.now a.interface a.time a.memory.now has.result s.result has.ensures s.ensures c.if-has.true);
     }
 

@@ -4,4 +4,4 @@ use Rattle.node.proofs.Node.replace_routers.Goals as goal
 
 pub returns : goal.returns
 unfolding replace_of
-returns c = rw (c.put_back-node.ensures.value, c.replaced_by-step.ensures, c.later.ensures, c.has.ensures, c.service-service.ensures)
+returns c = rw (c.put_back-node.ensures.value, c.replaced_by-step.ensures, c.max.ensures, c.has.ensures, c.service-service.ensures)

@@ -4,4 +4,4 @@ use Rattle.node.proofs.Node.report.Goals as goal
 
 pub returns : goal.returns
 unfolding report_of
-returns c = rw (c.reported_by-step.ensures, c.later-latest.ensures)
+returns c = rw (c.reported_by-step.ensures, c.max-latest.ensures)
