@@ -6,7 +6,15 @@ pub mod prefixes;
 pub mod quads;
 
 ghost use Rattle.std.specs.Prelude.{◌≡◌, ◌/◌, ◌%◌};
-ghost use Rattle.address.specs.Address.{is_forbidden, quad_of, last_quad, is_link_local, is_on_link, is_identifier, embedded_in, link_local_of, is_unspecified, is_multicast_or_unspecified, is_bad_source};
+ghost use Rattle.address.specs.Address.{is_forbidden, quad_of, last_quad, is_link_local, is_on_link, is_identifier, embedded_in, link_local_of, is_unspecified, is_multicast_or_unspecified, is_bad_source, is_bad_source_with};
+
+use quads::{Ipv6, under, zero_96};
+
+// What stands before the embedded address: 00-00-5E-FE,
+const IDENTIFIER_00: u32 = 0x00005efe;
+
+// or 02-00-5E-FE.
+const IDENTIFIER_02: u32 = 0x02005efe;
 
 // The first identifier byte of an address that we form.
 const FIRST_IDENTIFIER_BYTE: u8 = 0;
@@ -24,25 +32,12 @@ pub fn forbidden(a: u32) -> bool
             | (((0xe0000000 <= a) & (a <= 0xefffffff)) | (a == 0xffffffff)))
 }
 
-// Four bytes as the machine reads a number, the first the low-order one: of bytes that lie together the compiler makes one load.
-fn machine_number(a: u8, b: u8, c: u8, d: u8) -> u32
-    ensures { (result % 256 ≡ a) × (result / 256 % 256 ≡ b) × (result / 65536 % 256 ≡ c) × (result / 16777216 ≡ d) }
-{
-    (a as u32) + (b as u32) * 256 + (c as u32) * 65536 + (d as u32) * 16777216
-}
-
-// A number with its bytes exchanged: the compiler makes one instruction of it.
-fn exchanged(x: u32) -> u32
-    ensures { result ≡ quad_of (x % 256) (x / 256 % 256) (x / 65536 % 256) (x / 16777216) }
-{
-    x % 256 * 16777216 + x / 256 % 256 * 65536 + x / 65536 % 256 * 256 + x / 16777216
-}
-
-// Four bytes as a number, the first the highest. Put together in that order at once it would be taken apart again where a part of it is used.
+// Four bytes as a number, the first the highest. The machine reads them the other way round, which one instruction mends: put together in this
+// order at once, the number would be taken apart again where a part of it is used.
 pub fn quad(a: u8, b: u8, c: u8, d: u8) -> u32
     ensures { result ≡ quad_of a b c d }
 {
-    exchanged(machine_number(a, b, c, d))
+    u32::from_le_bytes([a, b, c, d]).swap_bytes()
 }
 
 // The last 32 bits of an IPv6 address.
@@ -53,37 +48,45 @@ pub fn last_quad(a: [u8; 16]) -> u32
 }
 
 // Whether the address is in fe80::/64.
-pub fn link_local_prefixed(a: [u8; 16]) -> bool
-    ensures { result ≡ is_link_local a }
+pub fn link_local_prefixed<A: Ipv6>(a: A) -> bool
+    ensures { result ≡ is_link_local (A.bytes a) }
 {
-    quads::link_local_prefixed(quads::numbers(a))
+    under(a.quads(), [0xfe, 0x80, 0, 0, 0, 0, 0, 0])
 }
 
 // Whether the address is in fe80::/64 or under one of the first `count` prefixes; a count above 8 is read as 8.
-pub fn on_link(prefixes: [[u8; 8]; 8], count: usize, a: [u8; 16]) -> bool
-    ensures { result ≡ is_on_link prefixes count a }
+pub fn on_link<A: Ipv6>(prefixes: [[u8; 8]; 8], count: usize, a: A) -> bool
+    ensures { result ≡ is_on_link prefixes count (A.bytes a) }
 {
-    quads::on_link(prefixes, count, quads::numbers(a))
+    let q = a.quads();
+    link_local_prefixed(q) || prefixes[..count.min(8)].iter().any(|p| under(q, *p))
 }
 
 // Whether an ISATAP identifier stands behind the prefix.
-pub fn identifier(a: [u8; 16]) -> bool
-    ensures { result ≡ is_identifier a }
+pub fn identifier<A: Ipv6>(a: A) -> bool
+    ensures { result ≡ is_identifier (A.bytes a) }
 {
-    quads::identifier(quads::numbers(a))
+    let third = a.quads().third;
+    (third == IDENTIFIER_00) | (third == IDENTIFIER_02)
 }
 
 // The IPv4 address of an ISATAP address.
-pub fn isatap(prefixes: [[u8; 8]; 8], count: usize, a: [u8; 16]) -> Option<u32>
-    ensures { result ≡ embedded_in prefixes count a }
+pub fn isatap<A: Ipv6>(prefixes: [[u8; 8]; 8], count: usize, a: A) -> Option<u32>
+    ensures { result ≡ embedded_in prefixes count (A.bytes a) }
 {
-    quads::isatap(prefixes, count, quads::numbers(a))
+    let q = a.quads();
+    if identifier(q) && on_link(prefixes, count, q) {
+        Some(q.last)
+    } else {
+        None
+    }
 }
 
 // The link-local ISATAP address of an IPv4 address.
 pub fn link_local(a: u32) -> [u8; 16]
     ensures { result ≡ link_local_of a }
 {
+    let [b, c, d, e] = a.to_be_bytes();
     [
         0xfe,
         0x80,
@@ -97,31 +100,42 @@ pub fn link_local(a: u32) -> [u8; 16]
         0,
         0x5e,
         0xfe,
-        (a / 16777216) as u8,
-        (a / 65536 % 256) as u8,
-        (a / 256 % 256) as u8,
-        (a % 256) as u8,
+        b,
+        c,
+        d,
+        e,
     ]
 }
 
 // Whether the address is `::`.
-pub fn unspecified(a: [u8; 16]) -> bool
-    ensures { result ≡ is_unspecified a }
+pub fn unspecified<A: Ipv6>(a: A) -> bool
+    ensures { result ≡ is_unspecified (A.bytes a) }
 {
-    quads::unspecified(quads::numbers(a))
+    let q = a.quads();
+    zero_96(q) & (q.last == 0)
 }
 
 // Whether nothing may be sent to the address: multicast, or `::`.
-pub fn multicast_or_unspecified(a: [u8; 16]) -> bool
-    ensures { result ≡ is_multicast_or_unspecified a }
+pub fn multicast_or_unspecified<A: Ipv6>(a: A) -> bool
+    ensures { result ≡ is_multicast_or_unspecified (A.bytes a) }
 {
-    quads::multicast_or_unspecified(quads::numbers(a))
+    let q = a.quads();
+    (q.first / 16777216 == 255) | unspecified(q)
 }
 
 // Whether an inner source is bad.
-pub fn bad_source(a: [u8; 16]) -> bool
-    ensures { result ≡ is_bad_source a }
+pub fn bad_source<A: Ipv6>(a: A) -> bool
+    ensures { result ≡ is_bad_source (A.bytes a) }
 {
-    let q = quads::numbers(a);
-    quads::bad_source_with(forbidden(q.last), q)
+    let q = a.quads();
+    bad_source_with(forbidden(q.last), q)
+}
+
+// The same, where `forbidden` says whether its last 32 bits are a forbidden IPv4 address.
+pub fn bad_source_with<A: Ipv6>(forbidden: bool, a: A) -> bool
+    ensures { result ≡ is_bad_source_with forbidden (A.bytes a) }
+{
+    let q = a.quads();
+    let zero = zero_96(q);
+    multicast_or_unspecified(q) | (zero & (q.last == 1)) | (zero & forbidden)
 }

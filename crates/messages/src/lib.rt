@@ -8,7 +8,7 @@ ghost use Rattle.lent.specs.Written.{written};
 ghost use Rattle.messages.specs.Icmp.{solicitation_type, message_headers, longest_packet, icmp_sum, icmp_with, ipv6_header, enclosed, too_big_answer, too_big_output, solicitation_answer, solicitation_output};
 ghost use Rattle.messages.specs.Sealed.{sealed};
 
-use address::quads;
+use address::quads::Quads;
 use header::{ICMPV6, INNER_HEADER, fields};
 use lent::write_at;
 use refusals::Refusal;
@@ -76,7 +76,7 @@ pub fn solicitation(from: [u8; 16], to: [u8; 16], out: &mut [u8]) -> Result<usiz
 fn address_words(a: [u8; 16]) -> u32
     ensures { (result ≡ word_sum a) × (result ≤ 524280) }
 {
-    let q = quads::numbers(a);
+    let q = Quads::from(a);
     let first = checksum::two_words(q.first);
     let second = checksum::two_words(q.second);
     let third = checksum::two_words(q.third);

@@ -10,8 +10,8 @@ ghost use Rattle.receiving.specs.Receive.{embeds, is_source_right};
 ghost use Rattle.receiving.specs.Stages.{inner_in, passes_anyhow, inner_check, placed_at, opened_of, judged_of, ReadAs};
 
 use crate::Received;
+use address::prefixes;
 use address::quads::Quads;
-use address::{prefixes, quads};
 use header::inner::Inner;
 use header::{INNER_HEADER, fields, inner};
 use refusals::Refusal;
@@ -53,7 +53,7 @@ fn passes_anyhow(x: Opening) -> bool
     ensures { result ≡ passes_anyhow x }
 {
     let q = x.address;
-    (q.last == x.source) & quads::link_local_prefixed(q) & quads::identifier(q) & !malformed(x)
+    (q.last == x.source) & address::link_local_prefixed(q) & address::identifier(q) & !malformed(x)
 }
 
 // What is read of a payload from that outer source. Its length is asked first, so that the header is then read without asking it again.
@@ -90,19 +90,19 @@ fn source_bad(settings: Settings, q: Quads) -> bool
     ensures { result ≡ is_bad_source_with (forbidden_to settings (last_quad (bytes_in q))) (bytes_in q) }
 {
     let forbidden = settings.forbidden_to(q.last);
-    quads::bad_source_with(forbidden, q)
+    address::bad_source_with(forbidden, q)
 }
 
 // Whether the address is an ISATAP address that embeds v. Most have the link-local prefix: then the settings' are not read.
 fn embeds_it(settings: Settings, q: Quads, v: u32) -> bool
     ensures { result ≡ embeds settings (bytes_in q) v }
 {
-    if quads::identifier(q) & (q.last == v) {
-        if quads::link_local_prefixed(q) {
+    if address::identifier(q) & (q.last == v) {
+        if address::link_local_prefixed(q) {
             return true;
         }
         let on_link = settings.prefixes;
-        return quads::on_link(prefixes::rows(on_link), settings.prefix_count, q);
+        return address::on_link(prefixes::rows(on_link), settings.prefix_count, q);
     }
     false
 }

@@ -1,5 +1,8 @@
--- `address::multicast_or_unspecified` meets its contract: the four numbers have the address's bytes.
+-- `address::multicast_or_unspecified` meets its contract: the call gives its part of the test.
+use Rattle.address.specs.Address.{is_multicast_or_unspecified}
+use Rattle.address.specs.Quads.{bytes_in}
 use Rattle.address.proofs.multicast_or_unspecified.Goals as goal
 
 pub returns : goal.returns
-returns c = rw (c.multicast_or_unspecified.ensures, c.numbers.ensures.result_value)
+unfolding is_multicast_or_unspecified bytes_in
+returns g c = rw (c.unspecified.ensures, ← c.quads-q.ensures)

@@ -14,7 +14,7 @@ pub returns : goal.returns
 unfolding quads_of quad_at
 returns c = let a = c.args.a in
     let byte : (i : ℕ) → Fits w8 (get_or a i 0) = λ i. search elem_Fits in (
-      rw (c.two_words.ensures.0, c.two_words-third.ensures.0, c.two_words-second.ensures.0, c.two_words-first.ensures.0, c.numbers-q.ensures.value)
+      rw (c.two_words.ensures.0, c.two_words-third.ensures.0, c.two_words-second.ensures.0, c.two_words-first.ensures.0, c.from-q.ensures.0)
           (eight_words a (omega arith) (λ i. (byte i).fits)),
       omega (arith, c.two_words.ensures.1, c.two_words-third.ensures.1, c.two_words-second.ensures.1, c.two_words-first.ensures.1),
     )

@@ -1,9 +1,0 @@
--- `address::quads::bad_source_with` meets its contract: each call gives its part of the test.
-use native.Mathlib.Omega.{arith}
-use Rattle.address.specs.Address.{is_bad_source_with}
-use Rattle.address.proofs.Bytes.{last-number}
-use Rattle.address.proofs.quads.bad_source_with.Goals as goal
-
-pub returns : goal.returns
-unfolding is_bad_source_with
-returns c = rw (c.multicast_or_unspecified.ensures, c.zero_96-zero.ensures, last-number c.args.q (omega arith))

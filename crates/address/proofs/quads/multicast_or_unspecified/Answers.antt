@@ -1,8 +1,0 @@
--- `address::quads::multicast_or_unspecified` meets its contract: the call gives its part of the test.
-use Rattle.address.specs.Address.{is_multicast_or_unspecified}
-use Rattle.address.specs.Quads.{bytes_in}
-use Rattle.address.proofs.quads.multicast_or_unspecified.Goals as goal
-
-pub returns : goal.returns
-unfolding is_multicast_or_unspecified bytes_in
-returns c = rw c.unspecified.ensures
