@@ -5,3 +5,4 @@ pub mod Decides
 pub mod First
 pub mod PartTests
 pub mod Walks
+pub mod Chains

@@ -1,3 +1,4 @@
--- Facts has the laws that callers cite; Pairs is for a search.
+-- Facts has the laws that callers cite; Pairs and Twice are for searches.
 pub mod Facts
 mod Pairs
+mod Twice

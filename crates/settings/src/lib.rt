@@ -111,15 +111,10 @@ impl Settings {
     fn some_locator_forbidden(self) -> bool
         ensures { result ≡ any_of (is_forbidden_locator self) (take self.locator_count self.locators) }
     {
-        let n = lists::least(self.locator_count, 8);
-        let mut found = false;
-        let mut i: usize = 0;
-        while i < n {
-            let l = self.locators[i];
-            found = found | self.forbidden_to(l.address);
-            i += 1;
-        }
-        found
+        self.locators
+            .iter()
+            .take(self.locator_count)
+            .any(|l| self.forbidden_to(l.address))
     }
 
     fn locators_right(self) -> bool
@@ -136,14 +131,7 @@ impl Settings {
     fn some_router_bad(self, routers: [u32; 16], count: usize) -> bool
         ensures { result ≡ any_of (is_bad_end self) (take count routers) }
     {
-        let n = lists::least(count, 16);
-        let mut found = false;
-        let mut i: usize = 0;
-        while i < n {
-            found = found | self.bad_end(routers[i]);
-            i += 1;
-        }
-        found
+        routers.iter().take(count).any(|a| self.bad_end(*a))
     }
 
     // Whether a router list keeps the rules.
@@ -168,15 +156,10 @@ impl Settings {
     fn shares_address(self, other: Settings) -> bool
         ensures { result ≡ share_address self other }
     {
-        let n = lists::least(self.locator_count, 8);
-        let mut found = false;
-        let mut i: usize = 0;
-        while i < n {
-            let l = self.locators[i];
-            found = found | other.ours(l.address);
-            i += 1;
-        }
-        found
+        self.locators
+            .iter()
+            .take(self.locator_count)
+            .any(|l| other.ours(l.address))
     }
 
     // Whether the settings keep the rules.

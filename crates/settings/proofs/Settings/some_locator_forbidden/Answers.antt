@@ -1,20 +1,15 @@
--- `settings::Settings::some_locator_forbidden` meets its contract: what is left to ask is the rest of the locators.
-use native.Mathlib.Omega.{arith}
-use mathlib.Core.Path.{◌≡◌, refl, ◌∙◌}
-use lib.ListN.{length}
-use Rattle.lists.specs.Any.{any_of}
-use Rattle.lists.proofs.AnyLaws.{any_turn, loop-end}
-use Rattle.lists.proofs.Parts.{unmapped}
-use Rattle.settings.specs.Locators.{no_locator}
-use Rattle.settings.specs.Settings.{is_forbidden_locator}
+-- `settings::Settings::some_locator_forbidden` meets its contract: the chain asks the locators that count.
+use mathlib.Core.Path.{◌∙◌}
+use lib.ListN.{take}
+use borrow.Author.Tests.{tests}
+use Rattle.std.proofs.Common.{rules}
+use Rattle.std.proofs.lemmas.Iterator.{YieldsList-from_slice, YieldsList-from_take}
+use Rattle.std.proofs.lemmas.Iterator.Search.{any_from_yields_List}
+use Rattle.lists.proofs.Chains.{list-any}
+use Rattle.settings.specs.Settings.{is_forbidden_locator, locators_of}
 use Rattle.settings.proofs.Settings.some_locator_forbidden.Goals as goal
 
-pub loop-i-preserved : goal.loop-i-preserved
-loop-i-preserved c = let a = c.args in
-    let full : length a.self.locators ≡ 8 = search unmapped in
-    rw c.forbidden_to-found.ensures (any_turn a.self.locators c.least-n.result c.loop-i.i no_locator (omega arith) (omega arith) (is_forbidden_locator a.self) c.loop-i.found ∙ c.loop-i.invariant)
-
 pub returns : goal.returns
-returns c = let a = c.args in
-    let full : length a.self.locators ≡ 8 = search unmapped in
-    loop-end (any_of (is_forbidden_locator a.self)) a.self.locators 0 c.least-n.result c.loop-i.i a.self.locator_count c.loop-i.found refl (omega arith) (omega arith) c.loop-i.invariant
+returns c = let s = c.args.self in
+    any_from_yields_List (is_forbidden_locator s) _ _ _ c.any.ensures.ran (YieldsList-from_take s.locator_count (YieldsList-from_slice s.locators cc) cc) (λ x b q k. search (rules, tests))
+    ∙ list-any (is_forbidden_locator s) (locators_of s)

@@ -1,19 +1,17 @@
--- `settings::locators::repeated` meets its contract: what is left to ask is the rest of the locators.
-use native.Mathlib.Omega.{arith}
-use mathlib.Core.Path.{◌≡◌, refl, ◌∙◌}
-use lib.ListN.{length}
-use Rattle.lists.specs.Any.{twice}
-use Rattle.lists.proofs.AnyLaws.{twice_turn, loop-end}
-use Rattle.lists.proofs.Parts.{unmapped}
-use Rattle.settings.specs.Locators.{no_locator, same_locator}
+-- `settings::locators::repeated` meets its contract: the chain asks each locator whether a later one is the same.
+use mathlib.Core.Path.{refl, ◌∙◌}
+use lib.ListN.{take}
+use borrow.Author.Tests.{tests}
+use Rattle.std.proofs.Common.{rules}
+use Rattle.std.proofs.lemmas.Iterator.{YieldsList-from_slice, YieldsList-from_take}
+use Rattle.std.proofs.lemmas.Iterator.Consumers.{YieldsList-from_enumerate}
+use Rattle.std.proofs.lemmas.Iterator.Search.{any_from_yields_List}
+use Rattle.settings.specs.Locators.{same_locator}
+use Rattle.settings.proofs.Twice.{later_same, any-later_same}
 use Rattle.settings.proofs.locators.repeated.Goals as goal
-
-pub loop-i-preserved : goal.loop-i-preserved
-loop-i-preserved c = let a = c.args in
-    let full : length a.all ≡ 8 = search unmapped in
-    rw c.has_locator-found.ensures (twice_turn a.all c.least-n.result c.loop-i.i no_locator (omega arith) (omega arith) same_locator c.loop-i.found ∙ c.loop-i.invariant)
 
 pub returns : goal.returns
 returns c = let a = c.args in
-    let full : length a.all ≡ 8 = search unmapped in
-    loop-end (twice same_locator) a.all 0 c.least-n.result c.loop-i.i a.count c.loop-i.found refl (omega arith) (omega arith) c.loop-i.invariant
+    any_from_yields_List (later_same same_locator (take a.count a.all)) _ _ _ c.any.ensures.ran
+    (YieldsList-from_enumerate (YieldsList-from_take a.count (YieldsList-from_slice a.all cc) cc) cc) (λ x b q k. search (rules, tests))
+    ∙ any-later_same same_locator (take a.count a.all) 0 (take a.count a.all) refl
