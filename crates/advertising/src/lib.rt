@@ -8,7 +8,6 @@ use advertisements::Advertisement;
 use header::{fields, inner};
 use hearing::solicitation;
 use refusals::Refusal;
-use settings::locators;
 
 // Whether an address is link-local ISATAP, whatever IPv4 address it embeds.
 fn asker_right(asker: [u8; 16]) -> bool
@@ -24,7 +23,7 @@ fn asker_check(found: Option<u32>, packet: &[u8]) -> Result<(), Refusal>
     if inner::inner_malformed(packet.len(), inner::inner_header(packet)) {
         return Err(Refusal::InnerMalformed);
     }
-    if locators::none(found) {
+    if found.is_none() {
         return Err(Refusal::NoLocator);
     }
     if !solicitation::solicitation(packet) {
@@ -49,7 +48,7 @@ pub fn advertise(
     let check = asker_check(found, packet);
     match check {
         Ok(()) => {
-            let from = address::link_local(locators::address_of(found));
+            let from = address::link_local(found.unwrap_or(0));
             let to = fields::address(packet, 8);
             advertisements::write(from, to, advertisement, out)
         }

@@ -8,7 +8,7 @@ use address::prefixes;
 use header::{INNER_HEADER, inner};
 use paths::packets;
 use refusals::Refusal;
-use settings::{Settings, locators};
+use settings::Settings;
 
 // Room and total length are the writer's to judge, which refuses by 23 and 15 itself.
 #[derive(Clone, Copy)]
@@ -65,7 +65,7 @@ fn send_check(
     if packet_malformed(packet) {
         return Err(Refusal::InnerMalformed);
     }
-    if locators::none(settings.locator(locator)) {
+    if settings.locator(locator).is_none() {
         return Err(Refusal::NoLocator);
     }
     if next_hop_not_isatap(settings, next_hop) {
@@ -103,11 +103,7 @@ pub(crate) fn send_plan(
 {
     let check = send_check(settings, packet, next_hop, locator);
     match check {
-        Ok(()) => sized_plan(
-            path_size,
-            packet,
-            locators::address_of(settings.locator(locator)),
-        ),
+        Ok(()) => sized_plan(path_size, packet, settings.locator(locator).unwrap_or(0)),
         Err(refusal) => Plan::Refuse(refusal),
     }
 }

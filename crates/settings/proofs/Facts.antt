@@ -1,8 +1,8 @@
 -- The tests on settings pass exactly if the facts hold. Assumes nothing.
-use Rattle.std.specs.Prelude.{Option, Some, None}
+use Rattle.std.specs.Prelude.{Option, Some, None, is_some}
 use Prim.Native.Nat.{ℕ, min}
 use mathlib.Core.Path.{◌≡◌, refl}
-use mathlib.Core.Bool.{Bool, true, false, cond}
+use mathlib.Core.Bool.{Bool, true, false, not, cond}
 use mathlib.Core.List.{List}
 use native.Mathlib.Omega.{arith}
 use borrow.Author.Tests.{lt-ltb, ltb-true}
@@ -22,6 +22,14 @@ address-found : (f : Option ℕ) → is_no_locator f ≡ false → f ≡ Some (a
 unfolding is_no_locator
 address-found (Some a) e = refl
 address-found None e = cc
+
+-- what the library says of an option that is `None`, in the definitions' words
+pub none-found : (f : Option ℕ) (r : Bool) → is_some f ≡ not r → is_no_locator f ≡ r
+unfolding is_no_locator
+none-found (Some a) true e = cc
+none-found (Some a) false e = refl
+none-found None true e = refl
+none-found None false e = cc
 
 module _ (s : Settings) where
   pub decides_forbidden_to : (a : ℕ) → Decides (forbidden_to s a) (ForbiddenTo s a)

@@ -1,5 +1,5 @@
 -- Locators (R2).
-use Rattle.std.specs.Prelude.{ℕ, min, Bool, true, false, cond, ◌&&◌, List, get_or, eqb, ltb, Option, Some, None}
+use Rattle.std.specs.Prelude.{ℕ, min, Bool, cond, ◌&&◌, List, get_or, eqb, ltb, Option, Some, None, is_none, unwrap_or}
 use Rattle.settings.specs.declared.locators.Locator.{Locator}
 
 -- what stands at a place without a locator
@@ -24,10 +24,8 @@ locator_found ls count number = cond (ltb number (min count 8)) (Some (get_or ls
 
 -- the address of a locator that was found; 0 where there is none, and then 11 is given
 abbrev pub address_of : Option ℕ → ℕ
-address_of (Some a) = a
-address_of None = 0
+address_of found = unwrap_or found 0
 
 -- 11: no locator of that number
 unfoldable pub is_no_locator : Option ℕ → Bool
-is_no_locator (Some a) = false
-is_no_locator None = true
+is_no_locator found = is_none found

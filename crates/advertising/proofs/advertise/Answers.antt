@@ -7,7 +7,7 @@ unfolding advertised_of advertised_output
 returns-in-Ok c = let check = c.asker_check-check.ensures in
     let is = c.in-Ok.is in record {
       value = rw (← check, is) c.write.ensures.value;
-      out_after = rw (← check, is, ← c.address_of.ensures, ← c.link_local-from.ensures, ← c.address-to.ensures) c.write.ensures.out_after;
+      out_after = rw (← check, is, ← c.unwrap_or.ensures, ← c.link_local-from.ensures, ← c.address-to.ensures) c.write.ensures.out_after;
     }
 
 pub returns-in-Err : goal.returns-in-Err
