@@ -18,7 +18,7 @@ use Rattle.pieces.specs.declared.Change.{Change}
 use Rattle.pieces.specs.Places.{Part, places, byte_at, no_place, begun, extended, freed, is_whole}
 use Rattle.pieces.specs.Take.{Taken, place_at, with_place, settled, plan_of, taken_by, taken_of, memory_by, joined_in}
 use Rattle.pieces.specs.Change.{Placed, changed_place, is_taken, settled_in, changed_by, change_by, change_of}
-use Rattle.pieces.proofs.Loops.{blank, read_within}
+use Rattle.pieces.proofs.Found.{blank, read_within}
 use Rattle.pieces.proofs.Planned.{plan_placed}
 use Rattle.std.specs.Prelude.{Err}
 

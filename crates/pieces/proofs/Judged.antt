@@ -1,17 +1,12 @@
 -- What the code's tests say of the plan, one law for each way out, and the numbers that it reckons with. Assumes nothing.
-use Prim.Native.Nat.{ℕ, ◌+◌, ◌-◌, ◌≤◌, ◌<◌, min}
+use Prim.Native.Nat.{ℕ, ◌≤◌, ◌<◌}
 use mathlib.Core.Path.{◌≡◌, sym, ap, ◌∙◌}
-use mathlib.Core.Logic.{⊎_elim}
 use mathlib.Core.Bool.{Bool, true, false}
 use mathlib.Core.List.{List}
-use native.Mathlib.Omega.{arith}
-use borrow.Author.Tests.{lt-ltb, le-ltb, ltb-true, ltb-false}
-use lib.Dec.{ltb}
-use lib.ListN.{length, take, drop, length-drop}
+use borrow.Author.Tests.{lt-ltb, le-ltb}
+use lib.ListN.{length}
 use Rattle.lists.specs.Any.{first_with}
 use Rattle.lists.specs.Parts.{part}
-use Rattle.lists.proofs.Parts.{take-least, drop-least}
-use Rattle.lists.proofs.Tests.{tested}
 use Rattle.units.specs.declared.Held.{Held}
 use Rattle.units.specs.Held.{any_held, all_held, range_of, meets, covers}
 use Rattle.units.proofs.Ranged.{meets-range, covers-range}
@@ -19,21 +14,8 @@ use Rattle.pieces.specs.declared.Key.{Key}
 use Rattle.pieces.specs.declared.Place.{Place}
 use Rattle.pieces.specs.declared.Collection.{Collection}
 use Rattle.pieces.specs.declared.Plan.TheVariants.{Unfit, Ignore, Drop, Extend}
-use Rattle.pieces.specs.Places.{Part, places, room, count_of, is_unfit, is_apart, is_equal, is_of, is_free, byte_at}
+use Rattle.pieces.specs.Places.{Part, places, count_of, is_unfit, is_apart, is_equal, is_of, is_free, byte_at}
 use Rattle.pieces.specs.Take.{place_at, plan_held, plan_in, plan_new, plan_of}
-
--- n bytes from there on end past the room: as the code reckons, whose numbers have an end
-pub ends-past : (start n : ℕ) → n ≤ room → ltb (room - n) start ≡ ltb room (start + n)
-ends-past start n h =
-    ⊎_elim (λ t. t ∙ sym (lt-ltb room (start + n) (omega (arith, ltb-true (room - n) start t))))
-    (λ t. t ∙ sym (le-ltb room (start + n) (omega (arith, ltb-false (room - n) start t)))) (tested (ltb (room - n) start))
-
--- a part, as the code cuts it of a slice of any length
-pub part_cut : (at n from count : ℕ) (xs : List ℕ) → from ≡ min at (length xs) → count ≡ min n (length xs - from)
-    → take (from + count - from) (drop from xs) ≡ part at n xs
-part_cut at n from count xs f g =
-    let e : from + count - from ≡ min n (length (drop from xs)) = omega (arith, length-drop from xs) in
-    ap (λ (j : ℕ). take j (drop from xs)) e ∙ take-least n (drop from xs) ∙ rw (f, drop-least at xs)
 
 -- by the order of the tests: the ends disagree
 module _ (k : ℕ) (p : Part) (d : Place) (memory : List ℕ) where

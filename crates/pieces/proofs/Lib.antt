@@ -26,6 +26,6 @@ pub mod Tells
 pub mod ByPieces
 pub mod History
 pub mod ByHistory
-pub mod Loops
+pub mod Found
 pub mod Judged
 pub mod Carried

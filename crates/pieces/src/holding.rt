@@ -1,26 +1,21 @@
 // What was planned, carried out: one place, and its bytes, with one more piece, or free.
 ghost use Rattle.std.specs.Prelude.{◌≡◌, length, Err};
-ghost use Rattle.units.specs.Held.{range_of};
-ghost use Rattle.pieces.specs.Places.{units_of, part_of};
+ghost use Rattle.pieces.specs.Places.{part_of};
 ghost use Rattle.pieces.specs.Take.{memory_by};
 ghost use Rattle.pieces.specs.Change.{Placed, changed_place, is_taken, settled_in, changed_by};
 
+use crate::loaded::Loaded;
 use crate::places::byte_at;
-use crate::{Change, Joined, Piece, Place, Plan};
+use crate::{Change, Joined, Place, Plan};
 use refusals::Refusal;
-use units::Held;
 
 // The place that a plan changes; where it changes none, the first.
 pub(crate) fn changed_place(plan: Plan) -> usize
     ensures { result ≡ changed_place plan }
 {
     match plan {
-        Plan::Unfit => 0,
-        Plan::Full => 0,
-        Plan::Ignore => 0,
-        Plan::Drop(k) => k,
-        Plan::Extend(k) => k,
-        Plan::Begin(k) => k,
+        Plan::Unfit | Plan::Full | Plan::Ignore => 0,
+        Plan::Drop(k) | Plan::Extend(k) | Plan::Begin(k) => k,
     }
 }
 
@@ -28,23 +23,17 @@ pub(crate) fn changed_place(plan: Plan) -> usize
 fn takes(plan: Plan) -> bool
     ensures { result ≡ is_taken plan }
 {
-    match plan {
-        Plan::Unfit => false,
-        Plan::Full => false,
-        Plan::Ignore => false,
-        Plan::Drop(_) => false,
-        Plan::Extend(_) => true,
-        Plan::Begin(_) => true,
-    }
+    matches!(plan, Plan::Extend(_) | Plan::Begin(_))
 }
 
 // Writes the payload where a plan takes the piece.
-pub(crate) fn write(plan: Plan, piece: Piece, payload: &[u8], memory: &mut [u8])
-    requires { Placed plan (part_of piece payload.now) }
-    ensures { memory.new ≡ memory_by plan (part_of piece payload.now) memory.old }
+pub(crate) fn write(plan: Plan, loaded: &Loaded, memory: &mut [u8])
+    requires { Placed plan (part_of loaded.now.piece loaded.now.payload.now) }
+    ensures { memory.new ≡ memory_by plan (part_of loaded.now.piece loaded.now.payload.now) memory.old }
 {
     if takes(plan) {
-        lent::write_at(payload, memory, byte_at(changed_place(plan), piece.offset));
+        let at = byte_at(changed_place(plan), loaded.piece.offset);
+        lent::write_at(loaded.payload, memory, at);
     }
 }
 
@@ -78,34 +67,17 @@ fn settled(k: usize, d: Place) -> Change
     }
 }
 
-// What a plan makes of the place that it changes, where d stands; the piece fills that range.
-pub(crate) fn changed(
-    plan: Plan,
-    d: Place,
-    piece: Piece,
-    range: Held,
-    payload: &[u8],
-    time: u32,
-) -> Change
-    requires placed { Placed plan (part_of piece payload.now) }
-    requires range_value { range ≡ range_of piece.offset (units_of (length payload.now)) }
-    ensures { result ≡ changed_by plan time piece.key (part_of piece payload.now) d }
+// What a plan makes of the place that it changes, where d stands.
+pub(crate) fn changed(plan: Plan, d: Place, loaded: &Loaded, time: u32) -> Change
+    requires { Placed plan (part_of loaded.now.piece loaded.now.payload.now) }
+    ensures { result ≡ changed_by plan time loaded.now.piece.key (part_of loaded.now.piece loaded.now.payload.now) d }
 {
     match plan {
         Plan::Unfit => refused(Refusal::PieceUnfit, 0, d),
         Plan::Full => refused(Refusal::NoPlace, 0, d),
         Plan::Ignore => refused(Refusal::PieceWaits, 0, d),
         Plan::Drop(k) => refused(Refusal::PiecesDisagree, k, d.freed()),
-        Plan::Extend(k) => settled(
-            k,
-            d.extended(piece.offset, piece.more, range, payload.len()),
-        ),
-        Plan::Begin(k) => {
-            let new = Place::new(piece.key, time);
-            settled(
-                k,
-                new.extended(piece.offset, piece.more, range, payload.len()),
-            )
-        }
+        Plan::Extend(k) => settled(k, d.extended(loaded)),
+        Plan::Begin(k) => settled(k, Place::new(loaded.piece.key, time).extended(loaded)),
     }
 }

@@ -1,113 +1,77 @@
 // What is to be done with a piece, in the order 30, 29, 28, 27.
-ghost use Rattle.std.specs.Prelude.{◌≡◌, ◌+◌, ◌*◌, ◌<◌, ◌≤◌, ltb, length};
+ghost use Rattle.std.specs.Prelude.{◌≡◌, ◌<◌, length, position};
 ghost use Rattle.lists.specs.Any.{first_with};
 ghost use Rattle.lists.specs.Parts.{part};
-ghost use Rattle.units.specs.Held.{range_of};
-ghost use Rattle.pieces.specs.Places.{places, room, units_of, unfit, is_free, is_equal, part_of};
-ghost use Rattle.pieces.specs.Take.{plan_in, plan_new};
+ghost use Rattle.pieces.specs.Places.{places, is_of, is_free, is_equal, part_of};
+ghost use Rattle.pieces.specs.Take.{plan_in, plan_new, plan_of};
+ghost use Rattle.pieces.specs.Change.{Placed};
 
+use crate::loaded::Loaded;
 use crate::places::byte_at;
-use crate::{Collection, PLACES, Piece, Place, Plan, ROOM};
-use units::Held;
+use crate::{Collection, Key, PLACES, Place, Plan};
 
-// Whether n bytes from there on end past the room of a place.
-fn ends_past(start: usize, n: usize) -> bool
-    ensures { result ≡ ltb room (start + n) }
+// The place of the key's live datagram.
+fn place_of(places: &[Place; PLACES], key: Key, time: u32) -> Option<usize>
+    ensures { result ≡ position (is_of key time) places.now }
 {
-    if ROOM < n {
-        return true;
-    }
-    ROOM - n < start
+    places.iter().position(|d| d.of(key, time))
 }
 
-// Number 30: n bytes of payload.
-pub(crate) fn is_unfit(offset: u16, more: bool, n: usize) -> bool
-    ensures { result ≡ unfit offset more n }
+// The lowest place that is not live.
+fn free_place(places: &[Place; PLACES], time: u32) -> Option<usize>
+    ensures { result ≡ position (is_free time) places.now }
 {
-    let past = ends_past(8 * (offset as usize), n);
-    (n == 0) | past | (more & (n % 8 != 0))
+    places.iter().position(|d| d.free(time))
 }
 
-// The lowest place that is not live, or the number of places.
-pub(crate) fn free_place(c: Collection, time: u32) -> usize
-    ensures { result ≡ first_with (is_free time) c.places }
+// What is to be done with the first piece of a datagram.
+fn plan_new(places: &[Place; PLACES], time: u32) -> Plan
+    ensures { result ≡ plan_new (first_with (is_free time) places.now) }
 {
-    let mut i = 0;
-    while i < PLACES {
-        if c.places[i].free(time) {
-            return i;
-        }
-        i += 1;
+    match free_place(places, time) {
+        Some(k) => Plan::Begin(k),
+        None => Plan::Full,
     }
-    i
-}
-
-// What is to be done with the first piece of a datagram, where that is the lowest free place.
-pub(crate) fn plan_new(k: usize) -> Plan
-    ensures { result ≡ plan_new k }
-{
-    if k < PLACES {
-        Plan::Begin(k)
-    } else {
-        Plan::Full
-    }
-}
-
-// Whether two slices have the same bytes. The loop is not left early, so that the compiler compares many bytes at once.
-fn equal(a: &[u8], b: &[u8]) -> bool
-    ensures { result ≡ is_equal a.now b.now }
-{
-    if a.len() != b.len() {
-        return false;
-    }
-    let mut same = true;
-    let mut i = 0;
-    while i < a.len() {
-        same = same & (a[i] == b[i]);
-        i += 1;
-    }
-    same
 }
 
 // Whether the memory has these bytes from there on.
 fn has_at(memory: &[u8], at: usize, payload: &[u8]) -> bool
     ensures { result ≡ is_equal (part at (length payload.now) memory.now) payload.now }
 {
-    let from = lists::least(at, memory.len());
-    let to = from + lists::least(payload.len(), memory.len() - from);
-    equal(&memory[from..to], payload)
+    memory[at.min(memory.len())..].starts_with(payload)
 }
 
-// What is to be done with a piece of the datagram d in place k; the piece fills that range.
-pub(crate) fn plan_in(
-    d: Place,
-    k: usize,
-    piece: Piece,
-    range: Held,
-    payload: &[u8],
-    memory: &[u8],
-) -> Plan
-    requires k_lt_places { k < places }
-    requires payload_bound { 8 * piece.offset + length payload.now ≤ room }
-    requires range_value { range ≡ range_of piece.offset (units_of (length payload.now)) }
-    ensures { result ≡ plan_in k (part_of piece payload.now) d memory.now }
+// What is to be done with a piece of the datagram d in place k.
+fn plan_in(d: Place, k: usize, loaded: &Loaded, memory: &[u8]) -> Plan
+    requires { k < places }
+    ensures { result ≡ plan_in k (part_of loaded.now.piece loaded.now.payload.now) d memory.now }
 {
-    let from = piece.offset as usize;
     let held = d.held;
-    let apart = d.ends_apart(piece.more, 8 * from + payload.len());
-    let some = held.any(range);
-    if apart {
-        return Plan::Drop(k);
-    }
-    if !some {
-        return Plan::Extend(k);
-    }
-    if !held.all(range) {
-        return Plan::Drop(k);
-    }
-    if has_at(memory, byte_at(k, piece.offset), payload) {
+    if d.ends_apart(loaded) {
+        Plan::Drop(k)
+    } else if !held.any(loaded.range) {
+        Plan::Extend(k)
+    } else if held.all(loaded.range)
+        && has_at(memory, byte_at(k, loaded.piece.offset), loaded.payload)
+    {
         Plan::Ignore
     } else {
         Plan::Drop(k)
+    }
+}
+
+impl Collection {
+    // What is to be done with a piece.
+    pub(crate) fn plan(&self, loaded: &Loaded, time: u32, memory: &[u8]) -> Plan
+        ensures value { result ≡ plan_of time loaded.now.piece.key (part_of loaded.now.piece loaded.now.payload.now) self.now memory.now }
+        ensures placed { Placed result (part_of loaded.now.piece loaded.now.payload.now) }
+    {
+        if loaded.is_unfit() {
+            Plan::Unfit
+        } else if let Some(k) = place_of(&self.places, loaded.piece.key, time) {
+            plan_in(self.places[k], k, loaded, memory)
+        } else {
+            plan_new(&self.places, time)
+        }
     }
 }

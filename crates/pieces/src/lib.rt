@@ -3,6 +3,7 @@
 
 mod holding;
 mod judging;
+mod loaded;
 mod places;
 
 ghost use Rattle.std.specs.Prelude.{◌≡◌};
@@ -11,8 +12,7 @@ ghost use Rattle.pieces.specs.Take.{no_datagrams, memory_of};
 ghost use Rattle.pieces.specs.Change.{change_of};
 
 use holding::{changed, changed_place, write};
-use judging::{free_place, is_unfit, plan_in, plan_new};
-use places::units_of;
+use loaded::Loaded;
 use refusals::Refusal;
 use units::Held;
 
@@ -27,7 +27,7 @@ pub const MEMORY: usize = 16384;
 
 // What the pieces of one datagram have in common.
 #[repr(C)]
-#[derive(Clone, Copy)]
+#[derive(Clone, Copy, Default, PartialEq, Eq)]
 pub struct Key {
     pub source: u32,
     pub destination: u32,
@@ -63,7 +63,7 @@ pub struct Piece {
     pub more: bool,
 }
 
-// What is to be done with a piece; a number is that of a place.
+// What is to be done with a piece; a number is that of a place. No Result: `Drop` is a refusal too, and changes its place.
 #[derive(Clone, Copy)]
 pub enum Plan {
     Unfit,
@@ -106,25 +106,10 @@ impl Collection {
         ensures value { result ≡ change_of time piece.key (part_of piece payload.now) self memory.old }
         ensures memory_after { memory.new ≡ memory_of time piece.key (part_of piece payload.now) self memory.old }
     {
-        let range = Held::range(piece.offset as usize, units_of(payload.len()));
-        // The place of the key's live datagram, or the number of places: found here, for a function is handed a copy of all places.
-        let key = piece.key;
-        let mut k = 0;
-        while k < PLACES {
-            if self.places[k].of(key, time) {
-                break;
-            }
-            k += 1;
-        }
-        let plan = if is_unfit(piece.offset, piece.more, payload.len()) {
-            Plan::Unfit
-        } else if k < PLACES {
-            plan_in(self.places[k], k, piece, range, payload, memory)
-        } else {
-            plan_new(free_place(self, time))
-        };
-        write(plan, piece, payload, memory);
+        let loaded = Loaded::new(piece, payload);
+        let plan = self.plan(&loaded, time, memory);
+        write(plan, &loaded, memory);
         let k = changed_place(plan);
-        changed(plan, self.places[k], piece, range, payload, time)
+        changed(plan, self.places[k], &loaded, time)
     }
 }

@@ -1,10 +1,10 @@
 use Rattle.pieces.specs.Places.{ends_apart}
 use Rattle.pieces.proofs.Place.ends_apart.Goals as goal
 
-pub returns-then-more : goal.returns-then-more
+pub returns-then-loaded : goal.returns-then-loaded
 unfolding ends_apart
-returns-then-more c = rw c.if-more.true
+returns-then-loaded c = rw (c.end-end.ensures, c.if-loaded.true)
 
-pub returns-else-more : goal.returns-else-more
+pub returns-else-loaded : goal.returns-else-loaded
 unfolding ends_apart
-returns-else-more c = rw c.if-more.false
+returns-else-loaded c = rw (c.end-end.ensures, c.if-loaded.false)

@@ -2,12 +2,14 @@ use Rattle.units.proofs.Ranged.{united-range}
 use Rattle.pieces.specs.Places.{units_of, extended_to}
 use Rattle.pieces.proofs.Place.extended.Goals as goal
 
-pub returns-then-more : goal.returns-then-more
+pub returns-then-loaded : goal.returns-then-loaded
 unfolding extended_to
-returns-then-more c = let a = c.args in
-    rw (c.most.ensures, c.if-more.true, c.with-held.ensures, c.requires.range_value, united-range a.offset (units_of a.n) a.self.held)
+returns-then-loaded c = let a = c.args in
+    let l = a.loaded.now in
+    rw (c.max.ensures, c.end-end.ensures, c.if-loaded.true, c.with-held.ensures, l.fills, united-range l.piece.offset (units_of _) a.self.held)
 
-pub returns-else-more : goal.returns-else-more
+pub returns-else-loaded : goal.returns-else-loaded
 unfolding extended_to
-returns-else-more c = let a = c.args in
-    rw (c.if-more.false, c.with-held.ensures, c.requires.range_value, united-range a.offset (units_of a.n) a.self.held)
+returns-else-loaded c = let a = c.args in
+    let l = a.loaded.now in
+    rw (c.end-end.ensures, c.if-loaded.false, c.with-held.ensures, l.fills, united-range l.piece.offset (units_of _) a.self.held)
