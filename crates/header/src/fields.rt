@@ -9,7 +9,7 @@ use address::quads::Quads;
 pub fn byte(d: &[u8], i: usize) -> u8
     ensures { result ≡ get_or d.now i 0 }
 {
-    if i < d.len() { d[i] } else { 0 }
+    d.get(i).copied().unwrap_or(0)
 }
 
 // The high byte of a 16-bit number.
@@ -30,34 +30,28 @@ pub fn low(x: u16) -> u8
 pub fn word_bytes(x: u16) -> [u8; 2]
     ensures { result ≡ be16 x [] }
 {
-    [high(x), low(x)]
+    x.to_be_bytes()
 }
 
 // The four bytes of a 32-bit number.
 pub fn quad_bytes(x: u32) -> [u8; 4]
     ensures { result ≡ be32 x [] }
 {
-    [
-        (x / 16777216) as u8,
-        (x / 65536 % 256) as u8,
-        (x / 256 % 256) as u8,
-        (x % 256) as u8,
-    ]
+    x.to_be_bytes()
 }
 
 // The part from k on, empty where k is past the end.
 pub fn tail(d: &[u8], k: usize) -> &[u8]
     ensures { result.now ≡ drop k d.now }
 {
-    let start = lists::least(k, d.len());
-    &d[start..]
+    &d[k.min(d.len())..]
 }
 
 // Two bytes as a number, the first the higher.
 pub fn pair(a: u8, b: u8) -> u16
     ensures { result ≡ a * 256 + b }
 {
-    (a as u16) * 256 + (b as u16)
+    u16::from_be_bytes([a, b])
 }
 
 // The 16 bits at k.
@@ -93,7 +87,7 @@ pub(crate) fn reversed_in(d: &[u8], i: usize) -> u32
     requires { i + 4 ≤ length d.now }
     ensures { result ≡ reversed_at d.now i }
 {
-    address::quad(d[i + 3], d[i + 2], d[i + 1], d[i])
+    u32::from_le_bytes([d[i], d[i + 1], d[i + 2], d[i + 3]])
 }
 
 // The 16 bytes at k, as four numbers.
@@ -116,7 +110,7 @@ pub fn address(d: &[u8], k: usize) -> [u8; 16]
 {
     let t = tail(d, k);
     if t.len() < 16 {
-        short_address(t)
+        padded(t)
     } else {
         full_address(t)
     }
@@ -133,12 +127,12 @@ fn full_address(t: &[u8]) -> [u8; 16]
     ]
 }
 
-// The bytes of an address that is cut off, with zeros behind them.
-fn short_address(t: &[u8]) -> [u8; 16]
-    requires { length t.now ≤ 16 }
-    ensures { result ≡ bytes_from 16 0 t.now }
+// The first N bytes. What is not there reads as 0.
+pub(crate) fn padded<const N: usize>(d: &[u8]) -> [u8; N]
+    ensures { result ≡ bytes_from N 0 d.now }
 {
-    let mut padded = [0; 16];
-    padded[..t.len()].copy_from_slice(t);
-    full_address(&padded)
+    let n = N.min(d.len());
+    let mut bytes = [0; N];
+    bytes[..n].copy_from_slice(&d[..n]);
+    bytes
 }

@@ -6,7 +6,7 @@ ghost use Rattle.header.specs.Inner.{inner_of, is_inner_malformed, is_packet_mal
 use crate::{INNER_HEADER, chain, fields};
 
 // The fields of an IPv6 header.
-#[derive(Clone, Copy)]
+#[derive(Clone, Copy, Debug, PartialEq, Eq)]
 pub struct Inner {
     pub version: u8,
     // The packet's length in bytes by its header: 40 and the payload length.
@@ -16,11 +16,12 @@ pub struct Inner {
     pub source: [u8; 16],
 }
 
+// What is not there reads as 0. The compiler sees that a header under 40 bytes is refused whatever its fields are.
 pub fn inner_header(p: &[u8]) -> Inner
     ensures { result ≡ inner_of p.now }
 {
     if p.len() < INNER_HEADER {
-        short_header(p)
+        full_header(&fields::padded::<INNER_HEADER>(p))
     } else {
         full_header(p)
     }
@@ -40,16 +41,6 @@ fn full_header(p: &[u8]) -> Inner
         hop: p[7],
         source,
     }
-}
-
-// What is not there reads as 0. The compiler sees that a header under 40 bytes is refused whatever its fields are.
-fn short_header(p: &[u8]) -> Inner
-    requires { length p.now ≤ inner_header }
-    ensures { result ≡ inner_of p.now }
-{
-    let mut padded = [0; INNER_HEADER];
-    padded[..p.len()].copy_from_slice(p);
-    full_header(&padded)
 }
 
 // Number 8 as in receiving, where n bytes remain for the packet: bytes behind it are passed over.
@@ -74,8 +65,7 @@ pub fn inner_packet(p: &[u8]) -> &[u8]
     if inner_malformed(p.len(), i) {
         return &p[..0];
     }
-    let end = i.length;
-    &p[..end]
+    &p[..i.length]
 }
 
 // Whether a packet may draw an ICMPv6 error message.

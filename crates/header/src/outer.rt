@@ -13,7 +13,7 @@ const LEAST_FIRST: u8 = 0x45;
 const MOST_FIRST: u8 = 0x4f;
 
 // The fields of an IPv4 header, lengths in bytes.
-#[derive(Clone, Copy)]
+#[derive(Clone, Copy, Debug, PartialEq, Eq)]
 pub struct Outer {
     pub version: u8,
     pub header: usize,
@@ -25,11 +25,12 @@ pub struct Outer {
     pub destination: u32,
 }
 
+// What is not there reads as 0. The compiler sees that a header under 20 bytes is refused whatever its fields are.
 pub fn outer_header(d: &[u8]) -> Outer
     ensures { result ≡ outer_of d.now }
 {
     if d.len() < OUTER_HEADER {
-        short_header(d)
+        full_header(&fields::padded::<OUTER_HEADER>(d))
     } else {
         full_header(d)
     }
@@ -54,16 +55,6 @@ fn full_header(d: &[u8]) -> Outer
         source,
         destination,
     }
-}
-
-// What is not there reads as 0. The compiler sees that a header under 20 bytes is refused whatever its fields are.
-fn short_header(d: &[u8]) -> Outer
-    requires { length d.now ≤ outer_header }
-    ensures { result ≡ outer_of d.now }
-{
-    let mut padded = [0; OUTER_HEADER];
-    padded[..d.len()].copy_from_slice(d);
-    full_header(&padded)
 }
 
 // Number 2, of a datagram of n bytes. A header that is no longer than the total length, which the bytes have, is no longer than these.
@@ -101,8 +92,7 @@ pub fn sum_wrong(d: &[u8], o: Outer) -> bool
     if (o.header == OUTER_HEADER) & (OUTER_HEADER <= d.len()) {
         return !checksum::right_words(ten_words(d));
     }
-    let end = lists::least(o.header, d.len());
-    !checksum::right(&d[..end])
+    !checksum::right(&d[..o.header.min(d.len())])
 }
 
 // Numbers 3 and 4 of a datagram that starts with d.
@@ -147,36 +137,26 @@ pub fn read_header(d: &[u8]) -> Result<Outer, Refusal>
         return Err(Refusal::OuterMalformed);
     }
     let o = full_header(d);
-    let check = check_read(d, o);
-    match check {
-        Ok(()) => Ok(o),
-        Err(refusal) => Err(refusal),
-    }
+    check_read(d, o)?;
+    Ok(o)
 }
 
 // The outer header of a datagram, or the first of the numbers 2 to 5.
 pub fn read_outer(d: &[u8]) -> Result<Outer, Refusal>
     ensures { result ≡ outer_read_of d.now }
 {
-    let read = read_header(d);
-    match read {
-        Ok(o) => {
-            if o.fragment != 0 {
-                return Err(Refusal::Piece);
-            }
-            Ok(o)
-        }
-        Err(refusal) => Err(refusal),
+    let o = read_header(d)?;
+    if o.fragment != 0 {
+        return Err(Refusal::Piece);
     }
+    Ok(o)
 }
 
 // The part behind the header, options included, up to the total length: what is behind that is padding.
 pub fn payload(d: &[u8], o: Outer) -> &[u8]
     ensures { result.now ≡ payload_of d.now o }
 {
-    let end = lists::least(o.total, d.len());
-    let whole = &d[..end];
-    fields::tail(whole, o.header)
+    fields::tail(&d[..o.total.min(d.len())], o.header)
 }
 
 // The part of an ICMPv4 message that quotes a datagram.

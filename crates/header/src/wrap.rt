@@ -12,7 +12,7 @@ const LONGEST: usize = 65535 - OUTER_HEADER;
 
 // The fields of the outer header that the caller chooses, laid out as in C.
 #[repr(C)]
-#[derive(Clone, Copy)]
+#[derive(Clone, Copy, Debug, PartialEq, Eq)]
 pub struct OuterFields {
     pub identification: u16,
     pub dont_fragment: bool,

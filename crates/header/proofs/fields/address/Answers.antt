@@ -4,7 +4,7 @@ use Rattle.header.proofs.fields.address.Goals as goal
 
 pub returns-then-t-lt16 : goal.returns-then-t-lt16
 unfolding address_at
-returns-then-t-lt16 c = rw (c.short_address.ensures, c.tail-t.ensures)
+returns-then-t-lt16 c = rw (c.padded.ensures, c.tail-t.ensures)
 
 pub returns-else-t-lt16 : goal.returns-else-t-lt16
 unfolding address_at

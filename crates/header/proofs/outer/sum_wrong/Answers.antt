@@ -28,9 +28,6 @@ returns-then-o-d c = let a = c.args in
     let bytes = bytes_take outer_header a.d.now (bytes_of a.d.now (λ i. (c.type_inv.d i).fits)) in
     rw (c.right_words.ensures, plain, right-exact c.ten_words.result s c.ten_words.ensures.0 (omega (arith, c.ten_words.ensures.1)) even bytes)
 
-pub slice_bounds-right-end : goal.slice_bounds-right-end
-slice_bounds-right-end c = simp length-take (omega arith)
-
 pub returns : goal.returns
 unfolding is_sum_wrong
-returns c = rw (c.right.ensures, c.least-end.ensures, take-least)
+returns c = rw (c.right.ensures, c.min.ensures, take-least)
