@@ -9,7 +9,7 @@ use Rattle.bogtrumpet.specs.Steps.{list_after}
 use Rattle.bogtrumpet.proofs.Changed.{at-time}
 use Rattle.bogtrumpet.proofs.Same.{heard-same}
 use Rattle.bogtrumpet.proofs.bogtrumpet_hear.Goals as goal
-use Rattle.bogtrumpet.proofs.bogtrumpet_hear.Goals.{then-step, else-step}
+use Rattle.bogtrumpet.proofs.bogtrumpet_hear.Goals.{in-Some, in_default}
 
 pub returns : goal.returns
 returns c =
@@ -18,9 +18,9 @@ returns c =
     let w = name_of a.service in
     let z = c.heard-step.result in
     let s = heard-same h a.service a.packet.now a.time z (rw c.named-named.ensures.value at c.heard-step.ensures) in
-    let left : c.if-step.node ≡ with_service h w (with_routers (service_of h w) (list_after z.rescheduled (service_of h w).routers)) =
-    elim c.if-step.branch [
-      | then-step b ↦ rw (b.node-is, b.if-step.true, b.rescheduled-named.ensures, c.named-named.ensures.value)
-      | else-step b ↦ rw (b.node-is, b.if-step.false, c.named-named.ensures.value)
+    let left : c.match-step.node ≡ with_service h w (with_routers (service_of h w) (list_after z.rescheduled (service_of h w).routers)) =
+    elim c.match-step.branch [
+      | in-Some b ↦ rw (b.node-is, b.in-Some.is, b.rescheduled-named.ensures, c.named-named.ensures.value)
+      | in_default b ↦ rw (b.node-is, b.in_default.is, c.named-named.ensures.value)
     ] in
     (s.0, ap (λ (n : Node). at-time n z.latest) left ∙ s.1)
