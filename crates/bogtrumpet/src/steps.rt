@@ -220,10 +220,11 @@ pub fn asked(
     let there = numbered::there(both, service);
     let given = ask::answered_by(there, named, latest, locator, out);
     let due = latest as u64 + named.settings.interval as u64;
+    let rescheduled = given.ok().map(|address| Router { address, due });
     RouterStep {
         answer: answers::plain_asked(given),
         latest,
-        rescheduled: given.ok().map(|address| Router { address, due }),
+        rescheduled,
     }
 }
 
