@@ -12,28 +12,20 @@ use Rattle.refusals.specs.Refusals.{first_of, stop_or}
 use Rattle.refusals.specs.declared.Refusal.{Refusal}
 use Rattle.header.specs.Fields.{word_at, quad_at}
 use Rattle.header.specs.Outer.{outer_of, payload_of}
-use Rattle.header.specs.Inner.{inner_of}
 use Rattle.settings.specs.declared.Settings.{Settings}
-use Rattle.routers.specs.Routers.{listed}
 use Rattle.routers.specs.declared.Router.{Router}
 use Rattle.pieces.specs.Places.{Part, part_of}
 use Rattle.pieces.specs.Take.{taken_of, memory_of}
 use Rattle.pieces.specs.declared.Collection.{Collection}
 use Rattle.pieces.specs.declared.Key.{Key}
 use Rattle.pieces.specs.declared.Piece.{Piece}
-use Rattle.receiving.specs.Receive.{inner_rows}
 use Rattle.receiving.specs.Collect.{arrival_rows, whole_of, piece_of, joined_by, taken_piece, taken_memory, fragment_of, fragment_memory, collected_of, collected_memory}
 use Rattle.receiving.specs.Facts.{encapsulated, Unfragmented}
-use Rattle.receiving.specs.declared.Received.TheVariants.{Refused}
 use Rattle.receiving.proofs.Facts.{decides_piece}
 
 -- 15, 2, 3, 4, 6, 7, of a datagram d
 abbrev pub arrival_check : Settings → ℕ → ℕ → List ℕ → Result Unit Refusal
 arrival_check s interface lent d = first_of (arrival_rows s interface lent d (outer_of d))
-
--- 8, 9, 10 of what is encapsulated, p, from the outer source v
-abbrev pub packet_check : Settings → List Router → ℕ → List ℕ → Result Unit Refusal
-packet_check s routers v p = first_of (inner_rows s (listed v routers) v (length p) (inner_of p))
 
 -- the key of a datagram, by its bytes
 abbrev pub key_in : List ℕ → Key
@@ -74,7 +66,7 @@ module _ (s : Settings) (routers : List Router) (c : Collection) (now : ℕ) (d 
   -- a piece: what its arrival says, and then what comes of it
   pub piece-call : (Unfragmented d → ⊥)
       → (collected_of s routers c now d interface memory
-      ≡ stop_or (λ (r : Refusal). record { answer = Refused r; pieces = c }) (arrival_check s interface (length memory) d)
+      ≡ stop_or (λ (r : Refusal). record { answer = Err r; pieces = c }) (arrival_check s interface (length memory) d)
       (record {
         answer = joined_by s routers (quad_at d 12) (taken_of now (key_in d) (part_in d) c memory).answer (memory_of now (key_in d) (part_in d) c memory);
         pieces = (taken_of now (key_in d) (part_in d) c memory).collection;

@@ -1,4 +1,5 @@
 -- Demand 2 holds of the call for the number. Assumes nothing.
+use Rattle.std.specs.Prelude.{Result, Ok, Err}
 use Prim.Native.Nat.{ℕ, ◌*◌}
 use mathlib.Core.Path.{refl}
 use mathlib.Core.List.{List, ◌++◌}
@@ -18,7 +19,7 @@ use Rattle.receiving.specs.Collect.{Collected, whole_of, joined_by}
 use Rattle.receiving.specs.Facts.{header_length, encapsulated, inner_length, Unfragmented, inner_facts}
 use Rattle.receiving.specs.CollectFacts.{arrival_facts, PieceIn, Judged, PieceCollected, CollectedExactly}
 use Rattle.receiving.specs.declared.Received.{Received}
-use Rattle.receiving.specs.declared.Received.TheVariants.{Delivered, Joined, Refused}
+use Rattle.receiving.specs.declared.Received.TheVariants.{Delivered, Joined}
 use Rattle.receiving.proofs.Facts.{inner_decides, arrival_decides}
 use Rattle.receiving.proofs.Calls.{decides_more, key_in, piece_in, part_in, stop_pair, whole-call, piece-call}
 
@@ -41,7 +42,7 @@ module _ (s : Settings) (routers : List Router) (c : Collection) (now : ℕ) (d 
   judged t after = record {
     joined = λ k n e.
         let p : List ℕ = part (2048 * k) n after in
-        rw e (answers-first Refused (inner_decides s routers (quad_at d 12) p) (Joined (2048 * k) (inner_length p)));
+        rw e (answers-first Err (inner_decides s routers (quad_at d 12) p) (Ok (Joined (2048 * k) (inner_length p))));
     refused = λ r e. rw e;
   }
 
@@ -49,8 +50,8 @@ module _ (s : Settings) (routers : List Router) (c : Collection) (now : ℕ) (d 
   piece-collected h =
       let t : Taken = taken_of now (key_in d) (part_in d) c memory in
       let after : List ℕ = memory_of now (key_in d) (part_in d) c memory in
-      let refuse : Refusal → Collected × List ℕ = λ r. (record { answer = Refused r; pieces = c }, memory) in
-      let answer : Received = joined_by s routers (quad_at d 12) t.answer after in
+      let refuse : Refusal → Collected × List ℕ = λ r. (record { answer = Err r; pieces = c }, memory) in
+      let answer : Result Received Refusal = joined_by s routers (quad_at d 12) t.answer after in
       let follows : Collected × List ℕ = (record { answer = answer; pieces = t.collection }, after) in
       let call = piece-call s routers c now d interface memory h in
       record {
@@ -61,12 +62,12 @@ module _ (s : Settings) (routers : List Router) (c : Collection) (now : ℕ) (d 
         answers = rw (call.0, call.1, stop_pair) (answers-first refuse (arrival_decides s d interface (length memory) end) follows);
       }
 
-  whole-answer : AnswersFirst Refused (arrival_facts s d interface (length memory) ++ inner_facts s routers (quad_at d 12) (encapsulated d))
-      (Delivered (header_length d) (inner_length (encapsulated d))) (whole_of s routers (length memory) d interface)
+  whole-answer : AnswersFirst Err (arrival_facts s d interface (length memory) ++ inner_facts s routers (quad_at d 12) (encapsulated d))
+      (Ok (Delivered (header_length d) (inner_length (encapsulated d)))) (whole_of s routers (length memory) d interface)
   unfolding whole_of outer_of payload_of inner_of
   whole-answer =
-      answers-first Refused (arrival_decides s d interface (length memory) (inner_decides s routers (quad_at d 12) (encapsulated d)))
-      (Delivered (header_length d) (inner_length (encapsulated d)))
+      answers-first Err (arrival_decides s d interface (length memory) (inner_decides s routers (quad_at d 12) (encapsulated d)))
+      (Ok (Delivered (header_length d) (inner_length (encapsulated d))))
 
   pub collected-exactly : CollectedExactly s routers c now d interface memory
   collected-exactly = record {

@@ -1,5 +1,5 @@
 -- Demand 2 holds of receiving. Assumes nothing.
-use Rattle.std.specs.Prelude.{Ok}
+use Rattle.std.specs.Prelude.{Result, Ok, Err}
 use Prim.Native.Nat.{ℕ, ◌-◌, ◌≤◌, ◌<◌}
 use mathlib.Core.Path.{◌≡◌, refl, ap, ◌∙◌}
 use mathlib.Core.Bool.{Bool}
@@ -24,7 +24,7 @@ use Rattle.receiving.specs.Receive.{receive_rows, received_of, part_of}
 use Rattle.receiving.specs.Facts.{header_length, total_length, behind_header, encapsulated, inner_length, receive_facts}
 use Rattle.receiving.specs.Admitted.{Admits, delivered, DeliveredExactly}
 use Rattle.receiving.specs.declared.Received.{Received}
-use Rattle.receiving.specs.declared.Received.TheVariants.{Delivered, Joined, Refused}
+use Rattle.receiving.specs.declared.Received.TheVariants.{Delivered, Joined}
 use Rattle.receiving.proofs.Facts.{outer_whole-bytes, bytes-whole_outer, inner-whole-bytes, bytes-whole-inner, decides_source-right, inner_decides}
 
 module _ (s : Settings) (routers : List Router) (d : List ℕ) (interface : ℕ) where
@@ -45,9 +45,9 @@ module _ (s : Settings) (routers : List Router) (d : List ℕ) (interface : ℕ)
       (row (decides_not _ (decides_our_locator s _ _))
       (row (decides_forbidden_to s _) (inner_decides s routers _ inner))))))
 
-  pub first_fact : AnswersFirst Refused (receive_facts s routers d interface (encapsulated d)) (Delivered (header_length d) (inner_length (encapsulated d))) (received_of s routers d interface)
+  pub first_fact : AnswersFirst Err (receive_facts s routers d interface (encapsulated d)) (Ok (Delivered (header_length d) (inner_length (encapsulated d)))) (received_of s routers d interface)
   unfolding received_of outer_of inner_of payload_of
-  first_fact = answers-first Refused rows_decide (Delivered (header_length d) (inner_length (encapsulated d)))
+  first_fact = answers-first Err rows_decide (Ok (Delivered (header_length d) (inner_length (encapsulated d))))
 
   -- no row holds exactly if the rules hold
   admitted : AllFalse rows → Admits s routers d interface
@@ -82,14 +82,14 @@ module _ (s : Settings) (routers : List Router) (d : List ℕ) (interface : ℕ)
         (decides_source-right s _ _ routers).passes a.source_matches,
       )
 
-  only_placed : (offset size : ℕ) → received_of s routers d interface ≡ Delivered offset size → Admits s routers d interface
+  only_placed : (offset size : ℕ) → received_of s routers d interface ≡ Ok (Delivered offset size) → Admits s routers d interface
   unfolding received_of
   only_placed offset size h =
-      let passed = stop_passed Refused (first_of rows) _ (Delivered offset size) (λ r e. let z : ◌≡◌ {A = ℕ} 0 1 = cc in omega arith) h in
+      let passed = stop_passed Err (first_of rows) _ (Ok (Delivered offset size)) (λ r e. let z : ◌≡◌ {A = ℕ} 0 1 = cc in omega arith) h in
       admitted (all_false rows passed.0)
 
   module _ (a : Admits s routers d interface) where
-    at : received_of s routers d interface ≡ Delivered (outer_of d).header (inner_of inner).length
+    at : received_of s routers d interface ≡ Ok (Delivered (outer_of d).header (inner_of inner).length)
     unfolding received_of
     at = rw (passes a)
 
@@ -106,9 +106,9 @@ module _ (s : Settings) (routers : List Router) (d : List ℕ) (interface : ℕ)
         let l : 40 ≤ m = omega (arith, a.inner_whole.some, ap length rest, length-take m b) in
         rw (rest, get_or-take m b 4 0 (omega arith), get_or-take m b 5 0 (omega arith))
 
-    placed : received_of s routers d interface ≡ Delivered (header_length d) (inner_length (behind_header d))
+    placed : received_of s routers d interface ≡ Ok (Delivered (header_length d) (inner_length (behind_header d)))
     unfolding outer_of
-    placed = at ∙ ap (λ (n : ℕ). Delivered (header_length d) n) size
+    placed = at ∙ ap (λ (n : ℕ). Ok (Delivered (header_length d) n)) size
 
     exactly : delivered s routers d interface ≡ take (inner_length (behind_header d)) (behind_header d)
     exactly = rw placed
@@ -121,29 +121,29 @@ module _ (s : Settings) (routers : List Router) (d : List ℕ) (interface : ℕ)
         rw (exactly, length-take) (omega (arith, a.inner_whole.some, ap length rest, length-take m b))
 
   -- pieces are not joined by a datagram that is judged by itself
-  never_joined : (offset size : ℕ) → received_of s routers d interface ≡ Joined offset size → ⊥
+  never_joined : (offset size : ℕ) → received_of s routers d interface ≡ Ok (Joined offset size) → ⊥
   unfolding received_of
   never_joined offset size h =
-      let passed = stop_passed Refused (first_of rows) _ (Joined offset size) (λ r e. let z : ◌≡◌ {A = ℕ} 0 1 = cc in omega arith) h in
+      let passed = stop_passed Err (first_of rows) _ (Ok (Joined offset size)) (λ r e. let z : ◌≡◌ {A = ℕ} 0 1 = cc in omega arith) h in
       let e = passed.1 in
       let z : ◌≡◌ {A = ℕ} 0 1 = cc in
       omega arith
 
-  only_if : (r : Received) → received_of s routers d interface ≡ r → 0 < length (part_of r d) → Admits s routers d interface
-  only_if (Delivered offset size) e h = only_placed offset size e
-  only_if (Joined offset size) e h = absurd (omega arith)
-  only_if (Refused r) e h = absurd (omega arith)
+  only_if : (r : Result Received Refusal) → received_of s routers d interface ≡ r → 0 < length (part_of r d) → Admits s routers d interface
+  only_if (Ok (Delivered offset size)) e h = only_placed offset size e
+  only_if (Ok (Joined offset size)) e h = absurd (omega arith)
+  only_if (Err r) e h = absurd (omega arith)
 
-  never_refused : (r : Refusal) → received_of s routers d interface ≡ Refused r → Admits s routers d interface → ⊥
+  never_refused : (r : Refusal) → received_of s routers d interface ≡ Err r → Admits s routers d interface → ⊥
   never_refused r e a =
       let p = placed a in
       let z : ◌≡◌ {A = ℕ} 0 1 = cc in
       omega arith
 
-  refused : (r : Received) → received_of s routers d interface ≡ r → (Admits s routers d interface → ⊥) → (q : Refusal) × (received_of s routers d interface ≡ Refused q)
-  refused (Delivered offset size) e n = absurd (n (only_placed offset size e))
-  refused (Joined offset size) e n = absurd (never_joined offset size e)
-  refused (Refused q) e n = (q, e)
+  refused : (r : Result Received Refusal) → received_of s routers d interface ≡ r → (Admits s routers d interface → ⊥) → (q : Refusal) × (received_of s routers d interface ≡ Err q)
+  refused (Ok (Delivered offset size)) e n = absurd (n (only_placed offset size e))
+  refused (Ok (Joined offset size)) e n = absurd (never_joined offset size e)
+  refused (Err q) e n = (q, e)
 
 -- receiving does exactly what the rules say, for all settings, router lists, datagrams and interfaces
 pub delivers_exactly : (s : Settings) (routers : List Router) (d : List ℕ) (interface : ℕ) → DeliveredExactly s routers d interface

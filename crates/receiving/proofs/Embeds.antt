@@ -1,4 +1,5 @@
 -- That an address embeds an IPv4 address, as three tests; and what is read of a payload says all that is asked. Assumes nothing.
+use Rattle.std.specs.Bool.{then_some}
 use Rattle.std.specs.Prelude.{Some, None, Ok}
 use Prim.Native.Nat.{ℕ, zero, suc, ◌+◌, ◌/◌, ◌<◌}
 use mathlib.Core.Path.{◌≡◌, refl, sym, ◌∙◌}
@@ -21,10 +22,8 @@ use Rattle.settings.specs.declared.Settings.{Settings}
 use Rattle.receiving.specs.Receive.{is_embedded, embeds}
 use Rattle.routers.specs.Routers.{listed}
 use Rattle.routers.specs.declared.Router.{Router}
-use Rattle.receiving.specs.Stages.{inner_in, inner_check, passes_anyhow, judged_of, opened_of}
+use Rattle.receiving.specs.Stages.{inner_in, inner_check, passes_anyhow, open_check, packet_check}
 use Rattle.receiving.proofs.Stages.{same_check}
-use Rattle.receiving.specs.declared.judging.Standing.{Standing}
-use Rattle.receiving.specs.declared.judging.Stage.TheVariants as stage
 use Rattle.receiving.specs.declared.judging.Opening.{Opening}
 
 by_tests : (on_link identifier : Bool) (last v : ℕ) → is_embedded (cond (on_link && identifier) (Some last) None) v ≡ cond (identifier && eqb last v) on_link false
@@ -80,22 +79,19 @@ passes x h t s isListed =
     not_true false e = refl
 
 -- what is read of a payload p from an outer source
-module _ (joined : Bool) (offset source : ℕ) (p : List ℕ) (q : Quads) (same : bytes_in q ≡ address_at p 8) where
+module _ (source : ℕ) (p : List ℕ) (q : Quads) (same : bytes_in q ≡ address_at p 8) where
   abbrev pub opening : Opening
-  opening = record { joined = joined; offset = offset; source = source; length = length p; version = get_or p 0 0 / 16; packet = inner_header + word_at p 4; address = q }
-
-  abbrev pub standing : Standing
-  standing = record { joined = joined; offset = offset; length = inner_header + word_at p 4 }
+  opening = record { source = source; length = length p; version = get_or p 0 0 / 16; packet = inner_header + word_at p 4; address = q }
 
   module _ (s : Settings) (routers : List Router) where
-    checked : inner_check s (listed source routers) source (length p) (inner_in opening) ≡ inner_check s (listed source routers) source (length p) (inner_of p)
+    checked : inner_check s (listed source routers) source (length p) (inner_in opening) ≡ packet_check s routers source p
     unfolding inner_of
     checked = same_check s (listed source routers) source (length p) (inner_of p) q same
 
-    pub read-open : judged_of s routers (stage.Open opening) ≡ opened_of s routers joined offset source p
-    unfolding judged_of opened_of inner_of
-    read-open = rw checked
-
-    pub read-passed : q.last < 4294967296 → passes_anyhow opening ≡ true → judged_of s routers (stage.Passed standing) ≡ opened_of s routers joined offset source p
-    unfolding judged_of opened_of inner_of
-    read-passed h t = rw (sym checked ∙ passes opening h t s (listed source routers))
+    -- it is to be judged, unless it passes anyhow
+    pub still_open : q.last < 4294967296 → open_check s routers (then_some (not (passes_anyhow opening)) opening) ≡ packet_check s routers source p
+    still_open h = go (passes_anyhow opening) refl
+      where
+        go : (t : Bool) → passes_anyhow opening ≡ t → open_check s routers (then_some (not t) opening) ≡ packet_check s routers source p
+        go true e = sym (sym checked ∙ passes opening h e s (listed source routers))
+        go false e = checked

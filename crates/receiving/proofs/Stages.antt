@@ -25,7 +25,7 @@ use Rattle.receiving.specs.Receive.{inner_rows, received_of}
 use Rattle.receiving.specs.Collect.{Collected, arrival_rows, whole_of, is_piece, fragment_of, fragment_memory, collected_of, collected_memory}
 use Rattle.receiving.specs.Stages.{address_rows, address_check, inner_check, arrived_of, arrival_of, opened_of, whole_opened, delivered_of, settled_of, settled_memory}
 use Rattle.receiving.specs.declared.Received.{Received}
-use Rattle.receiving.specs.declared.Received.TheVariants.{Delivered, Refused}
+use Rattle.receiving.specs.declared.Received.TheVariants.{Delivered}
 
 -- 8 to 10 ask of an inner header what is read of it
 pub same_check : (s : Settings) (isListed : Bool) (source n : ℕ) (i : Inner) (q : Quads) → bytes_in q ≡ i.source
@@ -51,11 +51,11 @@ module _ (s : Settings) (routers : List Router) (d : List ℕ) (rows : List (Boo
 
   -- 8 to 10 behind a row of tests
   delivered-rows : delivered_of s routers d (read_with (first_of rows) o)
-      ≡ stop_or Refused (first_of (rows ++ last)) (Delivered o.header (inner_of payload).length)
+      ≡ stop_or Err (first_of (rows ++ last)) (Ok (Delivered o.header (inner_of payload).length))
   unfolding delivered_of whole_opened opened_of inner_check
   delivered-rows =
-      read_stop Refused (first_of rows) o (λ (q : Outer). whole_opened s routers d q)
-      ∙ sym (stop_append Refused rows last (Delivered o.header (inner_of payload).length))
+      read_stop Err (first_of rows) o (λ (q : Outer). whole_opened s routers d q)
+      ∙ sym (stop_append Err rows last (Ok (Delivered o.header (inner_of payload).length)))
 
 module _ (s : Settings) (interface : ℕ) (d : List ℕ) where
   -- where enough is lent, 2 to 4 and then 6 and 7
@@ -85,16 +85,16 @@ stop_same x (Ok tt) = refl
 stop_same x (Err r) = refl
 
 -- an answer behind a check, with what stays collected
-stop_kept : (c : Collection) (k : Result Unit Refusal) (x : Received)
-    → ◌≡◌ {A = Collected} (record { answer = stop_or Refused k x; pieces = c })
-    (stop_or (λ (r : Refusal). record { answer = Refused r; pieces = c }) k (record { answer = x; pieces = c }))
+stop_kept : (c : Collection) (k : Result Unit Refusal) (x : Result Received Refusal)
+    → ◌≡◌ {A = Collected} (record { answer = stop_or Err k x; pieces = c })
+    (stop_or (λ (r : Refusal). record { answer = Err r; pieces = c }) k (record { answer = x; pieces = c }))
 stop_kept c (Ok tt) x = refl
 stop_kept c (Err r) x = refl
 
 module _ (s : Settings) (c : Collection) (now : ℕ) (d : List ℕ) (interface : ℕ) (memory : List ℕ) where
   -- a refusal that leaves what is collected
   abbrev refusing : Refusal → Collected
-  refusing r = record { answer = Refused r; pieces = c }
+  refusing r = record { answer = Err r; pieces = c }
 
   -- 15, 2, 3, 4, 6, 7
   abbrev check : Result Unit Refusal
@@ -109,8 +109,8 @@ module _ (s : Settings) (c : Collection) (now : ℕ) (d : List ℕ) (interface :
   whole-or-piece routers false h =
       let x = whole_opened s routers d (outer_of d) in
       rw h
-      (ap (λ (a : Received). record { answer = a; pieces = c })
-      (whole_stages s routers d interface (length memory) ∙ read_stop Refused check (outer_of d) (λ (o : Outer). whole_opened s routers d o))
+      (ap (λ (a : Result Received Refusal). record { answer = a; pieces = c })
+      (whole_stages s routers d interface (length memory) ∙ read_stop Err check (outer_of d) (λ (o : Outer). whole_opened s routers d o))
       ∙ stop_kept c check x)
 
   -- any datagram: 15, 2, 3, 4, 6, 7, then what comes of it

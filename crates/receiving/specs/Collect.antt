@@ -21,11 +21,11 @@ use Rattle.pieces.specs.declared.Collection.{Collection}
 use Rattle.pieces.specs.declared.Piece.{Piece}
 use Rattle.receiving.specs.Receive.{inner_rows}
 use Rattle.receiving.specs.declared.Received.{Received}
-use Rattle.receiving.specs.declared.Received.TheVariants.{Delivered, Joined, Refused}
+use Rattle.receiving.specs.declared.Received.TheVariants.{Delivered, Joined}
 
 -- what comes of a datagram: the answer, and what is collected afterwards
 pub record Collected : Type 0 where
-  pub answer : Received
+  pub answer : Result Received Refusal
   pub pieces : Collection
 
 -- R23.1: 15, 2, 3, 4, 6, 7, of a datagram d with the outer fields o, where so many bytes of memory are lent
@@ -40,14 +40,14 @@ arrival_rows s interface lent d o =
     ∷ []
 
 -- of a whole datagram: 15, 2, 3, 4, 6 to 10; then the place of the 40 + payload length inner bytes, behind the outer header
-unfoldable pub whole_of : Settings → List Router → ℕ → List ℕ → ℕ → Received
+unfoldable pub whole_of : Settings → List Router → ℕ → List ℕ → ℕ → Result Received Refusal
 whole_of s routers lent d interface =
     let o : Outer = outer_of d in
     let p : List ℕ = payload_of d o in
     let i : Inner = inner_of p in
-    stop_or Refused
+    stop_or Err
     (first_of (arrival_rows s interface lent d o ++ inner_rows s (listed o.source routers) o.source (length p) i))
-    (Delivered o.header i.length)
+    (Ok (Delivered o.header i.length))
 
 -- R5.6: more-fragments set or offset not 0
 abbrev pub is_piece : Outer → Bool
@@ -62,11 +62,11 @@ piece_of d o = record {
 }
 
 -- R23.14: what a piece completes is judged by 8 to 10 on the payload that stands in the memory, from the key's source
-abbrev pub joined_by : Settings → List Router → ℕ → Result taken.Joined Refusal → List ℕ → Received
+abbrev pub joined_by : Settings → List Router → ℕ → Result taken.Joined Refusal → List ℕ → Result Received Refusal
 joined_by s routers source (Ok d) memory =
     let p : List ℕ = part (room * d.place) d.length memory in
-    stop_or Refused (first_of (inner_rows s (listed source routers) source (length p) (inner_of p))) (Joined (room * d.place) (inner_of p).length)
-joined_by s routers source (Err r) memory = Refused r
+    stop_or Err (first_of (inner_rows s (listed source routers) source (length p) (inner_of p))) (Ok (Joined (room * d.place) (inner_of p).length))
+joined_by s routers source (Err r) memory = Err r
 
 -- what comes of a piece with the outer fields o that passes 15, 2, 3, 4, 6, 7: 30, 29, 28, 27, then 8 to 10
 unfoldable pub taken_piece : Settings → List Router → Collection → ℕ → List ℕ → Outer → List ℕ → Collected
@@ -86,7 +86,7 @@ taken_memory c now d o memory =
 unfoldable pub fragment_of : Settings → List Router → Collection → ℕ → List ℕ → ℕ → List ℕ → Collected
 fragment_of s routers c now d interface memory =
     let o : Outer = outer_of d in
-    stop_or (λ (r : Refusal). record { answer = Refused r; pieces = c }) (first_of (arrival_rows s interface (length memory) d o))
+    stop_or (λ (r : Refusal). record { answer = Err r; pieces = c }) (first_of (arrival_rows s interface (length memory) d o))
     (taken_piece s routers c now d o memory)
 
 -- what then stands in the memory

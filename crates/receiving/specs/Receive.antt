@@ -1,5 +1,5 @@
 -- Receiving (R5): the order 2 to 10, and what comes of a datagram.
-use Rattle.std.specs.Prelude.{ℕ, Bool, false, not, ◌||◌, List, [], ◌∷◌, length, take, drop, eqb, Option, Some, None}
+use Rattle.std.specs.Prelude.{ℕ, Bool, false, not, ◌||◌, List, [], ◌∷◌, length, take, drop, eqb, Option, Some, None, Result, Ok, Err}
 use Rattle.address.specs.Address.{last_quad, is_bad_source_with}
 use Rattle.refusals.specs.Refusals.{first_of, stop_or}
 use Rattle.refusals.specs.Given.{Given, answered, refused}
@@ -15,7 +15,7 @@ use Rattle.settings.specs.declared.Settings.{Settings}
 use Rattle.routers.specs.Routers.{listed}
 use Rattle.routers.specs.declared.Router.{Router}
 use Rattle.receiving.specs.declared.Received.{Received}
-use Rattle.receiving.specs.declared.Received.TheVariants.{Delivered, Joined, Refused}
+use Rattle.receiving.specs.declared.Received.TheVariants.{Delivered, Joined}
 
 -- what is embedded is v
 abbrev pub is_embedded : Option ℕ → ℕ → Bool
@@ -50,21 +50,21 @@ receive_rows s routers interface d o n i =
     ∷ inner_rows s (listed o.source routers) o.source n i
 
 -- the first refusal of the order; else the place of the 40 + payload length inner bytes, behind the outer header
-unfoldable pub received_of : Settings → List Router → List ℕ → ℕ → Received
+unfoldable pub received_of : Settings → List Router → List ℕ → ℕ → Result Received Refusal
 received_of s routers d interface =
     let o : Outer = outer_of d in
     let p : List ℕ = payload_of d o in
     let i : Inner = inner_of p in
-    stop_or Refused (first_of (receive_rows s routers interface d o (length p) i)) (Delivered o.header i.length)
+    stop_or Err (first_of (receive_rows s routers interface d o (length p) i)) (Ok (Delivered o.header i.length))
 
 -- the answer is the part of the lent datagram that holds the 40 + payload length inner bytes; after a refusal that part is empty (R5.13)
-abbrev pub part_of : Received → List ℕ → List ℕ
-part_of (Delivered offset size) d = take size (drop offset d)
-part_of (Joined offset size) d = []
-part_of (Refused refusal) d = []
+abbrev pub part_of : Result Received Refusal → List ℕ → List ℕ
+part_of (Ok (Delivered offset size)) d = take size (drop offset d)
+part_of (Ok (Joined offset size)) d = []
+part_of (Err refusal) d = []
 
 -- number and values (R1.17): 0 where the inner packet stands in the datagram, 1 where it stands in the memory; its place there, and its length
-abbrev pub received_given : Received → Given
-received_given (Delivered offset size) = answered (0 ∷ offset ∷ size ∷ [])
-received_given (Joined offset size) = answered (1 ∷ offset ∷ size ∷ [])
-received_given (Refused refusal) = refused refusal
+abbrev pub received_given : Result Received Refusal → Given
+received_given (Ok (Delivered offset size)) = answered (0 ∷ offset ∷ size ∷ [])
+received_given (Ok (Joined offset size)) = answered (1 ∷ offset ∷ size ∷ [])
+received_given (Err refusal) = refused refusal

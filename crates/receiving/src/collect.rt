@@ -1,25 +1,23 @@
 // The call for the number, up to what is to be judged: of a whole datagram its inner packet, of a piece what it completes.
-ghost use Rattle.std.specs.Prelude.{◌≡◌, ◌<◌, false, List};
-ghost use Rattle.pieces.specs.Places.{places, no_place};
+ghost use Rattle.std.specs.Prelude.{◌≡◌, ◌<◌, List, None, IfSome};
+ghost use Rattle.pieces.specs.Places.{places};
 ghost use Rattle.routers.specs.declared.Router.{Router};
 ghost use Rattle.receiving.specs.Collect.{piece_of, joined_by, taken_piece, taken_memory, collected_of, collected_memory};
 ghost use Rattle.receiving.specs.Stages.{arrival_of, InMemory, ReadAs, judged_with, GatheredAs, settled_of, settled_memory};
 
 use crate::judging::Stage;
-use crate::{arrive, bytes_at, judging, read_whole};
+use crate::{Received, bytes_at, check_addresses, judging, read_whole};
 use header::outer::Outer;
 use header::{fields, outer};
 use pieces::{Collection, Joined, Key, MEMORY, Piece, Place, ROOM};
 use refusals::Refusal;
 use settings::Settings;
 
-// What is read of the inner packet, or the number; and whether a piece came to the collection, and what then stands in the place `at`.
+// What is read of the inner packet, or the number; and, where a piece came to the collection, a place and what then stands there.
 #[derive(Clone, Copy)]
 pub struct Gathered {
-    pub stage: Stage,
-    pub piece: bool,
-    pub at: usize,
-    pub place: Place,
+    pub stage: Result<Stage, Refusal>,
+    pub stored: Option<(usize, Place)>,
 }
 
 // The outer header of a datagram that is for us, or the first of the numbers 15, 2, 3, 4, 6 and 7, where so many bytes of memory are lent.
@@ -29,8 +27,9 @@ fn arrival(settings: Settings, d: &[u8], interface: u8, lent: usize) -> Result<O
     if lent < MEMORY {
         return Err(Refusal::OutputShort);
     }
-    let read = outer::read_header(d);
-    arrive(settings, interface, read)
+    let o = outer::read_header(d)?;
+    check_addresses(settings, interface, o)?;
+    Ok(o)
 }
 
 // The fields of a piece, its payload aside.
@@ -50,19 +49,23 @@ fn piece_of(d: &[u8], o: Outer) -> Piece
     }
 }
 
-// What is read of a joined datagram from that outer source, once it is known what comes of a piece.
-fn stage_of(taken: Result<Joined, Refusal>, source: u32, memory: &[u8]) -> Stage
+// What is read of a joined datagram from that outer source, once it is known what comes of a piece; or the number.
+fn stage_of(taken: Result<Joined, Refusal>, source: u32, memory: &[u8]) -> Result<Stage, Refusal>
     requires { InMemory taken }
     ensures { ReadAs (λ s routers. joined_by s routers source taken memory.now) result }
 {
-    match taken {
-        Ok(joined) => {
-            let offset = ROOM * joined.place;
-            let payload = bytes_at(memory, offset, joined.length);
-            judging::read_inner(true, offset, source, payload)
-        }
-        Err(refusal) => Stage::Refused(refusal),
-    }
+    let joined = taken?;
+    let offset = ROOM * joined.place;
+    let payload = bytes_at(memory, offset, joined.length);
+    let read = judging::read_inner(source, payload)?;
+    let received = Received::Joined {
+        offset,
+        length: read.length,
+    };
+    Ok(Stage {
+        received,
+        open: read.open,
+    })
 }
 
 // A piece that has arrived is taken into the collection.
@@ -78,22 +81,17 @@ fn gather_piece(pieces: Collection, time: u32, d: &[u8], o: Outer, memory: &mut 
     let stage = stage_of(answer, o.source, memory);
     Gathered {
         stage,
-        piece: true,
-        at: taken.at,
-        place,
+        stored: Some((taken.at, place)),
     }
 }
 
 // No piece came to the collection.
-fn unchanged(stage: Stage) -> Gathered
-    ensures { result ≡ record { stage = stage; piece = false; at = 0; place = no_place } }
+fn unchanged(stage: Result<Stage, Refusal>) -> Gathered
+    ensures { result ≡ record { stage = stage; stored = None } }
 {
-    let place = Place::none();
     Gathered {
         stage,
-        piece: false,
-        at: 0,
-        place,
+        stored: None,
     }
 }
 
@@ -117,12 +115,12 @@ pub fn gather(
     interface: u8,
     memory: &mut [u8],
 ) -> Gathered
-    ensures at_lt_places { ((routers : List Router) → judged_with settings routers pieces result ≡ collected_of settings routers pieces time d.now interface memory.old) × (result.at < places) }
+    ensures judged { (routers : List Router) → judged_with settings routers pieces result ≡ collected_of settings routers pieces time d.now interface memory.old }
+    ensures at_lt_places { IfSome result.stored (λ x. x.0 < places) }
     ensures memory_after { memory.new ≡ collected_memory settings pieces time d.now interface memory.old }
 {
-    let arrived = arrival(settings, d, interface, memory.len());
-    match arrived {
+    match arrival(settings, d, interface, memory.len()) {
         Ok(o) => gather_arrived(pieces, time, d, o, memory),
-        Err(refusal) => unchanged(Stage::Refused(refusal)),
+        Err(refusal) => unchanged(Err(refusal)),
     }
 }

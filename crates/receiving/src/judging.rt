@@ -7,7 +7,7 @@ ghost use Rattle.header.specs.Inner.{is_inner_malformed};
 ghost use Rattle.settings.specs.Settings.{forbidden_to};
 ghost use Rattle.routers.specs.Routers.{live, listed};
 ghost use Rattle.receiving.specs.Receive.{embeds, is_source_right};
-ghost use Rattle.receiving.specs.Stages.{inner_in, passes_anyhow, inner_check, placed_at, opened_of, judged_of, ReadAs};
+ghost use Rattle.receiving.specs.Stages.{inner_in, passes_anyhow, inner_check, judged_of, ReadsInner};
 
 use crate::Received;
 use address::prefixes;
@@ -18,12 +18,10 @@ use refusals::Refusal;
 use routers::RouterList;
 use settings::Settings;
 
-// What 8 to 10 are asked of: whether it was joined in the memory, and where it stands there or in the datagram; the outer source and the
-// payload's length; and of the inner header the version, the packet's length and the source address.
+// What 8 to 10 are asked of: the outer source and the payload's length; and of the inner header the version, the packet's length and the
+// source address.
 #[derive(Clone, Copy)]
 pub struct Opening {
-    pub joined: bool,
-    pub offset: usize,
     pub source: u32,
     pub length: usize,
     pub version: u8,
@@ -31,20 +29,18 @@ pub struct Opening {
     pub address: Quads,
 }
 
-// Where an inner packet stands, and its length.
+// What is read of a payload: the inner packet's length, and what is to be judged, unless 8 to 10 let it pass whatever settings and routers there are.
 #[derive(Clone, Copy)]
-pub struct Standing {
-    pub joined: bool,
-    pub offset: usize,
+pub struct Reading {
     pub length: usize,
+    pub open: Option<Opening>,
 }
 
-// What is to be judged; or where the packet stands, if 8 to 10 let it pass whatever settings and routers there are; or the number.
+// Where the inner packet stands, and what is to be judged before that is said.
 #[derive(Clone, Copy)]
-pub enum Stage {
-    Open(Opening),
-    Passed(Standing),
-    Refused(Refusal),
+pub struct Stage {
+    pub received: Received,
+    pub open: Option<Opening>,
 }
 
 // Whether 8 to 10 let it pass whatever settings and routers there are: a whole packet from a link-local ISATAP address that embeds the outer
@@ -57,32 +53,23 @@ fn passes_anyhow(x: Opening) -> bool
 }
 
 // What is read of a payload from that outer source. Its length is asked first, so that the header is then read without asking it again.
-pub fn read_inner(joined: bool, offset: usize, source: u32, payload: &[u8]) -> Stage
-    ensures { ReadAs (λ s routers. opened_of s routers joined offset source payload.now) result }
+pub fn read_inner(source: u32, payload: &[u8]) -> Result<Reading, Refusal>
+    ensures { ReadsInner source payload.now result }
 {
     if payload.len() < INNER_HEADER {
-        return Stage::Refused(Refusal::InnerMalformed);
+        return Err(Refusal::InnerMalformed);
     }
     let address = fields::quads(payload, 8);
-    let packet = INNER_HEADER + fields::word(payload, 4) as usize;
+    let length = INNER_HEADER + fields::word(payload, 4) as usize;
     let x = Opening {
-        joined,
-        offset,
         source,
         length: payload.len(),
         version: fields::byte(payload, 0) / 16,
-        packet,
+        packet: length,
         address,
     };
-    if passes_anyhow(x) {
-        let standing = Standing {
-            joined,
-            offset,
-            length: packet,
-        };
-        return Stage::Passed(standing);
-    }
-    Stage::Open(x)
+    let open = (!passes_anyhow(x)).then_some(x);
+    Ok(Reading { length, open })
 }
 
 // Whether the inner source is bad.
@@ -148,35 +135,12 @@ fn check_inner(settings: Settings, routers: RouterList, x: Opening) -> Result<()
     Ok(())
 }
 
-// Where the inner packet stands.
-fn placed(at: Standing) -> Received
-    ensures { result ≡ placed_at at.joined at.offset at.length }
-{
-    let offset = at.offset;
-    let length = at.length;
-    if at.joined {
-        return Received::Joined { offset, length };
-    }
-    Received::Delivered { offset, length }
-}
-
-// What comes of what is read.
-pub fn judge(settings: Settings, routers: RouterList, stage: Stage) -> Received
+// What comes of what is read: 8 to 10 of what is to be judged, and then where the inner packet stands.
+pub fn judge(settings: Settings, routers: RouterList, stage: Stage) -> Result<Received, Refusal>
     ensures { result ≡ judged_of settings (live routers) stage }
 {
-    match stage {
-        Stage::Open(x) => {
-            let check = check_inner(settings, routers, x);
-            match check {
-                Ok(()) => placed(Standing {
-                    joined: x.joined,
-                    offset: x.offset,
-                    length: x.packet,
-                }),
-                Err(refusal) => Received::Refused(refusal),
-            }
-        }
-        Stage::Passed(at) => placed(at),
-        Stage::Refused(refusal) => Received::Refused(refusal),
+    if let Some(x) = stage.open {
+        check_inner(settings, routers, x)?;
     }
+    Ok(stage.received)
 }

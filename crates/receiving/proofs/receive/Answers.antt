@@ -1,6 +1,21 @@
 -- `receiving::receive` meets its contract: its stages are the table.
+use Rattle.std.proofs.Common.{rules}
+use Rattle.receiving.specs.Stages.{arrived_of, delivered_of}
 use Rattle.receiving.proofs.Stages.{by_stages}
 use Rattle.receiving.proofs.receive.Goals as goal
 
+pub returns-in_err-o : goal.returns-in_err-o
+unfolding arrived_of delivered_of
+returns-in_err-o c = rw by_stages (search rules)
+
+pub returns-in_err-check_addresses : goal.returns-in_err-check_addresses
+unfolding arrived_of delivered_of
+returns-in_err-check_addresses c = rw by_stages (search rules)
+
+pub returns-in_err-stage : goal.returns-in_err-stage
+unfolding arrived_of delivered_of
+returns-in_err-stage c = rw by_stages (search rules)
+
 pub returns : goal.returns
-returns c = rw (by_stages, c.judge.ensures, c.stage_whole-stage.ensures, c.arrive-arrived.ensures, c.read_outer-read.ensures)
+unfolding arrived_of delivered_of
+returns c = rw by_stages (search rules)

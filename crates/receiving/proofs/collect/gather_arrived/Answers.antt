@@ -1,5 +1,4 @@
 -- `receiving::collect::gather_arrived` meets its contract: by whether the datagram is a piece.
-use native.Mathlib.Omega.{arith}
 use borrow.Author.Tests.{eq-eqb, ne_eqb}
 use Rattle.receiving.specs.Stages.{settled_of, settled_memory}
 use Rattle.receiving.proofs.collect.gather_arrived.Goals as goal
@@ -17,6 +16,6 @@ pub returns : goal.returns
 unfolding settled_of settled_memory
 returns c = let h = eq-eqb _ _ c.if-o-ne0.false in
     record {
-      gathered_as = (λ s routers. rw (h, c.unchanged.ensures, c.read_whole.ensures), rw c.unchanged.ensures (omega arith));
+      gathered_as = (λ s routers. rw (h, c.unchanged.ensures, c.read_whole.ensures), rw c.unchanged.ensures tt);
       memory_after = rw h;
     }

@@ -1,11 +1,12 @@
--- `receiving::collect::stage_of` meets its contract: by cases on what came of the piece.
-use Rattle.receiving.specs.Stages.{inner_check, opened_of, judged_of}
+-- `receiving::collect::stage_of` meets its contract: by what came of the piece, and what is read then.
+use Rattle.std.proofs.Common.{rules}
+use Rattle.receiving.specs.Stages.{inner_check, judged_of}
 use Rattle.receiving.proofs.collect.stage_of.Goals as goal
 
-pub returns-in-Ok : goal.returns-in-Ok
-unfolding opened_of inner_check
-returns-in-Ok c s routers = rw (c.in-Ok.is, c.read_inner.ensures, c.bytes_at-payload.ensures)
+pub returns-in_err-read : goal.returns-in_err-read
+unfolding inner_check
+returns-in_err-read c s routers = search rules
 
-pub returns-in-Err : goal.returns-in-Err
-unfolding judged_of
-returns-in-Err c s routers = rw c.in-Err.is
+pub returns : goal.returns
+unfolding inner_check judged_of
+returns c s routers = let e = c.in_ok-read.ensures in rw (c.in_ok-joined.was, e.0, e.1, c.bytes_at-payload.ensures)

@@ -1,19 +1,16 @@
--- `receiving::judging::judge` meets its contract: by cases on what is read, and on the check.
+-- `receiving::judging::judge` meets its contract: by whether anything is to be judged, and by the check.
+use Rattle.std.proofs.Common.{rules}
 use Rattle.receiving.specs.Stages.{judged_of}
 use Rattle.receiving.proofs.judging.judge.Goals as goal
 
-pub returns-in-Ok : goal.returns-in-Ok
+pub returns-in_err-check_inner : goal.returns-in_err-check_inner
 unfolding judged_of
-returns-in-Ok c = rw (c.in-Open.is, ← c.check_inner-check.ensures, c.in-Ok.is, c.placed.ensures)
+returns-in_err-check_inner c = search rules
 
-pub returns-in-Err : goal.returns-in-Err
+pub returns-in_ok-check_inner : goal.returns-in_ok-check_inner
 unfolding judged_of
-returns-in-Err c = rw (c.in-Open.is, ← c.check_inner-check.ensures, c.in-Err.is)
+returns-in_ok-check_inner c = search rules
 
-pub returns-in-Passed : goal.returns-in-Passed
+pub returns-in_default : goal.returns-in_default
 unfolding judged_of
-returns-in-Passed c = rw (c.in-Passed.is, c.placed-in-Passed.ensures)
-
-pub returns-in-Refused : goal.returns-in-Refused
-unfolding judged_of
-returns-in-Refused c = rw c.in-Refused.is
+returns-in_default c = search rules
