@@ -1,11 +1,10 @@
 -- Receiving on a node (R5, R23): with the settings and the router list of the service that are now in force.
-use Rattle.std.specs.Prelude.{ℕ, max, Bool, cond, List, []}
+use Rattle.std.specs.Prelude.{ℕ, max, Bool, cond, List, [], Err}
 use Rattle.refusals.specs.declared.Refusal.TheVariants.{NoLocator}
 use Rattle.routers.specs.Routers.{live}
 use Rattle.pieces.specs.declared.Collection.{Collection}
 use Rattle.receiving.specs.Collect.{Collected, collected_of, collected_memory}
 use Rattle.receiving.specs.Receive.{received_of, part_of}
-use Rattle.receiving.specs.declared.Received.TheVariants.{Refused}
 use Rattle.node.specs.Node.{service_of, has_service, node_with}
 use Rattle.node.specs.declared.Node.{Node}
 use Rattle.node.specs.declared.Service.{Service}
@@ -21,7 +20,7 @@ with_pieces service pieces =
 unfoldable pub collected_by : Bool → Service → ℕ → List ℕ → ℕ → List ℕ → Collected
 collected_by there service now d interface memory =
     cond there (collected_of service.settings (live service.routers) service.pieces now d interface memory)
-    (record { answer = Refused NoLocator; pieces = service.pieces })
+    (record { answer = Err NoLocator; pieces = service.pieces })
 
 -- what then stands in the lent memory
 unfoldable pub collected_through : Bool → Service → ℕ → List ℕ → ℕ → List ℕ → List ℕ

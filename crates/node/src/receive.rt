@@ -8,7 +8,7 @@ use refusals::Refusal;
 
 #[derive(Clone, Copy)]
 pub struct Receipt {
-    pub answer: Received,
+    pub answer: Result<Received, Refusal>,
     pub node: Node,
 }
 
@@ -33,11 +33,10 @@ impl Node {
             let routers = service.routers;
             let mut pieces = service.pieces;
             let gathered = collect::gather(settings, pieces, now, d, interface, memory);
-            let stage = gathered.stage;
-            let answer = judging::judge(settings, routers, stage);
-            if gathered.piece {
-                let at = gathered.at;
-                let place = gathered.place;
+            let answer = gathered
+                .stage
+                .and_then(|stage| judging::judge(settings, routers, stage));
+            if let Some((at, place)) = gathered.stored {
                 pieces.places[at] = place;
                 service.pieces = pieces;
             }
@@ -46,7 +45,7 @@ impl Node {
         }
         let node = self.put_back(name, service, time);
         Receipt {
-            answer: Received::Refused(Refusal::NoLocator),
+            answer: Err(Refusal::NoLocator),
             node,
         }
     }
@@ -62,6 +61,6 @@ impl Node {
             let received = receiving::receive(settings, routers, d, interface);
             return receiving::part(d, received);
         }
-        receiving::part(d, Received::Refused(Refusal::NoLocator))
+        receiving::part(d, Err(Refusal::NoLocator))
     }
 }

@@ -1,14 +1,20 @@
 -- `node::Node::receive` meets its contract: what is gathered is judged, and the one place that it changes is stored; or 11.
+use Rattle.std.specs.Prelude.{Result, Ok, Err}
+use Rattle.std.specs.Result.{MatchResult}
+use Rattle.std.proofs.Common.{rules}
 use Prim.Native.Nat.{ℕ, max}
 use mathlib.Core.Bool.{Bool, true, false}
 use mathlib.Core.List.{List}
 use mathlib.Core.Path.{◌≡◌}
 use Rattle.pieces.specs.Take.{with_place}
+use Rattle.pieces.specs.declared.Place.{Place}
 use Rattle.receiving.specs.Collect.{Collected, collected_of, collected_memory}
-use Rattle.receiving.specs.Stages.{collected_after}
+use Rattle.receiving.specs.Stages.{judged_of, judged_or, collected_after}
+use Rattle.receiving.specs.declared.judging.Stage.{Stage}
+use Rattle.routers.specs.declared.Router.{Router}
+use Rattle.settings.specs.declared.Settings.{Settings}
 use Rattle.receiving.specs.declared.Received.{Received}
-use Rattle.receiving.specs.declared.Received.TheVariants.{Refused}
-use Rattle.receiving.specs.declared.collect.Gathered.{Gathered}
+use Rattle.refusals.specs.declared.Refusal.{Refusal}
 use Rattle.refusals.specs.declared.Refusal.TheVariants.{NoLocator}
 use Rattle.routers.specs.Routers.{live}
 use Rattle.node.specs.Node.{service_of, has_service, node_with}
@@ -18,18 +24,19 @@ use Rattle.node.specs.declared.Service.{Service}
 use Rattle.node.specs.declared.ServiceName.{ServiceName}
 use Rattle.node.specs.declared.receive.Receipt.{Receipt}
 use Rattle.node.proofs.Node.receive.Goals as goal
-use Rattle.node.proofs.Node.receive.Goals.{then-gathered, else-gathered}
+use Rattle.node.proofs.Node.receive.Goals.{in-Some, in_default}
 
--- the service where a place is stored, and where none is
-stored : (s s' : Service) (g : Gathered) → g.piece ≡ true → s' ≡ with_pieces s (with_place g.at g.place s.pieces) → s' ≡ with_pieces s (collected_after g s.pieces)
-stored s s' g h e = rw h e
 
-left : (s s' : Service) (g : Gathered) → g.piece ≡ false → s' ≡ s → s' ≡ with_pieces s (collected_after g s.pieces)
-left s s' g h e = rw h e
+-- what is gathered is judged, or the number
+answered : (s : Settings) (routers : List Router) (x : Result Stage Refusal) (a : Result Received Refusal) {P : Stage → Type 0}
+    → ((y : Stage) → P y → a ≡ judged_of s routers y) → MatchResult x P (λ r. a ≡ Err r)
+    → a ≡ judged_or s routers x
+answered s routers (Ok y) a same h = same y h
+answered s routers (Err r) a same h = h
 
 -- the call, by whether the node has the service
 module _ (n : Node) (name : ServiceName) (d : List ℕ) (interface time : ℕ) (memory : List ℕ) (has : Bool) (s : Service) (is : has ≡ has_service n name) (same : s ≡ service_of n name) where
-  present : has ≡ true → (a : Received) (s' : Service) {c : Collected}
+  present : has ≡ true → (a : Result Received Refusal) (s' : Service) {c : Collected}
       → s' ≡ with_pieces s c.pieces → a ≡ c.answer → c ≡ collected_of s.settings (live s.routers) s.pieces (max n.latest time) d interface memory
       → ◌≡◌ {A = Receipt} (record { answer = a; node = node_with n name s' time }) (receive_of n name d interface time memory)
   unfolding receive_of collected_by
@@ -39,7 +46,7 @@ module _ (n : Node) (name : ServiceName) (d : List ℕ) (interface time : ℕ) (
   unfolding receive_memory collected_through
   present-memory there = rw (← is, there, ← same)
 
-  absent : has ≡ false → ◌≡◌ {A = Receipt} (record { answer = Refused NoLocator; node = node_with n name s time }) (receive_of n name d interface time memory)
+  absent : has ≡ false → ◌≡◌ {A = Receipt} (record { answer = Err NoLocator; node = node_with n name s time }) (receive_of n name d interface time memory)
   unfolding receive_of collected_by
   absent none = rw (← is, none, ← same)
 
@@ -50,15 +57,16 @@ module _ (n : Node) (name : ServiceName) (d : List ℕ) (interface time : ℕ) (
 pub returns-then-has : goal.returns-then-has
 returns-then-has c = let s = c.service-service in
     let a = c.args in
-    let service : c.if-gathered.service ≡ with_pieces s.result (collected_after c.gather-gathered.result s.result.pieces) =
-    elim c.if-gathered.branch [
-      | then-gathered w ↦ stored s.result c.if-gathered.service c.gather-gathered.result w.if-gathered.true w.service-is
-      | else-gathered w ↦ left s.result c.if-gathered.service c.gather-gathered.result w.if-gathered.false w.service-is
+    let g = c.gather-gathered.result in
+    let service : c.match-gathered.service ≡ with_pieces s.result (collected_after g.stored s.result.pieces) =
+    elim c.match-gathered.branch [
+      | in-Some w ↦ rw (w.service-is, w.in-Some.is)
+      | in_default w ↦ rw (w.service-is, w.in_default.is)
     ] in
-    let told = rw c.max-now.ensures at (c.gather-gathered.ensures.at_lt_places.0 (live s.result.routers)) in
+    let told = rw c.max-now.ensures at (c.gather-gathered.ensures.judged (live s.result.routers)) in
     let has = c.has in record {
       value = rw c.put_back-node.ensures.value
-          (present a.self a.name a.d.now a.interface a.time a.memory.now has.result s.result has.ensures s.ensures c.if-has.true c.judge-answer.result c.if-gathered.service service c.judge-answer.ensures told);
+          (present a.self a.name a.d.now a.interface a.time a.memory.now has.result s.result has.ensures s.ensures c.if-has.true c.and_then-answer.result c.match-gathered.service service (answered s.result.settings (live s.result.routers) g.stage c.and_then-answer.result (λ y k. search rules) c.and_then-answer.ensures) told);
       memory_after = rw (c.gather-gathered.ensures.memory_after, c.max-now.ensures)
           (present-memory a.self a.name a.d.now a.interface a.time a.memory.now has.result s.result has.ensures s.ensures c.if-has.true);
     }
