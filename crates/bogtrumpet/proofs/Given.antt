@@ -14,8 +14,7 @@ use Rattle.refusals.specs.Given.{read_back}
 use Rattle.refusals.specs.Refusals.{number_of}
 use Rattle.refusals.proofs.Numbers.{never_14, refused-back}
 use Rattle.reports.specs.Report.{report_given}
-use Rattle.reports.specs.declared.ReportAnswer.{ReportAnswer}
-use Rattle.reports.specs.declared.ReportAnswer.TheVariants as reported
+use Rattle.reports.specs.declared.Report.{Report}
 use Rattle.sending.specs.Sending.{send_given}
 use Rattle.sending.specs.declared.SendAnswer.{SendAnswer}
 use Rattle.sending.specs.declared.SendAnswer.TheVariants as sent
@@ -33,9 +32,9 @@ sent-given (sent.TooBig size length) = refl
 sent-given (sent.Refused r) =
     ap (λ (b : Bool). cond b (record { number = 14; values = 0 ∷ 0 ∷ [] }) (read_back (number_of r) (0 ∷ []))) (never_14 r) ∙ refused-back r (0 ∷ [])
 
-pub reported-given : (a : ReportAnswer) → reported_back (plain_reported a) ≡ report_given a
-reported-given (reported.Accepted neighbour size) = refl
-reported-given (reported.Refused r) = refused-back r (0 ∷ 0 ∷ [])
+pub reported-given : (a : Result Report Refusal) → reported_back (plain_reported a) ≡ report_given a
+reported-given (Ok report) = refl
+reported-given (Err r) = refused-back r (0 ∷ 0 ∷ [])
 
 pub asked-given : (a : Result ℕ Refusal) → asked_back (plain_asked a) ≡ ask_given a
 asked-given (Ok router) = refl

@@ -2,6 +2,8 @@
 --     Full             all places of the table's rows are there.        table_left    the path table that is left
 --     look_same        the answer and the node of Node::report
 use mathlib.Core.Path.{◌≡◌, refl, ap, ◌∙◌}
+use Rattle.std.specs.Prelude.{Result, Ok, Err}
+use Rattle.refusals.specs.declared.Refusal.{Refusal}
 use Prim.Native.Nat.{ℕ, max, ◌<◌}
 use mathlib.Core.Bool.{Bool, true, false, cond}
 use mathlib.Core.List.{List}
@@ -19,10 +21,7 @@ use Rattle.paths.proofs.Arrays.{pushed-there}
 use Rattle.refusals.specs.declared.Refusal.TheVariants.{SizeNotBelow}
 use Rattle.reports.specs.Report.{judged_of, neighbour_in, accepted_below, answer_at}
 use Rattle.reports.specs.Reading.{reading_of}
-use Rattle.reports.specs.declared.Judged.{Judged}
-use Rattle.reports.specs.declared.Judged.TheVariants as judged
-use Rattle.reports.specs.declared.ReportAnswer.{ReportAnswer}
-use Rattle.reports.specs.declared.ReportAnswer.TheVariants.{Accepted, Refused}
+use Rattle.reports.specs.declared.Report.{Report}
 use Rattle.reports.proofs.ReadingLaws.{over_with, is_other, over-same}
 use Rattle.settings.specs.declared.Settings.{Settings}
 use Rattle.node.specs.Node.{service_of, path_size_at}
@@ -48,7 +47,7 @@ table_left t look = cond look.accepted (record {
 }) t
 
 -- a look is the step with that answer, at that time
-abbrev Same : PathTable → ReportLook → ReportAnswer → ℕ → Type 0
+abbrev Same : PathTable → ReportLook → Result Report Refusal → ℕ → Type 0
 Same t look a now = (look.answer ≡ plain_reported a) × (table_left t look ≡ paths_after a t now) × (look.latest ≡ now)
 
 module _ (t : PathTable) (now : ℕ) where
@@ -56,25 +55,25 @@ module _ (t : PathTable) (now : ℕ) where
   look_at link v = look_among link t.neighbours t.sizes t.times t.count v now
 
   -- an accepted report
-  table_left_lem : Full t → (link v c : ℕ) → table_left t (accepted_look v c (look_at link v) now) ≡ table_after t v c now
+  table_left_lem : Full t → (link : ℕ) (r : Report) → table_left t (accepted_look r (look_at link r.neighbour) now) ≡ table_after t r.neighbour r.size now
   unfolding look_among table_after
-  table_left_lem full link v c =
-      let p : ℕ = row_for t.neighbours t.sizes t.times t.count v in
+  table_left_lem full link r =
+      let p : ℕ = row_for t.neighbours t.sizes t.times t.count r.neighbour in
       let there : p < most_neighbours = omega arith in
-      rw (pushed-there v p t.neighbours (rw full.0 there), pushed-there c p t.sizes (rw full.1 there), pushed-there now p t.times (rw full.2 there))
+      rw (pushed-there r.neighbour p t.neighbours (rw full.0 there), pushed-there r.size p t.sizes (rw full.1 there), pushed-there now p t.times (rw full.2 there))
 
-  by_below : (link v c : ℕ) (below : Bool)
-      → ((cond below (accepted_look v c (look_at link v) now) (refused_look SizeNotBelow now)).accepted ≡ true → Full t)
-      → Same t (cond below (accepted_look v c (look_at link v) now) (refused_look SizeNotBelow now)) (cond below (Accepted v c) (Refused SizeNotBelow)) now
-  by_below link v c true full = (refl, table_left_lem (full refl) link v c, refl)
-  by_below link v c false full = (refl, refl, refl)
+  by_below : (link : ℕ) (r : Report) (below : Bool)
+      → ((cond below (accepted_look r (look_at link r.neighbour) now) (refused_look SizeNotBelow now)).accepted ≡ true → Full t)
+      → Same t (cond below (accepted_look r (look_at link r.neighbour) now) (refused_look SizeNotBelow now)) (cond below (Ok r) (Err SizeNotBelow)) now
+  by_below link r true full = (refl, table_left_lem (full refl) link r, refl)
+  by_below link r false full = (refl, refl, refl)
 
-  by_judged : (link : ℕ) (j : Judged)
+  by_judged : (link : ℕ) (j : Result Report Refusal)
       → ((looked_over (over_with link j) t.neighbours t.sizes t.times t.count now).accepted ≡ true → Full t)
       → Same t (looked_over (over_with link j) t.neighbours t.sizes t.times t.count now) (answer_at j (in_force link (kept_in t (neighbour_in j) now))) now
   unfolding looked_below accepted_below look_among kept_in
-  by_judged link (judged.Report v c) full = by_below link v c (is_below c (in_force link (kept_in t v now))) full
-  by_judged link (judged.Refused refusal) full = (refl, refl, refl)
+  by_judged link (Ok r) full = by_below link r (is_below r.size (in_force link (kept_in t r.neighbour now))) full
+  by_judged link (Err refusal) full = (refl, refl, refl)
 
 -- the settings of the service that a report belongs to
 chosen : (h : Node) (t : Bool) → (service_of h (cond t Second First)).settings ≡ cond t h.second.settings h.first.settings
@@ -93,7 +92,7 @@ look_same h m time full =
     let b : Settings = h.second.settings in
     let t : Bool = is_other a b (ltb 0 h.both) (outer_of (quote_of m)).source in
     let s : Settings = (service_of h (cond t Second First)).settings in
-    let j : Judged = judged_of s m in
+    let j : Result Report Refusal = judged_of s m in
     let over = over-same a b m (ltb 0 h.both) in
     let z : ReportLook = looked_in h (reading_of m) time in
     let by_table : (z.accepted ≡ true → Full h.paths) → Same h.paths z (answer_at j (in_force s.link_size (kept_in h.paths (neighbour_in j) now))) now =

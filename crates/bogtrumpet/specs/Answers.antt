@@ -5,8 +5,7 @@ use Rattle.std.specs.Prelude.{true, false, Result, Ok, Err, ℕ}
 use Rattle.receiving.specs.declared.Received as receiving
 use Rattle.receiving.specs.declared.Received.TheVariants as received
 use Rattle.refusals.specs.Refusals.{number_of}
-use Rattle.reports.specs.declared.ReportAnswer.{ReportAnswer}
-use Rattle.reports.specs.declared.ReportAnswer.TheVariants as reported
+use Rattle.reports.specs.declared.Report.{Report}
 use Rattle.sending.specs.declared.SendAnswer.{SendAnswer}
 use Rattle.sending.specs.declared.SendAnswer.TheVariants as sent
 use Rattle.settings.specs.Settings.{defaults_for}
@@ -41,9 +40,9 @@ plain_sent (sent.TooBig size length) = record { number = 14; size = size; length
 plain_sent (sent.Refused r) = record { number = number_of r; size = 0; length = 0; message_length = 0 }
 
 -- a size report answers the neighbour and its size (R1.17)
-abbrev pub plain_reported : ReportAnswer → Reported
-plain_reported (reported.Accepted neighbour size) = record { number = 0; neighbour = neighbour; size = size }
-plain_reported (reported.Refused r) = record { number = number_of r; neighbour = 0; size = 0 }
+abbrev pub plain_reported : Result Report Refusal → Reported
+plain_reported (Ok report) = record { number = 0; neighbour = report.neighbour; size = report.size }
+plain_reported (Err r) = record { number = number_of r; neighbour = 0; size = 0 }
 
 -- asking answers the router's IPv4 address (R1.17)
 abbrev pub plain_asked : Result ℕ Refusal → Asked

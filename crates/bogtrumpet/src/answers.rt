@@ -3,7 +3,7 @@
 ghost use Rattle.std.specs.Prelude.{◌≡◌};
 ghost use Rattle.bogtrumpet.specs.Answers.{plain_received, plain_sized, plain_sent, plain_reported, plain_asked, plain_heard, plain_advertised};
 
-use reports::ReportAnswer;
+use reports::Report;
 use sending::SendAnswer;
 use refusals::Refusal;
 
@@ -129,16 +129,16 @@ pub fn plain_sent(answer: SendAnswer) -> Sent
     }
 }
 
-pub fn plain_reported(answer: ReportAnswer) -> Reported
+pub fn plain_reported(answer: Result<Report, Refusal>) -> Reported
     ensures { result ≡ plain_reported answer }
 {
     match answer {
-        ReportAnswer::Accepted { neighbour, size } => Reported {
+        Ok(report) => Reported {
             number: 0,
-            neighbour,
-            size,
+            neighbour: report.neighbour,
+            size: report.size,
         },
-        ReportAnswer::Refused(refusal) => Reported {
+        Err(refusal) => Reported {
             number: refusal.number(),
             neighbour: 0,
             size: 0,

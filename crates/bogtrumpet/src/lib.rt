@@ -37,8 +37,9 @@ use node::{Node, Service};
 use paths::rows;
 use plain::Advertisement;
 use reporting::ReportLook;
+use refusals::Refusal;
 use reports::reading;
-use reports::reading::Reading;
+use reports::reading::Quote;
 use settings::Settings;
 
 // An IPv6 address. It is handed over in memory; in fields of four bytes it is read by four bytes, and not by one.
@@ -235,7 +236,7 @@ pub extern "C" fn bogtrumpet_send(
 }
 
 // What a size report that was read comes to: its answer, and what an accepted one changes. The rows of the path table are lent to the search.
-fn report_look(node: &Node, reading: Reading, time: u32) -> ReportLook
+fn report_look(node: &Node, reading: Result<Quote, Refusal>, time: u32) -> ReportLook
     ensures { result ≡ looked_in node.now reading time }
 {
     reporting::looked(

@@ -6,8 +6,8 @@ use super::answers;
 use super::answers::Reported;
 use paths::{Look, reported};
 use refusals::Refusal;
-use reports::reading::{JudgedOver, Reading};
-use reports::{ReportAnswer, reading};
+use reports::reading::Quote;
+use reports::{Report, reading};
 use settings::Settings;
 
 // The answer. Of the node a report that is accepted changes the rows of the path table up to that one, how many are in use, and the latest time; any
@@ -24,7 +24,7 @@ pub(crate) struct ReportLook {
 fn refused(refusal: Refusal, latest: u32) -> ReportLook
     ensures { result ≡ refused_look refusal latest }
 {
-    let answer = answers::plain_reported(ReportAnswer::Refused(refusal));
+    let answer = answers::plain_reported(Err(refusal));
     ReportLook {
         answer,
         row: 0,
@@ -34,10 +34,10 @@ fn refused(refusal: Refusal, latest: u32) -> ReportLook
     }
 }
 
-fn accepted(neighbour: u32, size: u16, look: Look, latest: u32) -> ReportLook
-    ensures { result ≡ accepted_look neighbour size look latest }
+fn accepted(report: Report, look: Look, latest: u32) -> ReportLook
+    ensures { result ≡ accepted_look report look latest }
 {
-    let answer = answers::plain_reported(ReportAnswer::Accepted { neighbour, size });
+    let answer = answers::plain_reported(Ok(report));
     ReportLook {
         answer,
         row: look.row,
@@ -49,11 +49,11 @@ fn accepted(neighbour: u32, size: u16, look: Look, latest: u32) -> ReportLook
 
 // Number 19.
 #[tactic(auto, unfolding(crate::specs::Reporting::looked_below))]
-fn below(neighbour: u32, size: u16, look: Look, latest: u32) -> ReportLook
-    ensures { result ≡ looked_below neighbour size look latest }
+fn below(report: Report, look: Look, latest: u32) -> ReportLook
+    ensures { result ≡ looked_below report look latest }
 {
-    if reported::is_below(size, look.in_force) {
-        accepted(neighbour, size, look, latest)
+    if reported::is_below(report.size, look.in_force) {
+        accepted(report, look, latest)
     } else {
         refused(Refusal::SizeNotBelow, latest)
     }
@@ -70,7 +70,7 @@ pub(crate) fn looked<'a>(
     times: &'a [u32],
     count: usize,
     latest: u32,
-    read: Reading,
+    read: Result<Quote, Refusal>,
     time: u32,
 ) -> ReportLook
     ensures { result ≡ looked_among first second both neighbours.now sizes.now times.now count latest read time }
@@ -78,14 +78,19 @@ pub(crate) fn looked<'a>(
     let latest = latest.max(time);
     let judged = reading::judge(first, second, 0 < both, read);
     match judged {
-        JudgedOver::Report {
-            neighbour,
-            size,
-            link,
-        } => {
-            let look = paths::look_among(link, neighbours, sizes, times, count, neighbour, latest);
-            below(neighbour, size, look, latest)
+        Ok(over) => {
+            let report = over.report;
+            let look = paths::look_among(
+                over.link,
+                neighbours,
+                sizes,
+                times,
+                count,
+                report.neighbour,
+                latest,
+            );
+            below(report, look, latest)
         }
-        JudgedOver::Refused(refusal) => refused(refusal, latest),
+        Err(refusal) => refused(refusal, latest),
     }
 }

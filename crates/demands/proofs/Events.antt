@@ -24,10 +24,7 @@ use Rattle.sending.proofs.Seen.{too_big_seen, takes_message, seen_after, sent_se
 use Rattle.sending.specs.declared.SendAnswer.{SendAnswer}
 use Rattle.sending.specs.declared.SendAnswer.TheVariants as sent
 use Rattle.reports.specs.Report.{judged_of, neighbour_in, accepted_below, answer_at}
-use Rattle.reports.specs.declared.Judged.{Judged}
-use Rattle.reports.specs.declared.Judged.TheVariants as judged
-use Rattle.reports.specs.declared.ReportAnswer.{ReportAnswer}
-use Rattle.reports.specs.declared.ReportAnswer.TheVariants as reported
+use Rattle.reports.specs.declared.Report.{Report}
 use Rattle.node.specs.Node.{pick, service_of, has_service, path_size_at}
 use Rattle.node.specs.Send.{path_size_toward, sent_by, send_of}
 use Rattle.node.specs.Report.{quotes_other, reported_to, paths_after, report_answer_of, report_of}
@@ -51,9 +48,9 @@ abbrev pub links_of : Settings → Settings → ℕ → ℕ
 links_of a b i = cond (eqb i 0) a.link_size b.link_size
 
 -- a report of the service i that 16, 17 or 18 refuses is none
-abbrev judged_call : ℕ → Judged → PathCall
-judged_call i (judged.Report v c) = report i v c
-judged_call i (judged.Refused r) = clock 0
+abbrev judged_call : ℕ → Result Report Refusal → PathCall
+judged_call i (Ok r) = report i r.neighbour r.size
+judged_call i (Err r) = clock 0
 
 -- what a node's services see of a call, with that much room in the output
 module _ (a b : Settings) (both : ℕ) where
@@ -97,24 +94,24 @@ there_seen true service P packet hop k room =
     ∙ sym (sent_seen service.settings service.identification P packet hop k room)
 there_seen false service P packet hop k room = rw (and_false (ltb (largest_packet P) (length packet)))
 
-abbrev report_seen : ReportAnswer → Answer
-report_seen (reported.Accepted v c) = accepted v c
-report_seen (reported.Refused r) = not_below
+abbrev report_seen : Result Report Refusal → Answer
+report_seen (Ok r) = accepted r.neighbour r.size
+report_seen (Err r) = not_below
 
 -- what is seen of the answer to a judged report
-abbrev judged_seen : Judged → ReportAnswer → Answer
-judged_seen (judged.Report v c) a = report_seen a
-judged_seen (judged.Refused r) a = other
+abbrev judged_seen : Result Report Refusal → Result Report Refusal → Answer
+judged_seen (Ok r) a = report_seen a
+judged_seen (Err r) a = other
 
-below_seen : (b : Bool) (v c : ℕ) (r : ReportAnswer) → report_seen r ≡ not_below → cond b (accepted v c) not_below ≡ report_seen (cond b (reported.Accepted v c) r)
-below_seen true v c r e = refl
-below_seen false v c r e = sym e
+below_seen : (b : Bool) (r : Report) (x : Refusal) → cond b (accepted r.neighbour r.size) not_below ≡ report_seen (cond b (Ok r) (Err x))
+below_seen true r x = refl
+below_seen false r x = refl
 
 module _ (links : ℕ → ℕ) (now : ℕ) (t : PathTable) where
-  report_seen_lem : (i : ℕ) (j : Judged) → answer table largest_packet links t now (judged_call i j) ≡ judged_seen j (answer_at j (in_force (links i) (kept_in t (neighbour_in j) now)))
+  report_seen_lem : (i : ℕ) (j : Result Report Refusal) → answer table largest_packet links t now (judged_call i j) ≡ judged_seen j (answer_at j (in_force (links i) (kept_in t (neighbour_in j) now)))
   unfolding accepted_below
-  report_seen_lem i (judged.Report v c) = below_seen (is_below c (in_force (links i) (kept_in t v now))) v c _ refl
-  report_seen_lem i (judged.Refused r) = refl
+  report_seen_lem i (Ok r) = below_seen (is_below r.size (in_force (links i) (kept_in t r.neighbour now))) r _
+  report_seen_lem i (Err r) = refl
 
 module _ (now : ℕ) (t : PathTable) where
   sent_remembered : (a : SendAnswer) → remembered table t now (too_big_seen a) ≡ t
@@ -122,17 +119,17 @@ module _ (now : ℕ) (t : PathTable) where
   sent_remembered (sent.TooBig size n) = refl
   sent_remembered (sent.Refused r) = refl
 
-  report_remembered : (a : ReportAnswer) → remembered table t now (report_seen a) ≡ paths_after a t now
-  report_remembered (reported.Accepted v c) = refl
-  report_remembered (reported.Refused r) = refl
+  report_remembered : (a : Result Report Refusal) → remembered table t now (report_seen a) ≡ paths_after a t now
+  report_remembered (Ok r) = refl
+  report_remembered (Err r) = refl
 
-  judged_remembered : (j : Judged) (P : ℕ) → remembered table t now (judged_seen j (answer_at j P)) ≡ paths_after (answer_at j P) t now
-  judged_remembered (judged.Report v c) P = report_remembered (answer_at (judged.Report v c) P)
-  judged_remembered (judged.Refused r) P = refl
+  judged_remembered : (j : Result Report Refusal) (P : ℕ) → remembered table t now (judged_seen j (answer_at j P)) ≡ paths_after (answer_at j P) t now
+  judged_remembered (Ok r) P = report_remembered (answer_at (Ok r) P)
+  judged_remembered (Err r) P = refl
 
-judged-latest : (i : ℕ) (j : Judged) (now : ℕ) → latest now (judged_call i j) ≡ now
-judged-latest i (judged.Report v c) now = refl
-judged-latest i (judged.Refused r) now = omega arith
+judged-latest : (i : ℕ) (j : Result Report Refusal) (now : ℕ) → latest now (judged_call i j) ≡ now
+judged-latest i (Ok r) now = refl
+judged-latest i (Err r) now = omega arith
 
 -- ---- events
 
@@ -141,13 +138,13 @@ sent_event_lem (sent.Wrapped k) n = refl
 sent_event_lem (sent.TooBig size k) n = refl
 sent_event_lem (sent.Refused r) n = refl
 
-report_event_lem : (a : ReportAnswer) (j v i w c : ℕ) → event_of j v (report i w c) (report_seen a) ≡ reported_event v a
-report_event_lem (reported.Accepted u d) j v i w c = refl
-report_event_lem (reported.Refused r) j v i w c = refl
+report_event_lem : (a : Result Report Refusal) (j v i w c : ℕ) → event_of j v (report i w c) (report_seen a) ≡ reported_event v a
+report_event_lem (Ok r) j v i w c = refl
+report_event_lem (Err r) j v i w c = refl
 
-judged_event : (i : ℕ) (q : Judged) (j v P : ℕ) → event_of j v (judged_call i q) (judged_seen q (answer_at q P)) ≡ reported_event v (answer_at q P)
-judged_event i (judged.Report w c) j v P = report_event_lem (answer_at (judged.Report w c) P) j v i w c
-judged_event i (judged.Refused r) j v P = refl
+judged_event : (i : ℕ) (q : Result Report Refusal) (j v P : ℕ) → event_of j v (judged_call i q) (judged_seen q (answer_at q P)) ≡ reported_event v (answer_at q P)
+judged_event i (Ok r) j v P = report_event_lem (answer_at (Ok r) P) j v i r.neighbour r.size
+judged_event i (Err r) j v P = refl
 
 -- services are the same where their numbers are
 same_place : (u w : ServiceName) → eqb (place_of u) (place_of w) ≡ is_same u w
@@ -219,9 +216,9 @@ module _ (w : ServiceName) (v : ℕ) where
         (after (a_sending u packet hop k) l)
     clocked (a_report m) l =
         let u : ServiceName = reported_to n m in
-        let j : Judged = judged_of (service_of n u).settings m in
+        let j : Result Report Refusal = judged_of (service_of n u).settings m in
         let P : ℕ = path_size_at n u (neighbour_in j) now in
-        let x : ReportAnswer = answer_at j P in
+        let x : Result Report Refusal = answer_at j P in
         one_more (place_of w) v links n.paths o.node.paths now o.node.latest (judged_call (place_of u) (judged_of (pick u a b) m)) (judged_seen j x) (reported_event v x)
         rest (spaced (node_events w choice v o.node xs))
         (rw (own-settings n u) (report_seen_lem links now n.paths (place_of u) j ∙ ap (λ (p : ℕ). judged_seen j (answer_at j p)) (own_link n u (neighbour_in j) now)))

@@ -1,5 +1,6 @@
 -- The plain record keeps up with the node: the same settings and latest time, and the table of the record's entries. Assumes nothing.
-use Rattle.std.specs.Prelude.{Option, None, Some}
+use Rattle.std.specs.Prelude.{Option, None, Some, Result, Ok, Err}
+use Rattle.refusals.specs.declared.Refusal.{Refusal}
 use Prim.Native.Nat.{ℕ, max}
 use mathlib.Core.Path.{◌≡◌, refl, sym, ap, ◌∙◌}
 use mathlib.Core.Bool.{Bool, true, false, cond}
@@ -15,8 +16,7 @@ use Rattle.paths.specs.declared.PathTable.{PathTable}
 use Rattle.paths.proofs.Answers.{same_in_force}
 use Rattle.sending.specs.Sending.{sent_of, send_given}
 use Rattle.reports.specs.Report.{judged_of, neighbour_in, answer_at, answer_toward, report_given}
-use Rattle.reports.specs.declared.ReportAnswer.{ReportAnswer}
-use Rattle.reports.specs.declared.ReportAnswer.TheVariants.{Accepted, Refused}
+use Rattle.reports.specs.declared.Report.{Report}
 use Rattle.node.specs.Node.{service_from, node_of, pair_of, setup_of, setup_pair_of, service_of, has_service, path_size_at}
 use Rattle.node.specs.Send.{sent_by, send_of}
 use Rattle.node.specs.Report.{quotes_other, reported_to, paths_after, report_answer_of}
@@ -65,10 +65,10 @@ no_some b e = let z : ◌≡◌ {A = ℕ} 0 1 = ap marked e in omega arith
     marked (Some t) = 1
 
 -- what an answer to a report leaves of both
-same_entries : (r : Plain) (a : ReportAnswer) (t : PathTable) → t ≡ table_of r.entries
+same_entries : (r : Plain) (a : Result Report Refusal) (t : PathTable) → t ≡ table_of r.entries
     → (paths_after a t r.latest ≡ table_of (entered r a).entries) × ((entered r a).latest ≡ r.latest)
-same_entries r (Accepted v c) t e = (rw e, refl)
-same_entries r (Refused x) t e = (e, refl)
+same_entries r (Ok report) t e = (rw e, refl)
+same_entries r (Err x) t e = (e, refl)
 
 module _ (s : Start) where
   module _ (n : Node) (r : Plain) (f : Follows s n r) where
@@ -123,7 +123,7 @@ module _ (s : Start) where
     unfolding report_answer_of
     same-report m time = go s.second f.second
       where
-        answered : ServiceName → ReportAnswer
+        answered : ServiceName → Result Report Refusal
         answered w = answer_at (judged_of (service_of n w).settings m) (path_size_at n w (neighbour_in (judged_of (service_of n w).settings m)) (max n.latest time))
 
         pick_by : (b : Settings) → n.second.settings ≡ b → (q : Bool) → answered (cond q Second First) ≡ answer_toward (cond q b s.first) m (plain_size (cond q b s.first) (raised r time))

@@ -1,5 +1,6 @@
 -- Neither service sees how the other is set up: two nodes that are alike to the service beside x stay so. Assumes nothing.
-use Rattle.std.specs.Prelude.{Option, None, Some}
+use Rattle.std.specs.Prelude.{Option, None, Some, Result}
+use Rattle.refusals.specs.declared.Refusal.{Refusal}
 use Prim.Native.Nat.{ℕ, max}
 use mathlib.Core.Path.{◌≡◌, refl, sym, ap, subst, ◌∙◌}
 use mathlib.Core.Logic.{◌⊎◌, ⊎_elim, inl, inr}
@@ -13,7 +14,7 @@ use Rattle.settings.specs.Settings.{forbidden_to, is_ours, is_bad_end}
 use Rattle.settings.specs.declared.Settings.{Settings}
 use Rattle.paths.specs.Table.{no_reports}
 use Rattle.reports.specs.Report.{is_quote_foreign, report_check, judged_of, neighbour_in, answer_at, report_given}
-use Rattle.reports.specs.declared.ReportAnswer.{ReportAnswer}
+use Rattle.reports.specs.declared.Report.{Report}
 use Rattle.advertisements.specs.declared.Advertisement.{Advertisement}
 use Rattle.node.specs.Node.{no_settings, service_from, node_of, pair_of, service_of, has_service, node_with, path_size_at}
 use Rattle.node.specs.Size.{path_size_of}
@@ -168,7 +169,7 @@ module _ (x : ServiceName) (n m : Node) (a : Alike x n m) where
   unfolding path_size_at
   size_same w v time = rw ((alike w).link_size, a.paths, a.latest)
 
-  abbrev answered : Node → ServiceName → List ℕ → ℕ → ReportAnswer
+  abbrev answered : Node → ServiceName → List ℕ → ℕ → Result Report Refusal
   answered k w r now = answer_at (judged_of (service_of k w).settings r) (path_size_at k w (neighbour_in (judged_of (service_of k w).settings r)) now)
 
   by_name : (w : ServiceName) (r : List ℕ) (time : ℕ) → answered n w r (max n.latest time) ≡ answered m w r (max m.latest time)

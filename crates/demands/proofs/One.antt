@@ -24,8 +24,7 @@ use Rattle.sending.proofs.Leaves.{message_of, refused_leaves, too_big_leaves}
 use Rattle.sending.specs.Sending.{send_given}
 use Rattle.sending.specs.declared.SendAnswer.{SendAnswer}
 use Rattle.sending.specs.declared.SendAnswer.TheVariants as sent
-use Rattle.reports.specs.declared.ReportAnswer.{ReportAnswer}
-use Rattle.reports.specs.declared.ReportAnswer.TheVariants as reported
+use Rattle.reports.specs.declared.Report.{Report}
 use Rattle.asking.specs.Ask.{ask_given}
 use Rattle.asking.proofs.Laws as asking
 use Rattle.hearing.specs.Heard.{heard_given}
@@ -207,11 +206,11 @@ module _ (n : Node) (w : ServiceName) (full : length (service_of n w).settings.r
       let l = refused-sending (has_service n w) (service_of n w) full (path_size_toward n w hop time) packet hop k out r e in
       refuses n (view_of (sending w packet hop k time out)) _ r (ap send_given e) (same-identification n w time _ l.0) l.1
 
-reporting_refusing : (n : Node) (m : List ℕ) (time : ℕ) (a : ReportAnswer) → report_answer_of n m (max n.latest time) ≡ a
+reporting_refusing : (n : Node) (m : List ℕ) (time : ℕ) (a : Result Report Refusal) → report_answer_of n m (max n.latest time) ≡ a
     → Refusing n (view_of (reporting m time)) (outcome_of n (reporting m time))
 unfolding report_of raised_to
-reporting_refusing n m time (reported.Accepted v c) e = answers n (view_of (reporting m time)) _ (v ∷ c ∷ []) (rw e)
-reporting_refusing n m time (reported.Refused r) e = refuses n (view_of (reporting m time)) _ r (rw e) (rw e) refl
+reporting_refusing n m time (Ok report) e = answers n (view_of (reporting m time)) _ (report.neighbour ∷ report.size ∷ []) (rw e)
+reporting_refusing n m time (Err r) e = refuses n (view_of (reporting m time)) _ r (rw e) (rw e) refl
 
 relisting_refusing : (n : Node) (w : ServiceName) (addresses : List ℕ) (count time : ℕ) (b : Bool) → (has_service n w && are_routers_right (service_of n w).settings addresses count) ≡ b
     → Refusing n (view_of (relisting w addresses count time)) (outcome_of n (relisting w addresses count time))

@@ -1,4 +1,5 @@
 -- Demand 2 holds of every node: each call's own law, at what is in force. Assumes nothing.
+use Rattle.std.specs.Prelude.{Err}
 use Prim.Native.Nat.{ℕ, max}
 use mathlib.Core.Path.{◌≡◌, refl, sym, ap, ◌∙◌}
 use mathlib.Core.Bool.{Bool, true, false, cond, not, ◌&&◌, false≢true}
@@ -17,7 +18,6 @@ use Rattle.pieces.proofs.Exactly.{piece-exactly}
 use Rattle.pieces.proofs.History.{history_tells}
 use Rattle.pieces.proofs.ByHistory.{history_exactly}
 use Rattle.reports.specs.Accepts.{WellFormed, ReportedExactly}
-use Rattle.reports.specs.declared.ReportAnswer.TheVariants as report
 use Rattle.reports.proofs.AcceptsLaws.{reported-exactly}
 use Rattle.sending.specs.Exactly.{SentExactly}
 use Rattle.sending.specs.Sending.{sent_of, sent_output}
@@ -201,11 +201,11 @@ module _ (n : Node) (m : List ℕ) where
     not_first : (Quotes n First m → ⊥) → y ≡ false
     not_first h = refutes y (decides_ours n.first.settings source) (λ o. h (tt, o))
 
-    neither-answer : WellFormed m → (Quotes n First m → ⊥) → (Quotes n Second m → ⊥) → (report_of n m time).answer ≡ report.Refused refusal.QuoteNotOurs
+    neither-answer : WellFormed m → (Quotes n First m → ⊥) → (Quotes n Second m → ⊥) → (report_of n m time).answer ≡ Err refusal.QuoteNotOurs
     neither-answer formed f s =
         (answer-of First (belongs ∙ of_none x y z (not_first f) (refutes (x && z) (decides_quotes Second) s))).not_ours formed (λ v o. f (tt, o.source))
 
-    malformed-answer : (WellFormed m → ⊥) → (report_of n m time).answer ≡ report.Refused refusal.ReportMalformed
+    malformed-answer : (WellFormed m → ⊥) → (report_of n m time).answer ≡ Err refusal.ReportMalformed
     malformed-answer wrong = (answer-of (reported_to n m) refl).malformed wrong
 
     pub reports : Reports n m time

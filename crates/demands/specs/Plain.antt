@@ -1,5 +1,6 @@
 -- The plain record of demand 3 (R11), one for both services: fed the settings and the calls, and no answers.
-use Rattle.std.specs.Prelude.{ℕ, max, cond, List, [], ◌∷◌, length, Option, None, Some}
+use Rattle.std.specs.Prelude.{ℕ, max, cond, List, [], ◌∷◌, length, Option, None, Some, Result, Ok, Err}
+use Rattle.refusals.specs.declared.Refusal.{Refusal}
 use Rattle.refusals.specs.Given.{Given}
 use Rattle.refusals.specs.declared.Refusal.TheVariants.{NoLocator}
 use Rattle.address.specs.Address.{last_quad}
@@ -10,8 +11,7 @@ use Rattle.sending.specs.Sending.{answer_of, send_given}
 use Rattle.sending.specs.declared.SendAnswer.{SendAnswer}
 use Rattle.sending.specs.declared.SendAnswer.TheVariants as sent
 use Rattle.reports.specs.Report.{answer_toward, report_given}
-use Rattle.reports.specs.declared.ReportAnswer.{ReportAnswer}
-use Rattle.reports.specs.declared.ReportAnswer.TheVariants.{Accepted, Refused}
+use Rattle.reports.specs.declared.Report as reports
 use Rattle.node.specs.Report.{quotes_other}
 use Rattle.node.specs.declared.Node.{Node}
 use Rattle.demands.specs.Starts.{Start, settings_of}
@@ -31,9 +31,9 @@ abbrev pub raised : Plain → ℕ → Plain
 raised r time = record { latest = max r.latest time; entries = r.entries }
 
 -- neighbour and candidate are its answer and, with the latest time, the new last entry. Nothing else changes the record (R11.5, R11.6)
-abbrev pub entered : Plain → ReportAnswer → Plain
-entered r (Accepted v c) = record { latest = r.latest; entries = record_after r.entries v c r.latest }
-entered r (Refused n) = r
+abbrev pub entered : Plain → Result reports.Report Refusal → Plain
+entered r (Ok report) = record { latest = r.latest; entries = record_after r.entries report.neighbour report.size r.latest }
+entered r (Err n) = r
 
 -- its size toward a neighbour, for a service of these settings: ages are taken at its latest time (R11.7, R26.6)
 abbrev pub plain_size : Settings → Plain → ℕ → ℕ
@@ -52,7 +52,7 @@ sent_with (Some t) r packet hop k room = answer_of t (plain_size t r (last_quad 
 module _ (s : Start) where
   -- the first of 16, 17, 18 that its bytes and the settings of its service give, else 19 if its candidate is not below the record's size
   -- toward its neighbour (R11.4)
-  abbrev pub plain_report : Plain → List ℕ → ReportAnswer
+  abbrev pub plain_report : Plain → List ℕ → Result reports.Report Refusal
   plain_report r m =
       let t : Settings = reported_with s.first s.second m in
       answer_toward t m (plain_size t r)

@@ -1,11 +1,11 @@
 -- A sender of demand 3: any choice of the list's sending calls through one service with one neighbour, and what each call is to it.
-use Rattle.std.specs.Prelude.{ℕ, suc, Bool, cond, ◌&&◌, List, [], ◌∷◌, eqb, length}
+use Rattle.std.specs.Prelude.{ℕ, suc, Bool, cond, ◌&&◌, List, [], ◌∷◌, eqb, length, Result, Ok, Err}
+use Rattle.refusals.specs.declared.Refusal.{Refusal}
 use Rattle.address.specs.Address.{last_quad}
 use Rattle.paths.specs.Sender.{Event, told, passed, lowered, nothing}
 use Rattle.sending.specs.declared.SendAnswer.{SendAnswer}
 use Rattle.sending.specs.declared.SendAnswer.TheVariants.{Wrapped, TooBig, Refused}
-use Rattle.reports.specs.declared.ReportAnswer.{ReportAnswer}
-use Rattle.reports.specs.declared.ReportAnswer.TheVariants as report
+use Rattle.reports.specs.declared.Report.{Report}
 use Rattle.node.specs.Send.{send_of}
 use Rattle.node.specs.Report.{report_of}
 use Rattle.node.specs.declared.Node.{Node}
@@ -19,9 +19,9 @@ sent_event n (Wrapped written) = passed n
 sent_event n (Refused r) = passed n
 
 -- an accepted report for the neighbour v
-abbrev pub reported_event : ℕ → ReportAnswer → Event
-reported_event v (report.Accepted w c) = cond (eqb w v) lowered nothing
-reported_event v (report.Refused r) = nothing
+abbrev pub reported_event : ℕ → Result Report Refusal → Event
+reported_event v (Ok report) = cond (eqb report.neighbour v) lowered nothing
+reported_event v (Err r) = nothing
 
 -- a call with that time and room to the sender through the service w with neighbour v, where `mine` says whether it is one of the sender's; a
 -- report counts whichever service it belongs to

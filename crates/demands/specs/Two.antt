@@ -23,7 +23,6 @@ use Rattle.settings.specs.declared.Settings.{Settings}
 use Rattle.header.specs.Fields.{quad_at}
 use Rattle.header.specs.Outer.{quote_of}
 use Rattle.reports.specs.Accepts.{WellFormed, ReportedExactly}
-use Rattle.reports.specs.declared.ReportAnswer.TheVariants as report
 use Rattle.sending.specs.Exactly.{SentExactly}
 use Rattle.sending.specs.declared.SendAnswer.TheVariants as sent
 use Rattle.receiving.specs.Admitted.{DeliveredExactly}
@@ -270,8 +269,8 @@ module _ (n : Node) where
     pub first : Quotes First m → ReportedExactly n.first.settings m (λ v. path_size_at n First v (max n.latest time)) (report_of n m time).answer
     pub second : (Quotes First m → ⊥) → Quotes Second m
         → ReportedExactly n.second.settings m (λ v. path_size_at n Second v (max n.latest time)) (report_of n m time).answer
-    pub malformed : (WellFormed m → ⊥) → (report_of n m time).answer ≡ report.Refused refusal.ReportMalformed
-    pub neither : WellFormed m → (Quotes First m → ⊥) → (Quotes Second m → ⊥) → (report_of n m time).answer ≡ report.Refused refusal.QuoteNotOurs
+    pub malformed : (WellFormed m → ⊥) → (report_of n m time).answer ≡ Err refusal.ReportMalformed
+    pub neither : WellFormed m → (Quotes First m → ⊥) → (Quotes Second m → ⊥) → (report_of n m time).answer ≡ Err refusal.QuoteNotOurs
     pub node : (report_of n m time).node ≡ node_keeping n (paths_after (report_of n m time).answer n.paths (max n.latest time)) time
 
   -- every call on the node

@@ -1,14 +1,13 @@
 -- The call with a size report (R9): answer and next node.
-use Rattle.std.specs.Prelude.{ℕ, max, Bool, cond, not, ◌&&◌, List, ltb}
+use Rattle.std.specs.Prelude.{ℕ, max, Bool, cond, not, ◌&&◌, List, ltb, Result, Ok, Err}
 use Rattle.header.specs.Outer.{outer_of, quote_of}
 use Rattle.paths.specs.Table.{table_after}
 use Rattle.paths.specs.declared.PathTable.{PathTable}
 use Rattle.settings.specs.Settings.{is_ours}
 use Rattle.settings.specs.declared.Settings.{Settings}
 use Rattle.reports.specs.Report.{judged_of, neighbour_in, answer_at}
-use Rattle.reports.specs.declared.Judged.{Judged}
-use Rattle.reports.specs.declared.ReportAnswer.{ReportAnswer}
-use Rattle.reports.specs.declared.ReportAnswer.TheVariants.{Accepted, Refused}
+use Rattle.refusals.specs.declared.Refusal.{Refusal}
+use Rattle.reports.specs.declared.Report.{Report}
 use Rattle.node.specs.Node.{service_of, node_keeping, path_size_at}
 use Rattle.node.specs.declared.Node.{Node}
 use Rattle.node.specs.declared.ServiceName.{ServiceName}
@@ -25,21 +24,21 @@ unfoldable pub reported_to : Node → List ℕ → ServiceName
 reported_to node m = cond (ltb 0 node.both && quotes_other node.first.settings node.second.settings m) Second First
 
 -- an accepted report is the neighbour's last
-abbrev pub paths_after : ReportAnswer → PathTable → ℕ → PathTable
-paths_after (Accepted v c) table now = table_after table v c now
-paths_after (Refused r) table now = table
+abbrev pub paths_after : Result Report Refusal → PathTable → ℕ → PathTable
+paths_after (Ok report) table now = table_after table report.neighbour report.size now
+paths_after (Err refusal) table now = table
 
 -- 16, 17 and 18 by the settings of its service and the bytes, 19 by the service's size in force toward the neighbour
-unfoldable pub report_answer_of : Node → List ℕ → ℕ → ReportAnswer
+unfoldable pub report_answer_of : Node → List ℕ → ℕ → Result Report Refusal
 report_answer_of node m now =
     let name : ServiceName = reported_to node m in
-    let j : Judged = judged_of (service_of node name).settings m in
+    let j : Result Report Refusal = judged_of (service_of node name).settings m in
     answer_at j (path_size_at node name (neighbour_in j) now)
 
 -- what the node makes of it, now: the answer, and the path table afterwards
 abbrev pub reported_by : Node → List ℕ → ℕ → ReportStep
 reported_by node m now =
-    let a : ReportAnswer = report_answer_of node m now in
+    let a : Result Report Refusal = report_answer_of node m now in
     record { answer = a; paths = paths_after a node.paths now }
 
 -- the answer and the next node, whose path sizes are those that the report leaves

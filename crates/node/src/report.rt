@@ -6,37 +6,38 @@ ghost use Rattle.node.specs.Report.{paths_after, reported_to, reported_by, repor
 use super::{Node, ServiceName};
 use header::outer;
 use paths::PathTable;
-use reports::{Judged, ReportAnswer};
+use refusals::Refusal;
+use reports::Report;
 
 #[derive(Clone, Copy)]
 pub struct Reported {
-    pub answer: ReportAnswer,
+    pub answer: Result<Report, Refusal>,
     pub node: Node,
 }
 
 // The answer to a report, and the path table afterwards.
 #[derive(Clone, Copy)]
 pub struct ReportStep {
-    pub answer: ReportAnswer,
+    pub answer: Result<Report, Refusal>,
     pub paths: PathTable,
 }
 
 // The neighbour that a judged report names.
-fn neighbour_in(judged: Judged) -> u32
+fn neighbour_in(judged: Result<Report, Refusal>) -> u32
     ensures { result ≡ neighbour_in judged }
 {
     match judged {
-        Judged::Report { neighbour, size: _ } => neighbour,
-        Judged::Refused(_) => 0,
+        Ok(report) => report.neighbour,
+        Err(_) => 0,
     }
 }
 
-fn paths_after(answer: ReportAnswer, table: PathTable, now: u32) -> PathTable
+fn paths_after(answer: Result<Report, Refusal>, table: PathTable, now: u32) -> PathTable
     ensures { result ≡ paths_after answer table now }
 {
     match answer {
-        ReportAnswer::Accepted { neighbour, size } => table.accepted(neighbour, size, now),
-        ReportAnswer::Refused(_) => table,
+        Ok(report) => table.accepted(report.neighbour, report.size, now),
+        Err(_) => table,
     }
 }
 

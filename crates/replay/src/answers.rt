@@ -5,7 +5,7 @@ use header::fields;
 use input::section;
 use receiving::Received;
 use refusals::Refusal;
-use reports::ReportAnswer;
+use reports::Report;
 use sending::SendAnswer;
 use text::digests;
 
@@ -68,13 +68,17 @@ fn sent(answer: SendAnswer, at: usize, text: &mut Text) -> usize {
     }
 }
 
-pub(crate) fn report(answer: ReportAnswer, at: usize, text: &mut Text) -> usize {
+pub(crate) fn report(answer: Result<Report, Refusal>, at: usize, text: &mut Text) -> usize {
     match answer {
-        ReportAnswer::Accepted { neighbour, size } => {
-            let end = line::address(neighbour, line::words(b"report accepted", at, text), text);
-            line::number(size, end, text)
+        Ok(report) => {
+            let end = line::address(
+                report.neighbour,
+                line::words(b"report accepted", at, text),
+                text,
+            );
+            line::number(report.size, end, text)
         }
-        ReportAnswer::Refused(refusal) => refused(b"report refuse", refusal, at, text),
+        Err(refusal) => refused(b"report refuse", refusal, at, text),
     }
 }
 

@@ -19,11 +19,9 @@ use Rattle.refusals.proofs.Laws.{all_false, all_pass}
 use Rattle.settings.specs.Settings.{is_ours, is_bad_end}
 use Rattle.settings.proofs.Facts.{decides_ours, decides_bad_end}
 use Rattle.settings.specs.declared.Settings.{Settings}
-use Rattle.reports.specs.Report.{least_message, is_report_malformed, is_quote_foreign, report_rows, report_check, neighbour_of, candidate_for, judged_of, answer_toward}
+use Rattle.reports.specs.Report.{report_to, least_message, is_report_malformed, is_quote_foreign, report_rows, report_check, neighbour_of, candidate_for, judged_of, answer_toward}
 use Rattle.reports.specs.Accepts.{WellFormed, OfOurs, AsksFor, Accepts, ReportedExactly}
 use Rattle.reports.proofs.Laws.{judged-report, passed-judged, accepted-below, below-accepted, not-below-refused}
-use Rattle.reports.specs.declared.Judged.TheVariants as judged
-use Rattle.reports.specs.declared.ReportAnswer.TheVariants.{Accepted}
 
 -- a test that is false only where the fact holds is true where it does not
 otherwise : {F : Type 0} (t : Bool) → (t ≡ false → F) → (F → ⊥) → t ≡ true
@@ -101,7 +99,7 @@ module _ (s : Settings) (m : List ℕ) where
   destination v o = o.neighbour
 
   module _ (size : ℕ → ℕ) where
-    accepted_accepts : (v c : ℕ) → answer_toward s m size ≡ Accepted v c → Accepts s m (size v) v c
+    accepted_accepts : (v c : ℕ) → answer_toward s m size ≡ Ok (report_to v c) → Accepts s m (size v) v c
     unfolding report_check candidate_for
     accepted_accepts v c e =
         let a = accepted-below (judged_of s m) _ v c e in
@@ -115,7 +113,7 @@ module _ (s : Settings) (m : List ℕ) where
         }
 
     -- a report that passes 16, 17 and 18 is judged by the size toward its neighbour
-    toward : (v c : ℕ) → WellFormed m → OfOurs s m v → AsksFor m c → judged_of s m ≡ judged.Report v c
+    toward : (v c : ℕ) → WellFormed m → OfOurs s m v → AsksFor m c → judged_of s m ≡ Ok (report_to v c)
     unfolding candidate_for
     toward v c f o k = passed-judged s m v c (passes_check v f o) (destination v o) (is-candidate _ _ c k)
 

@@ -1,15 +1,16 @@
 -- Demand 2 of size reports, said in plain facts: a report is accepted exactly when the rules admit it, with its neighbour and size, and
 -- each refusal is given when they say.
-use Rattle.std.specs.Prelude.{ℕ, ◌*◌, ◌/◌, ◌%◌, ◌≤◌, ◌<◌, ◌≡◌, ◌↔◌, List, length, get_or}
+use Rattle.std.specs.Prelude.{ℕ, ◌*◌, ◌/◌, ◌%◌, ◌≤◌, ◌<◌, ◌≡◌, ◌↔◌, List, length, get_or, Result, Ok, Err}
 use Rattle.checksum.specs.Sum.{ones_sum}
 use Rattle.header.specs.Fields.{word_at, quad_at}
 use Rattle.header.specs.Outer.{quote_of}
 use Rattle.paths.specs.Largest.{CandidateIs}
+use Rattle.refusals.specs.declared.Refusal.{Refusal}
 use Rattle.refusals.specs.declared.Refusal.TheVariants.{ReportMalformed, QuoteNotOurs, SizeUnusable, SizeNotBelow}
 use Rattle.settings.specs.Facts.{ForbiddenTo, Ours}
 use Rattle.settings.specs.declared.Settings.{Settings}
-use Rattle.reports.specs.declared.ReportAnswer.{ReportAnswer}
-use Rattle.reports.specs.declared.ReportAnswer.TheVariants.{Accepted, Refused}
+use Rattle.reports.specs.Report.{report_to}
+use Rattle.reports.specs.declared.Report.{Report}
 
 -- 16 does not hold of a message m
 pub record WellFormed (m : List ℕ) : Type 0 where
@@ -45,9 +46,9 @@ pub record Accepts (s : Settings) (m : List ℕ) (P v c : ℕ) : Type 0 where
   pub below : c < P
 
 -- the claim, of the answer to a message, where `size` is the size in force toward each neighbour
-pub record ReportedExactly (s : Settings) (m : List ℕ) (size : ℕ → ℕ) (answer : ReportAnswer) : Type 0 where
-  pub accepted : (v c : ℕ) → (answer ≡ Accepted v c) ↔ Accepts s m (size v) v c
-  pub malformed : (WellFormed m → ⊥) → answer ≡ Refused ReportMalformed
-  pub not_ours : WellFormed m → ((v : ℕ) → OfOurs s m v → ⊥) → answer ≡ Refused QuoteNotOurs
-  pub unusable : (v : ℕ) → WellFormed m → OfOurs s m v → ((c : ℕ) → AsksFor m c → ⊥) → answer ≡ Refused SizeUnusable
-  pub not_below : (v c : ℕ) → WellFormed m → OfOurs s m v → AsksFor m c → size v ≤ c → answer ≡ Refused SizeNotBelow
+pub record ReportedExactly (s : Settings) (m : List ℕ) (size : ℕ → ℕ) (answer : Result Report Refusal) : Type 0 where
+  pub accepted : (v c : ℕ) → (answer ≡ Ok (report_to v c)) ↔ Accepts s m (size v) v c
+  pub malformed : (WellFormed m → ⊥) → answer ≡ Err ReportMalformed
+  pub not_ours : WellFormed m → ((v : ℕ) → OfOurs s m v → ⊥) → answer ≡ Err QuoteNotOurs
+  pub unusable : (v : ℕ) → WellFormed m → OfOurs s m v → ((c : ℕ) → AsksFor m c → ⊥) → answer ≡ Err SizeUnusable
+  pub not_below : (v c : ℕ) → WellFormed m → OfOurs s m v → AsksFor m c → size v ≤ c → answer ≡ Err SizeNotBelow

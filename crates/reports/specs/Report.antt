@@ -1,5 +1,5 @@
 -- Some reports (R9): 16, 17 and 18 by the settings and the bytes alone, then 19 by the size in force.
-use Rattle.std.specs.Prelude.{ℕ, ◌+◌, Bool, cond, not, ◌||◌, List, [], ◌∷◌, eqb, ltb, length, get_or, Option, Some, None, Result}
+use Rattle.std.specs.Prelude.{ℕ, ◌+◌, Bool, cond, not, ◌||◌, List, [], ◌∷◌, eqb, ltb, length, get_or, Option, Some, None, Result, Ok, Err}
 use Rattle.checksum.specs.Sum.{is_right}
 use Rattle.header.specs.Fields.{word_at}
 use Rattle.header.specs.Numbers.{outer_header, ipv6}
@@ -12,10 +12,11 @@ use Rattle.refusals.specs.declared.Refusal.{Refusal}
 use Rattle.refusals.specs.declared.Refusal.TheVariants.{ReportMalformed, QuoteNotOurs, SizeUnusable, SizeNotBelow}
 use Rattle.settings.specs.Settings.{is_ours, is_bad_end}
 use Rattle.settings.specs.declared.Settings.{Settings}
-use Rattle.reports.specs.declared.Judged.{Judged}
-use Rattle.reports.specs.declared.Judged.TheVariants as judged
-use Rattle.reports.specs.declared.ReportAnswer.{ReportAnswer}
-use Rattle.reports.specs.declared.ReportAnswer.TheVariants as answer
+use Rattle.reports.specs.declared.Report.{Report}
+
+-- a report that asks for the size c toward the neighbour v
+abbrev pub report_to : ℕ → ℕ → Report
+report_to v c = record { neighbour = v; size = c }
 
 -- a message of 8 bytes and the least IPv4 header: 28 bytes
 abbrev pub least_message : ℕ
@@ -52,33 +53,33 @@ unfoldable pub candidate_for : List ℕ → Option ℕ
 candidate_for m = candidate_of (word_at m 6) (word_at (quote_of m) 2)
 
 -- 18: below 68, or no plateau
-abbrev pub judged_as : ℕ → Option ℕ → Judged
-judged_as v (Some c) = judged.Report v c
-judged_as v None = judged.Refused SizeUnusable
+abbrev pub judged_as : ℕ → Option ℕ → Result Report Refusal
+judged_as v (Some c) = Ok (report_to v c)
+judged_as v None = Err SizeUnusable
 
 -- the first of 16, 17 and 18 that a report's bytes and the settings give, else its neighbour and its candidate
-unfoldable pub judged_of : Settings → List ℕ → Judged
-judged_of s m = stop_or judged.Refused (report_check s m (outer_of (quote_of m))) (judged_as (neighbour_of m) (candidate_for m))
+unfoldable pub judged_of : Settings → List ℕ → Result Report Refusal
+judged_of s m = stop_or Err (report_check s m (outer_of (quote_of m))) (judged_as (neighbour_of m) (candidate_for m))
 
 -- the neighbour of a report that 16, 17 and 18 pass
-abbrev pub neighbour_in : Judged → ℕ
-neighbour_in (judged.Report v c) = v
-neighbour_in (judged.Refused refusal) = 0
+abbrev pub neighbour_in : Result Report Refusal → ℕ
+neighbour_in (Ok report) = report.neighbour
+neighbour_in (Err refusal) = 0
 
 -- 19: not below the size in force
-unfoldable pub accepted_below : ℕ → ℕ → ℕ → ReportAnswer
-accepted_below v c P = cond (is_below c P) (answer.Accepted v c) (answer.Refused SizeNotBelow)
+unfoldable pub accepted_below : Report → ℕ → Result Report Refusal
+accepted_below report P = cond (is_below report.size P) (Ok report) (Err SizeNotBelow)
 
 -- the answer at the size in force toward the neighbour
-abbrev pub answer_at : Judged → ℕ → ReportAnswer
-answer_at (judged.Report v c) P = accepted_below v c P
-answer_at (judged.Refused refusal) P = answer.Refused refusal
+abbrev pub answer_at : Result Report Refusal → ℕ → Result Report Refusal
+answer_at (Ok report) P = accepted_below report P
+answer_at (Err refusal) P = Err refusal
 
 -- the answer, where `size` is the size in force toward each neighbour
-abbrev pub answer_toward : Settings → List ℕ → (ℕ → ℕ) → ReportAnswer
+abbrev pub answer_toward : Settings → List ℕ → (ℕ → ℕ) → Result Report Refusal
 answer_toward s m size = answer_at (judged_of s m) (size (neighbour_in (judged_of s m)))
 
 -- an accepted report answers the neighbour and its size
-abbrev pub report_given : ReportAnswer → Given
-report_given (answer.Accepted v c) = answered (v ∷ c ∷ [])
-report_given (answer.Refused refusal) = refused refusal
+abbrev pub report_given : Result Report Refusal → Given
+report_given (Ok report) = answered (report.neighbour ∷ report.size ∷ [])
+report_given (Err refusal) = refused refusal

@@ -5,7 +5,7 @@ pub mod reading;
 
 ghost use Rattle.std.specs.Prelude.{◌≡◌};
 ghost use Rattle.reports.specs.Reading.{is_other_message, is_quote_wrong};
-ghost use Rattle.reports.specs.Report.{is_report_malformed, is_quote_foreign, report_check, judged_as, candidate_for, judged_of, accepted_below, answer_at, report_given};
+ghost use Rattle.reports.specs.Report.{is_report_malformed, is_quote_foreign, report_check, judged_as, candidate_for, judged_of, answer_at};
 
 use header::outer::Outer;
 use header::{IPV6, OUTER_HEADER, fields, outer};
@@ -13,17 +13,11 @@ use paths::reported;
 use refusals::Refusal;
 use settings::Settings;
 
-// What a report asks for by its bytes and the settings: a size toward a neighbour, if it is not refused.
-#[derive(Clone, Copy)]
-pub enum Judged {
-    Report { neighbour: u32, size: u16 },
-    Refused(Refusal),
-}
-
-#[derive(Clone, Copy)]
-pub enum ReportAnswer {
-    Accepted { neighbour: u32, size: u16 },
-    Refused(Refusal),
+// What a report asks for, and what is accepted of it: a size toward a neighbour.
+#[derive(Clone, Copy, Debug, PartialEq, Eq)]
+pub struct Report {
+    pub neighbour: u32,
+    pub size: u16,
 }
 
 // ICMPv4: destination unreachable, fragmentation needed and don't-fragment set.
@@ -97,55 +91,29 @@ fn candidate_for(message: &[u8]) -> Option<u16>
 }
 
 // Number 18.
-fn judged_as(neighbour: u32, candidate: Option<u16>) -> Judged
+fn judged_as(neighbour: u32, candidate: Option<u16>) -> Result<Report, Refusal>
     ensures { result ≡ judged_as neighbour candidate }
 {
-    match candidate {
-        Some(size) => Judged::Report { neighbour, size },
-        None => Judged::Refused(Refusal::SizeUnusable),
-    }
+    let size = candidate.ok_or(Refusal::SizeUnusable)?;
+    Ok(Report { neighbour, size })
 }
 
 // Numbers 16, 17 and 18 of an ICMPv4 message; else the neighbour and its candidate.
-pub fn judge(settings: Settings, message: &[u8]) -> Judged
+pub fn judge(settings: Settings, message: &[u8]) -> Result<Report, Refusal>
     ensures { result ≡ judged_of settings message.now }
 {
     let quoted = outer::outer_header(outer::quote(message));
-    let check = report_check(settings, message, quoted);
-    match check {
-        Ok(()) => judged_as(quoted.destination, candidate_for(message)),
-        Err(refusal) => Judged::Refused(refusal),
-    }
-}
-
-fn accepted_below(neighbour: u32, size: u16, in_force: u16) -> ReportAnswer
-    ensures { result ≡ accepted_below neighbour size in_force }
-{
-    if reported::is_below(size, in_force) {
-        ReportAnswer::Accepted { neighbour, size }
-    } else {
-        ReportAnswer::Refused(Refusal::SizeNotBelow)
-    }
+    report_check(settings, message, quoted)?;
+    judged_as(quoted.destination, candidate_for(message))
 }
 
 // Number 19, at the size in force toward the report's neighbour.
-pub fn answer(judged: Judged, in_force: u16) -> ReportAnswer
+pub fn answer(judged: Result<Report, Refusal>, in_force: u16) -> Result<Report, Refusal>
     ensures { result ≡ answer_at judged in_force }
 {
-    match judged {
-        Judged::Report { neighbour, size } => accepted_below(neighbour, size, in_force),
-        Judged::Refused(refusal) => ReportAnswer::Refused(refusal),
+    let report = judged?;
+    if !reported::is_below(report.size, in_force) {
+        return Err(Refusal::SizeNotBelow);
     }
-}
-
-impl ReportAnswer {
-    // The number (R4), 0 for an accepted report.
-    pub fn number(self) -> u8
-        ensures { result ≡ (report_given self).number }
-    {
-        match self {
-            ReportAnswer::Accepted { neighbour, size } => 0,
-            ReportAnswer::Refused(refusal) => refusal.number(),
-        }
-    }
+    Ok(report)
 }

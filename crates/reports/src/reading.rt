@@ -1,42 +1,34 @@
 // A size report that is read before any settings are, and then judged by the settings of two services, one of which it belongs to. So what is
 // refused by its bytes is refused before settings are loaded.
 ghost use Rattle.std.specs.Prelude.{◌≡◌};
-ghost use Rattle.reports.specs.Reading.{is_never_ours, read_as, reading_of, origin_of, over_link, quote_over, judged_over};
+ghost use Rattle.reports.specs.Reading.{is_never_ours, reading_of, origin_of, over_link, quote_over, judged_over};
 
-use super::{candidate_for, other_message, quote_wrong};
+use super::{Report, candidate_for, judged_as, other_message, quote_wrong};
 use header::outer::Outer;
 use header::{IPV6, outer};
 use refusals::Refusal;
 use settings::Settings;
 
-// The source and the neighbour that it quotes, and the size that it asks for, unless its bytes refuse it.
-#[derive(Clone, Copy)]
-pub enum Reading {
-    Quote {
-        source: u32,
-        neighbour: u32,
-        candidate: Option<u16>,
-    },
-    Refused(Refusal),
+// The source and the neighbour that it quotes, and the size that it asks for.
+#[derive(Clone, Copy, Debug, PartialEq, Eq)]
+pub struct Quote {
+    pub source: u32,
+    pub neighbour: u32,
+    pub candidate: Option<u16>,
 }
 
 // The service that has the quoted source among its locator addresses.
-#[derive(Clone, Copy)]
+#[derive(Clone, Copy, Debug, PartialEq, Eq)]
 pub enum Origin {
     First,
     Second,
-    Neither,
 }
 
 // What a report asks for, and the size of the link of the service that it belongs to.
-#[derive(Clone, Copy)]
-pub enum JudgedOver {
-    Report {
-        neighbour: u32,
-        size: u16,
-        link: u16,
-    },
-    Refused(Refusal),
+#[derive(Clone, Copy, Debug, PartialEq, Eq)]
+pub struct LinkReport {
+    pub report: Report,
+    pub link: u16,
 }
 
 // Number 17, whatever the settings.
@@ -49,63 +41,53 @@ fn never_ours(quoted: Outer) -> bool
     address::forbidden(quoted.destination)
 }
 
-fn read_quote(message: &[u8], quoted: Outer) -> Reading
-    ensures { result ≡ read_as message.now quoted }
-{
-    let candidate = candidate_for(message);
-    Reading::Quote {
-        source: quoted.source,
-        neighbour: quoted.destination,
-        candidate,
-    }
-}
-
-pub fn read(message: &[u8]) -> Reading
+// What its bytes do not refuse.
+pub fn read(message: &[u8]) -> Result<Quote, Refusal>
     ensures { result ≡ reading_of message.now }
 {
     if other_message(message) {
-        return Reading::Refused(Refusal::ReportMalformed);
+        return Err(Refusal::ReportMalformed);
     }
     let quoted = outer::outer_header(outer::quote(message));
     if quote_wrong(message, quoted) {
-        return Reading::Refused(Refusal::ReportMalformed);
+        return Err(Refusal::ReportMalformed);
     }
     if never_ours(quoted) {
-        return Reading::Refused(Refusal::QuoteNotOurs);
+        return Err(Refusal::QuoteNotOurs);
     }
-    read_quote(message, quoted)
+    Ok(Quote {
+        source: quoted.source,
+        neighbour: quoted.destination,
+        candidate: candidate_for(message),
+    })
 }
 
-fn origin_of(first: Settings, second: Settings, two: bool, source: u32) -> Origin
+fn origin_of(first: Settings, second: Settings, two: bool, source: u32) -> Option<Origin>
     ensures { result ≡ origin_of first second two source }
 {
     if first.ours(source) {
-        return Origin::First;
+        return Some(Origin::First);
     }
     if !two {
-        return Origin::Neither;
+        return None;
     }
-    if second.ours(source) {
-        return Origin::Second;
-    }
-    Origin::Neither
+    second.ours(source).then_some(Origin::Second)
 }
 
 // The rest of number 17, which is that the neighbour is our own, and number 18.
-fn over_link(own: bool, link: u16, neighbour: u32, candidate: Option<u16>) -> JudgedOver
+fn over_link(
+    own: bool,
+    link: u16,
+    neighbour: u32,
+    candidate: Option<u16>,
+) -> Result<LinkReport, Refusal>
     ensures { result ≡ over_link own link neighbour candidate }
 {
     if own {
-        return JudgedOver::Refused(Refusal::QuoteNotOurs);
+        return Err(Refusal::QuoteNotOurs);
     }
-    match candidate {
-        Some(size) => JudgedOver::Report {
-            neighbour,
-            size,
-            link,
-        },
-        None => JudgedOver::Refused(Refusal::SizeUnusable),
-    }
+    let report = judged_as(neighbour, candidate)?;
+    Ok(LinkReport { report, link })
 }
 
 fn quote_over(
@@ -114,7 +96,7 @@ fn quote_over(
     origin: Origin,
     neighbour: u32,
     candidate: Option<u16>,
-) -> JudgedOver
+) -> Result<LinkReport, Refusal>
     ensures { result ≡ quote_over first second origin neighbour candidate }
 {
     match origin {
@@ -125,23 +107,19 @@ fn quote_over(
             neighbour,
             candidate,
         ),
-        Origin::Neither => JudgedOver::Refused(Refusal::QuoteNotOurs),
     }
 }
 
 // By the settings of the service that it belongs to; of the second ones only where there are two services.
-pub fn judge(first: Settings, second: Settings, two: bool, reading: Reading) -> JudgedOver
+pub fn judge(
+    first: Settings,
+    second: Settings,
+    two: bool,
+    reading: Result<Quote, Refusal>,
+) -> Result<LinkReport, Refusal>
     ensures { result ≡ judged_over first second two reading }
 {
-    match reading {
-        Reading::Quote {
-            source,
-            neighbour,
-            candidate,
-        } => {
-            let origin = origin_of(first, second, two, source);
-            quote_over(first, second, origin, neighbour, candidate)
-        }
-        Reading::Refused(refusal) => JudgedOver::Refused(refusal),
-    }
+    let quote = reading?;
+    let origin = origin_of(first, second, two, quote.source).ok_or(Refusal::QuoteNotOurs)?;
+    quote_over(first, second, origin, quote.neighbour, quote.candidate)
 }

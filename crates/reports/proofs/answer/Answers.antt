@@ -1,8 +1,12 @@
--- `reports::answer` meets its contract: by cases on what was judged.
+-- `reports::answer` meets its contract: what was judged, then the test.
+use Rattle.std.proofs.Common.{rules}
+use Rattle.reports.specs.Report.{accepted_below}
 use Rattle.reports.proofs.answer.Goals as goal
 
-pub returns-in-Report : goal.returns-in-Report
-returns-in-Report c = rw c.in-Report.is c.accepted_below.ensures
+pub returns-then-not-is_below : goal.returns-then-not-is_below
+unfolding accepted_below
+returns-then-not-is_below c = search rules
 
-pub returns-in-Refused : goal.returns-in-Refused
-returns-in-Refused c = rw c.in-Refused.is
+pub returns : goal.returns
+unfolding accepted_below
+returns c = search rules

@@ -1,11 +1,12 @@
--- `reports::judge` meets its contract: by cases on the check.
+-- `reports::judge` meets its contract: the check, then the candidate.
+use Rattle.std.proofs.Common.{rules}
 use Rattle.reports.specs.Report.{judged_of}
 use Rattle.reports.proofs.judge.Goals as goal
 
-pub returns-in-Ok : goal.returns-in-Ok
+pub returns-in_err-report_check : goal.returns-in_err-report_check
 unfolding judged_of
-returns-in-Ok c = rw (c.judged_as.ensures, c.candidate_for.ensures, ← c.quote.ensures, ← c.outer_header-quoted.ensures, ← c.report_check-check.ensures, c.in-Ok.is, c.outer_header-quoted.ensures, c.quote.ensures)
+returns-in_err-report_check c = search rules
 
-pub returns-in-Err : goal.returns-in-Err
+pub returns : goal.returns
 unfolding judged_of
-returns-in-Err c = rw (← c.quote.ensures, ← c.outer_header-quoted.ensures, ← c.report_check-check.ensures, c.in-Err.is)
+returns c = search rules

@@ -1,11 +1,16 @@
--- `reports::reading::judge` meets its contract: by cases on what was read.
+-- `reports::reading::judge` meets its contract: what was read, then the service that it belongs to.
+use Rattle.std.proofs.Common.{rules}
 use Rattle.reports.specs.Reading.{judged_over}
 use Rattle.reports.proofs.reading.judge.Goals as goal
 
-pub returns-in-Quote : goal.returns-in-Quote
+pub returns-in_err-quote : goal.returns-in_err-quote
 unfolding judged_over
-returns-in-Quote c = rw (c.in-Quote.is, ← c.origin_of-origin.ensures) c.quote_over.ensures
+returns-in_err-quote c = search rules
 
-pub returns-in-Refused : goal.returns-in-Refused
+pub returns-in_err-origin : goal.returns-in_err-origin
 unfolding judged_over
-returns-in-Refused c = rw c.in-Refused.is
+returns-in_err-origin c = search rules
+
+pub returns : goal.returns
+unfolding judged_over
+returns c = search rules

@@ -1,15 +1,16 @@
--- `reports::reading::over_link` meets its contract: by cases on the candidate.
+-- `reports::reading::over_link` meets its contract: the neighbour, then the candidate.
+use Rattle.std.proofs.Common.{rules}
 use Rattle.reports.specs.Reading.{over_link}
 use Rattle.reports.proofs.reading.over_link.Goals as goal
 
 pub returns-then-own : goal.returns-then-own
 unfolding over_link
-returns-then-own c = rw c.if-own.true
+returns-then-own c = search rules
 
-pub returns-in-Some : goal.returns-in-Some
+pub returns-in_err-report : goal.returns-in_err-report
 unfolding over_link
-returns-in-Some c = rw (c.if-own.false, c.in-Some.is)
+returns-in_err-report c = search rules
 
-pub returns-in-None : goal.returns-in-None
+pub returns : goal.returns
 unfolding over_link
-returns-in-None c = rw (c.if-own.false, c.in-None.is)
+returns c = search rules

@@ -16,4 +16,4 @@ returns-then-never_ours c = simp (← c.quote.ensures, ← c.outer_header-quoted
 
 pub returns : goal.returns
 unfolding reading_of
-returns c = simp (← c.quote.ensures, ← c.outer_header-quoted.ensures, ← c.other_message.ensures, c.if-other_message.false, ← c.quote_wrong.ensures, c.if-quote_wrong.false, ← c.never_ours.ensures, c.if-never_ours.false, c.read_quote.ensures)
+returns c = simp (← c.quote.ensures, ← c.outer_header-quoted.ensures, ← c.other_message.ensures, c.if-other_message.false, ← c.quote_wrong.ensures, c.if-quote_wrong.false, ← c.never_ours.ensures, c.if-never_ours.false, c.candidate_for.ensures)

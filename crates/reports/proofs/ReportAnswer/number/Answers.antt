@@ -1,8 +1,0 @@
--- `reports::ReportAnswer::number` meets its contract: by cases on the answer.
-use Rattle.reports.proofs.ReportAnswer.number.Goals as goal
-
-pub returns-in-Accepted : goal.returns-in-Accepted
-returns-in-Accepted c = rw c.in-Accepted.is
-
-pub returns-in-Refused : goal.returns-in-Refused
-returns-in-Refused c = rw c.in-Refused.is c.number.ensures
