@@ -7,9 +7,30 @@ use native.Mathlib.Decide.{ℕ_discrete}
 use native.Mathlib.Omega.{arith}
 use lib.ListN.{get_or, length, drop}
 use lib.Dec.{eqb, leb}
-use borrow.Author.Tests.{leb-true, leb-false}
+use borrow.Author.Tests.{leb-true, leb-false, ne_eqb}
+use Rattle.std.specs.Option.{is_some}
+use Rattle.std.specs.Prelude.{Some}
 use Rattle.header.specs.Chain.{fragment, is_extension, extension_length, is_later_fragment, is_quiet, may_draw_from, chain_may_draw}
-use Rattle.header.specs.Walks.{passed_length}
+use Rattle.header.specs.Walks.{passed_length, some_length}
+
+-- a length that is told, and that none is
+pub told : (n k : ℕ) → some_length n ≡ Some k → (n ≡ k) × (n ≡ 0 → ⊥)
+told zero k e = let no : ◌≡◌ {A = ℕ} 0 1 = cc in absurd (omega arith)
+told (suc n) k e = let same = rw (ne_eqb (suc n) 0 (λ z. omega arith)) at e in (cc, λ z. omega arith)
+
+pub not_told : (n : ℕ) → is_some (some_length n) ≡ false → n ≡ 0
+not_told zero e = refl
+not_told (suc n) e =
+    let other = rw (ne_eqb (suc n) 0 (λ z. omega arith)) at e in
+    let no : ◌≡◌ {A = ℕ} 0 1 = cc in
+    absurd (omega arith)
+
+pub is_told : (n : ℕ) → is_some (some_length n) ≡ true → n ≡ 0 → ⊥
+is_told zero e z = let no : ◌≡◌ {A = ℕ} 0 1 = cc in omega arith
+is_told (suc n) e z = omega arith
+
+pub told_length : (n : ℕ) → (n ≡ 0 → ⊥) → some_length n ≡ Some n
+told_length n good = rw (ne_eqb n 0 good)
 
 -- a header has at least 8 bytes
 pub extension-least : (next : ℕ) (bs : List ℕ) → 8 ≤ extension_length next bs

@@ -1,5 +1,5 @@
 -- A walk over at most so many extension headers. Only functions of the crate's own cite this.
-use Rattle.std.specs.Prelude.{ℕ, cond, not, ◌&&◌, List, get_or, length, leb}
+use Rattle.std.specs.Prelude.{ℕ, cond, not, ◌&&◌, List, get_or, length, eqb, leb, Option, Some, None}
 use Rattle.lists.specs.Walks.{walked}
 use Rattle.header.specs.Chain.{is_extension, extension_length, is_later_fragment}
 use Rattle.header.specs.declared.chain.Walked.{Walked}
@@ -8,6 +8,10 @@ use Rattle.header.specs.declared.chain.Walked.{Walked}
 unfoldable pub passed_length : ℕ → List ℕ → ℕ
 passed_length next bs =
     cond (is_extension next && not (is_later_fragment next bs) && leb (extension_length next bs) (length bs)) (extension_length next bs) 0
+
+-- the same, where none passed is said by None
+abbrev pub some_length : ℕ → Option ℕ
+some_length n = cond (eqb n 0) None (Some n)
 
 -- the number of what stands behind a header is its first byte, whatever its own number is
 abbrev pub next_in : ℕ → List ℕ → ℕ

@@ -2,7 +2,7 @@
 // message. Any bytes are taken.
 ghost use Rattle.std.specs.Prelude.{◌≡◌, ◌≤◌, length};
 ghost use Rattle.header.specs.Chain.{is_extension, extension_unit, extension_length, is_later_fragment, is_error_or_redirect, is_quiet, chain_may_draw};
-ghost use Rattle.header.specs.Walks.{passed_length, walked_of};
+ghost use Rattle.header.specs.Walks.{passed_length, some_length, walked_of};
 
 use crate::{ICMPV6, fields};
 
@@ -47,46 +47,41 @@ fn later_fragment(next: u8, rest: &[u8]) -> bool
     (next == FRAGMENT) & (fields::pair(rest[2], rest[3]) / 8 != 0)
 }
 
-// The bytes that the first header takes, and 0 if none is passed: it is an upper layer, a later fragment, or runs past the end.
-fn passed_length(next: u8, rest: &[u8]) -> usize
-    ensures { result ≡ passed_length next rest.now }
+// The bytes that the first header takes, if it is passed: no upper layer, no later fragment, and all there.
+fn passed_length(next: u8, rest: &[u8]) -> Option<usize>
+    ensures { result ≡ some_length (passed_length next rest.now) }
 {
     if rest.len() < UNIT {
-        return 0;
+        return None;
     }
     let size = extension_length(next, rest);
     if extension(next) & !later_fragment(next, rest) & (size <= rest.len()) {
-        size
+        Some(size)
     } else {
-        0
+        None
     }
 }
 
 // What a walk comes to: the number of the header there, and how many bytes are left from it on.
-#[derive(Clone, Copy)]
+#[derive(Clone, Copy, Debug, PartialEq, Eq)]
 struct Walked {
     next: u8,
     left: usize,
 }
 
-// At most so many headers of the rest of the packet, whose first has the number `next`: a call for each header.
+// At most so many headers of the rest of the packet, whose first has the number `next`. The rules want a call for each header (R21.7).
 fn walk(next: u8, rest: &[u8], most: usize) -> Walked
     ensures { result ≡ walked_of most next rest.now }
 {
-    if most == 0 {
-        return Walked {
-            next,
-            left: rest.len(),
-        };
+    if 0 < most {
+        if let Some(size) = passed_length(next, rest) {
+            return walk(rest[0], &rest[size..], most - 1);
+        }
     }
-    let size = passed_length(next, rest);
-    if size == 0 {
-        return Walked {
-            next,
-            left: rest.len(),
-        };
+    Walked {
+        next,
+        left: rest.len(),
     }
-    walk(rest[0], &rest[size..], most - 1)
 }
 
 fn error_or_redirect(kind: u8) -> bool
@@ -109,12 +104,12 @@ pub fn chain_may_draw(first: u8, payload: &[u8]) -> bool
 {
     let mut next = first;
     let mut at = 0;
-    let mut size = passed_length(first, payload);
-    while 0 < size {
+    let mut more = passed_length(first, payload).is_some();
+    while more {
         let walked = walk(next, &payload[at..], MOST);
         at = payload.len() - walked.left;
         next = walked.next;
-        size = passed_length(next, &payload[at..]);
+        more = passed_length(next, &payload[at..]).is_some();
     }
     !(extension(next) | quiet(next, &payload[at..]))
 }

@@ -11,7 +11,7 @@ use Rattle.lists.proofs.Walks.{turn_left, turn_falls, turn_on}
 use Rattle.header.specs.Chain.{chain_may_draw}
 use Rattle.header.specs.Walks.{passed_length, next_in, walked_of}
 use Rattle.header.specs.declared.chain.Walked.{Walked}
-use Rattle.header.proofs.ChainLaws.{passed-fits, passed_on, passed_none}
+use Rattle.header.proofs.ChainLaws.{passed-fits, passed_on, passed_none, is_told, not_told}
 use Rattle.header.proofs.chain.chain_may_draw.Goals as goal
 
 -- a turn: a walk over what follows `at`, where at least one header can be passed
@@ -29,26 +29,26 @@ module _ (most at next : ℕ) (bs : List ℕ) (r : Walked) (is : r ≡ walked_of
   on : at ≤ length bs → chain_may_draw next (drop at bs) ≡ chain_may_draw r.next (drop (length bs - r.left) bs)
   on within = turn_on passed_length next_in passed-fits chain_may_draw passed_on most at bs next within (r.next, r.left) came
 
-pub loop-size-init : goal.loop-size-init
-loop-size-init c = (omega arith, c.passed_length-size.ensures, cc)
+pub loop-more-init : goal.loop-more-init
+loop-more-init c = (omega arith, rw (c.is_some-more.ensures, c.passed_length.ensures), cc)
 
 pub overflow_sub-at : goal.overflow_sub-at
 overflow_sub-at c = let bs = c.args.payload.now in
-    let few = left _ c.loop-size.at c.loop-size.next bs c.walk-walked.result c.walk-walked.ensures in
+    let few = left _ c.loop-more.at c.loop-more.next bs c.walk-walked.result c.walk-walked.ensures in
     omega arith
 
-pub loop-size-smaller : goal.loop-size-smaller
-loop-size-smaller c = let bs = c.args.payload.now in
-    let size = c.loop-size.invariant.1 in
-    let less = falls _ c.loop-size.at c.loop-size.next bs c.walk-walked.result c.walk-walked.ensures (λ z. omega arith) in
+pub loop-more-smaller : goal.loop-more-smaller
+loop-more-smaller c = let bs = c.args.payload.now in
+    let good = is_told _ (sym c.loop-more.invariant.1 ∙ c.loop-more-test.true) in
+    let less = falls _ c.loop-more.at c.loop-more.next bs c.walk-walked.result c.walk-walked.ensures good in
     omega arith
 
-pub loop-size-preserved : goal.loop-size-preserved
-loop-size-preserved c = let bs = c.args.payload.now in
-    let again = on _ c.loop-size.at c.loop-size.next bs c.walk-walked.result c.walk-walked.ensures c.loop-size.invariant.0 in
-    (omega arith, c.passed_length-size-in-loop-size.ensures ∙ rw (rest_from _ bs), c.loop-size.invariant.2 ∙ again)
+pub loop-more-preserved : goal.loop-more-preserved
+loop-more-preserved c = let bs = c.args.payload.now in
+    let again = on _ c.loop-more.at c.loop-more.next bs c.walk-walked.result c.walk-walked.ensures c.loop-more.invariant.0 in
+    (omega arith, rw (c.is_some-more-in-loop-more.ensures, c.passed_length-in-loop-more.ensures, rest_from _ bs), c.loop-more.invariant.2 ∙ again)
 
 pub returns : goal.returns
 returns c = let bs = c.args.payload.now in
-    let none : passed_length c.loop-size.next (drop c.loop-size.at bs) ≡ 0 = (let size = c.loop-size.invariant.1 in omega arith) in
-    rw (c.extension.ensures, c.quiet.ensures, rest_from _ bs) (sym (c.loop-size.invariant.2 ∙ passed_none c.loop-size.next (drop c.loop-size.at bs) none))
+    let none : passed_length c.loop-more.next (drop c.loop-more.at bs) ≡ 0 = not_told _ (sym c.loop-more.invariant.1 ∙ c.loop-more-test.false) in
+    rw (c.extension.ensures, c.quiet.ensures, rest_from _ bs) (sym (c.loop-more.invariant.2 ∙ passed_none c.loop-more.next (drop c.loop-more.at bs) none))
