@@ -13,6 +13,9 @@ use header::{ICMPV6, INNER_HEADER, fields};
 use lent::write_at;
 use refusals::Refusal;
 
+// The type of the Packet Too Big (RFC 4443, 3.2).
+const PACKET_TOO_BIG: u8 = 2;
+
 // The types of the router solicitation and the router advertisement (RFC 4861, 4.1 and 4.2).
 pub const ROUTER_SOLICITATION: u8 = 133;
 
@@ -36,22 +39,43 @@ pub const SOLICITATION: usize = HEADERS;
 // The length of its ICMPv6 message.
 const LENGTH: u16 = (SOLICITATION - INNER_HEADER) as u16;
 
+// A message but for its length and what stands behind its headers: the hop limit and the addresses of IPv6, and of ICMPv6 the type and the
+// four bytes behind the checksum. Its code is 0.
+#[derive(Clone, Copy, Debug, PartialEq, Eq)]
+pub struct Message {
+    pub hop: u8,
+    pub from: [u8; 16],
+    pub to: [u8; 16],
+    pub kind: u8,
+    pub four: [u8; 4],
+}
+
 // Writes the Packet Too Big that names the size, from the reporting address to the packet's source.
-pub fn too_big(reporting: [u8; 16], size: u16, packet: &[u8], out: &mut [u8]) -> Result<usize, Refusal>
+pub fn too_big(
+    reporting: [u8; 16],
+    size: u16,
+    packet: &[u8],
+    out: &mut [u8],
+) -> Result<usize, Refusal>
     ensures value { result ≡ too_big_answer (length packet.now) (length out.old) }
     ensures out_after { out.new ≡ too_big_output reporting size packet.now out.old }
 {
     if packet.len() < INNER_HEADER {
         return Err(Refusal::InnerMalformed);
     }
-    let quoted = lists::least(QUOTE, packet.len());
+    let quoted = QUOTE.min(packet.len());
     if out.len() < HEADERS + quoted {
         return Err(Refusal::OutputShort);
     }
-    let to = fields::address(packet, 8);
     write_at(&packet[..quoted], out, HEADERS);
-    let four = [0, 0, fields::high(size), fields::low(size)];
-    enclose(64, reporting, to, 2, four, HEADERS + quoted, out);
+    let message = Message {
+        hop: 64,
+        from: reporting,
+        to: fields::address(packet, 8),
+        kind: PACKET_TOO_BIG,
+        four: [0, 0, fields::high(size), fields::low(size)],
+    };
+    enclose(message, HEADERS + quoted, out);
     Ok(HEADERS + quoted)
 }
 
@@ -64,8 +88,7 @@ pub fn solicitation(from: [u8; 16], to: [u8; 16], out: &mut [u8]) -> Result<usiz
         return Err(Refusal::OutputShort);
     }
     let sum = checksum::complement(solicitation_sum(from, to));
-    let high = fields::high(sum);
-    let low = fields::low(sum);
+    let [high, low] = fields::word_bytes(sum);
     write_ipv6_header(LENGTH, HOP_LIMIT, from, to, out);
     let front = [ROUTER_SOLICITATION, 0, high, low, 0, 0, 0, 0];
     write_at(&front, out, INNER_HEADER);
@@ -92,24 +115,16 @@ fn solicitation_sum(from: [u8; 16], to: [u8; 16]) -> u16
     checksum::sum_of_words(fixed + address_words(from) + address_words(to))
 }
 
-// Puts the headers of an ICMPv6 packet of n bytes before what already stands in out from byte 48 on: its type, code 0, and four bytes
-// behind the checksum, which is put in.
-pub fn enclose(
-    hop: u8,
-    from: [u8; 16],
-    to: [u8; 16],
-    kind: u8,
-    four: [u8; 4],
-    n: usize,
-    out: &mut [u8],
-)
-    ensures { out.new ≡ enclosed hop from to kind four n out.old }
+// Puts the headers of an ICMPv6 packet of n bytes before what already stands in out from byte 48 on, and the checksum into them.
+pub fn enclose(m: Message, n: usize, out: &mut [u8])
+    ensures { out.new ≡ enclosed m.hop m.from m.to m.kind m.four n out.old }
 {
     if !packet_fits(n, out.len()) {
         return;
     }
-    write_ipv6_header((n - INNER_HEADER) as u16, hop, from, to, out);
-    let front = [kind, 0, 0, 0, four[0], four[1], four[2], four[3]];
+    write_ipv6_header((n - INNER_HEADER) as u16, m.hop, m.from, m.to, out);
+    let [a, b, c, d] = m.four;
+    let front = [m.kind, 0, 0, 0, a, b, c, d];
     write_at(&front, out, INNER_HEADER);
     seal(n, out);
 }
@@ -126,7 +141,8 @@ fn write_ipv6_header(n: u16, hop: u8, from: [u8; 16], to: [u8; 16], out: &mut [u
     requires { inner_header ≤ length out.old }
     ensures { out.new ≡ written (ipv6_header n hop from to) out.old }
 {
-    let front = [0x60, 0, 0, 0, (n / 256) as u8, (n % 256) as u8, ICMPV6, hop];
+    let [high, low] = fields::word_bytes(n);
+    let front = [0x60, 0, 0, 0, high, low, ICMPV6, hop];
     write_at(&front, out, 0);
     write_at(&from, out, 8);
     write_at(&to, out, 24);
@@ -140,6 +156,5 @@ fn seal(n: usize, out: &mut [u8])
 {
     let sum = checksum::sum_from((n - INNER_HEADER + ICMPV6 as usize) as u32, &out[8..n]);
     let field = checksum::complement(sum);
-    let bytes = [fields::high(field), fields::low(field)];
-    write_at(&bytes, out, 42);
+    write_at(&fields::word_bytes(field), out, 42);
 }

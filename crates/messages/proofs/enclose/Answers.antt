@@ -7,7 +7,8 @@ use Rattle.messages.proofs.enclose.Goals as goal
 
 pub returns-then-not-packet_fits : goal.returns-then-not-packet_fits
 returns-then-not-packet_fits c = let a = c.args in
-    sym (enclosed-not a.hop a.from a.to a.kind a.four a.n a.out.now (sym c.packet_fits.ensures ∙ c.if-not-packet_fits.true))
+    let m = a.m in
+    sym (enclosed-not m.hop m.from m.to m.kind m.four a.n a.out.now (sym c.packet_fits.ensures ∙ c.if-not-packet_fits.true))
 
 pub overflow_sub-n : goal.overflow_sub-n
 overflow_sub-n c = let f = fits c.args.n (length c.args.out.now) c.packet_fits.ensures c.if-not-packet_fits.false in omega arith
@@ -23,7 +24,8 @@ seal-requires c = let f = fits c.args.n (length c.args.out.now) c.packet_fits.en
 
 pub returns : goal.returns
 returns c = let a = c.args in
+    let m = a.m in
     let out = a.out.now in
     let f = fits a.n (length out) c.packet_fits.ensures c.if-not-packet_fits.false in
-    enclosed_by a.hop a.from a.to a.kind a.four a.n out (omega arith) (omega arith) (omega arith) f
+    enclosed_by m.hop m.from m.to m.kind m.four a.n out (omega arith) (omega arith) (omega arith) f
     c.write_ipv6_header.ensures c.write_at.ensures c.seal.ensures

@@ -19,5 +19,5 @@ returns c = let a = c.args in
     let same = ap (λ (k : ℕ). take a.n out ++ drop k out) whole ∙ take-append-drop a.n out in
     let bytes = bytes_of out (λ i. (c.slice_known-1.given i).fits) in
     let sum = c.sum_from-sum.ensures ∙ one_pass a.n out (omega arith) (omega arith) (omega arith) bytes _ (omega arith) in
-    written_at-inside 42 (take a.n out) (c.high.result ∷ (c.low.result ∷ [])) out (omega arith) (omega arith) (sym same) c.write_at.ensures
-    ∙ rw (c.low.ensures, c.high.ensures, c.complement-field.ensures, sum)
+    written_at-inside 42 (take a.n out) c.word_bytes.result out (omega arith) (omega arith) (sym same) c.write_at.ensures
+    ∙ rw (c.word_bytes.ensures, c.complement-field.ensures, sum)

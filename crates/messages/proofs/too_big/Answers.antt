@@ -36,14 +36,14 @@ unfolding too_big_answer too_big_output too_big_of
 returns c = let a = c.args in
     let out = a.out.now in
     let pass = too_big_pass (length a.packet.now) (length out) (omega arith) (omega arith) in
-    let quote = take c.least-quoted.result a.packet.now in
-    let quoted : length quote ≡ c.least-quoted.result = rw length-take (omega arith) in
+    let quote = take c.min-quoted.result a.packet.now in
+    let quoted : length quote ≡ c.min-quoted.result = rw length-take (omega arith) in
     let placed = c.write_at.ensures ∙ written_at-fits 48 quote out (omega arith) in
-    let packet = enclosed-over 64 a.reporting c.address-to.result 2 (0 ∷ (0 ∷ (c.high.result ∷ (c.low.result ∷ [])))) quote (48 + c.least-quoted.result) out (omega arith) (omega arith) refl (omega arith) (omega arith) (omega arith) placed c.enclose.ensures in
+    let packet = enclosed-over 64 a.reporting c.address.result 2 (0 ∷ (0 ∷ (c.high.result ∷ (c.low.result ∷ [])))) quote (48 + c.min-quoted.result) out (omega arith) (omega arith) refl (omega arith) (omega arith) (omega arith) placed c.enclose.ensures in
     let body : 0 ∷ (0 ∷ (c.high.result ∷ (c.low.result ∷ quote))) ≡ be32 a.size (take 1232 a.packet.now) =
-    rw (c.high.ensures, c.low.ensures, c.least-quoted.ensures, take-least 1232 a.packet.now) (be32-small a.size (take 1232 a.packet.now) (omega arith))
+    rw (c.high.ensures, c.low.ensures, c.min-quoted.ensures, take-least 1232 a.packet.now) (be32-small a.size (take 1232 a.packet.now) (omega arith))
     in
     record {
-      value = rw (pass, c.least-quoted.ensures);
-      out_after = rw pass (packet ∙ ap (λ (b : List ℕ). written (icmp_packet 64 a.reporting c.address-to.result 2 0 b) out) body ∙ rw c.address-to.ensures);
+      value = rw (pass, c.min-quoted.ensures);
+      out_after = rw pass (packet ∙ ap (λ (b : List ℕ). written (icmp_packet 64 a.reporting c.address.result 2 0 b) out) body ∙ rw c.address.ensures);
     }

@@ -11,6 +11,7 @@ pub returns : goal.returns
 returns c = let a = c.args in
     let out = a.out.now in
     let front : List ℕ = 96 ∷ (0 ∷ (0 ∷ (0 ∷ be16 a.n (58 ∷ (a.hop ∷ []))))) in
-    let d₁ = written_at-first front out (omega arith) c.write_at.ensures in
+    let first = rw c.word_bytes.ensures at c.write_at.ensures in
+    let d₁ = written_at-first front out (omega arith) first in
     let d₂ = written_at-more 8 front a.from out refl (omega arith) d₁ c.write_at-2.ensures in
     written_at-more 24 (front ++ a.from) a.to out (omega arith) (omega arith) d₂ c.write_at-3.ensures
