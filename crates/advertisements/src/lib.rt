@@ -15,7 +15,7 @@ ghost use Rattle.advertisements.specs.Advertisement.{is_prefix_too_long, is_rout
 
 use header::fields;
 use lent::write_at;
-use messages::{HEADERS, HOP_LIMIT, ROUTER_ADVERTISEMENT};
+use messages::{HEADERS, HOP_LIMIT, Message, ROUTER_ADVERTISEMENT};
 use prefix::{PREFIX_OPTION, Prefix};
 use refusals::Refusal;
 use route::{ROUTE_OPTION, Route};
@@ -191,7 +191,12 @@ fn write_rest(a: Advertisement, out: &mut [u8])
 }
 
 // Writes the advertisement, an IPv6 packet that is not wrapped.
-pub fn write(from: [u8; 16], to: [u8; 16], a: Advertisement, out: &mut [u8]) -> Result<usize, Refusal>
+pub fn write(
+    from: [u8; 16],
+    to: [u8; 16],
+    a: Advertisement,
+    out: &mut [u8],
+) -> Result<usize, Refusal>
     ensures value { result ≡ advertisement_answer a (length out.old) }
     ensures out_after { out.new ≡ advertisement_output from to a out.old }
 {
@@ -203,12 +208,18 @@ pub fn write(from: [u8; 16], to: [u8; 16], a: Advertisement, out: &mut [u8]) -> 
         return Err(Refusal::OutputShort);
     }
     write_rest(a, &mut out[HEADERS..]);
-    let four = [
-        CURRENT_HOP_LIMIT,
-        bits::flags(a.managed, a.other),
-        fields::high(a.lifetime),
-        fields::low(a.lifetime),
-    ];
-    messages::enclose(HOP_LIMIT, from, to, ROUTER_ADVERTISEMENT, four, n, out);
+    let message = Message {
+        hop: HOP_LIMIT,
+        from,
+        to,
+        kind: ROUTER_ADVERTISEMENT,
+        four: [
+            CURRENT_HOP_LIMIT,
+            bits::flags(a.managed, a.other),
+            fields::high(a.lifetime),
+            fields::low(a.lifetime),
+        ],
+    };
+    messages::enclose(message, n, out);
     Ok(n)
 }
