@@ -12,6 +12,7 @@ ghost use Rattle.comparing.specs.Runs.{runs_of};
 ghost use Rattle.comparing.specs.Compared.{more_of, report_of, compared_of, output_of};
 
 use input::recording;
+use pair::Pair;
 use refusals::Refusal;
 
 // Which of two recordings has more datagrams.
@@ -48,24 +49,19 @@ fn more_in(first: &[u8], second: &[u8]) -> More
 fn count(masked: bool, first: &[u8], second: &[u8], limit: usize) -> usize
     ensures { result ≡ min (length (runs_of masked first.now second.now)) limit }
 {
-    let pairs = lists::least(recording::count(first), recording::count(second));
+    let pairs = recording::count(first).min(recording::count(second));
     let mut a = recording::first(first);
     let mut b = recording::first(second);
     let mut n: usize = 0;
-    let mut i: usize = 0;
-    while i < pairs {
-        n = pair::count(
+    for i in 0..pairs {
+        let pair = Pair {
             masked,
-            recording::datagram(a),
-            recording::datagram(b),
-            n,
-            limit,
-        );
-        let next_a = recording::next(a);
-        let next_b = recording::next(b);
-        a = next_a;
-        b = next_b;
-        i += 1;
+            a: recording::datagram(a),
+            b: recording::datagram(b),
+        };
+        n = pair.count(n, limit);
+        a = recording::next(a);
+        b = recording::next(b);
     }
     n
 }
@@ -80,18 +76,14 @@ fn write(masked: bool, first: &[u8], second: &[u8], out: &mut [u8], size: usize)
     let mut at: usize = 0;
     let mut number: usize = 1;
     while at < size {
-        at = pair::write(
+        let pair = Pair {
             masked,
-            number,
-            recording::datagram(a),
-            recording::datagram(b),
-            out,
-            at,
-        );
-        let next_a = recording::next(a);
-        let next_b = recording::next(b);
-        a = next_a;
-        b = next_b;
+            a: recording::datagram(a),
+            b: recording::datagram(b),
+        };
+        at = pair.write(number, out, at);
+        a = recording::next(a);
+        b = recording::next(b);
         number += 1;
     }
 }

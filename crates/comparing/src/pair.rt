@@ -3,21 +3,16 @@ ghost use Rattle.std.specs.Prelude.{◌≡◌, ◌+◌, ◌*◌, ◌≤◌, ◌<
 ghost use Rattle.lent.specs.Written.{written_at};
 ghost use Rattle.comparing.specs.Runs.{runs, numbered, run_bytes, runs_bytes};
 
-use crate::{ends, search};
+// Two datagrams beside each other. Where `masked`, identification, TTL and checksum count as equal, where both have the byte.
+#[derive(Clone, Copy)]
+pub(crate) struct Pair<'a> {
+    pub masked: bool,
+    pub a: &'a [u8],
+    pub b: &'a [u8],
+}
 
 // The bytes of a run in the report: datagram, offset and length.
 pub(crate) const RUN: usize = 6;
-
-// The runs of two datagrams, counted on from n, but no further than to `limit`.
-pub(crate) fn count(masked: bool, a: &[u8], b: &[u8], n: usize, limit: usize) -> usize
-    requires { n ≤ limit }
-    ensures { result ≡ min (n + length (runs masked a.now b.now)) limit }
-{
-    if limit <= n {
-        return n;
-    }
-    n + lists::least(ends::count(masked, a, b), limit - n)
-}
 
 // Writes a run to the six bytes from `at` on: datagram, offset and length, two bytes each.
 fn write_run(number: usize, offset: usize, size: usize, out: &mut [u8], at: usize)
@@ -32,28 +27,35 @@ fn write_run(number: usize, offset: usize, size: usize, out: &mut [u8], at: usiz
     out[at + 5] = (size % 65536 % 256) as u8;
 }
 
-// Writes the runs of two datagrams of this number, from `start` on, and gives where they end.
-pub(crate) fn write(
-    masked: bool,
-    number: usize,
-    a: &[u8],
-    b: &[u8],
-    out: &mut [u8],
-    start: usize,
-) -> usize
-    requires b_in_bounds { start + 6 * length (runs masked a.now b.now) ≤ length out.old }
-    requires b_bound { start + 6 * length (runs masked a.now b.now) < 18446744073709551616 }
-    ensures value { result ≡ start + 6 * length (runs masked a.now b.now) }
-    ensures out_after { out.new ≡ written_at start (runs_bytes (numbered number (runs masked a.now b.now))) out.old }
-{
-    let end = search::longer(a.len(), b.len());
-    let mut at = start;
-    let mut p = search::next(true, masked, a, b, 0);
-    while p < end {
-        let behind = search::next(false, masked, a, b, p);
-        write_run(number, p, behind - p, out, at);
-        p = search::next(true, masked, a, b, behind);
-        at += RUN;
+impl<'a> Pair<'a> {
+    // The runs, counted on from n, but no further than to `limit`.
+    pub(crate) fn count(self, n: usize, limit: usize) -> usize
+        requires { n ≤ limit }
+        ensures { result ≡ min (n + length (runs self.entry.masked self.entry.a.now self.entry.b.now)) limit }
+    {
+        if limit <= n {
+            return n;
+        }
+        n + self.runs().min(limit - n)
     }
-    at
+
+    // Writes the runs, of datagrams of this number, from `start` on, and gives where they end.
+    pub(crate) fn write(self, number: usize, out: &mut [u8], start: usize) -> usize
+        requires b_in_bounds { start + 6 * length (runs self.masked self.a.now self.b.now) ≤ length out.old }
+        requires b_bound { start + 6 * length (runs self.masked self.a.now self.b.now) < 18446744073709551616 }
+        ensures value { result ≡ start + 6 * length (runs self.entry.masked self.entry.a.now self.entry.b.now) }
+        ensures out_after { out.new ≡ written_at start (runs_bytes (numbered number (runs self.entry.masked self.entry.a.now self.entry.b.now))) out.old }
+    {
+        let Pair { masked: _, a, b } = self;
+        let end = a.len().max(b.len());
+        let mut at = start;
+        let mut p = self.next(true, 0);
+        while p < end {
+            let behind = self.next(false, p);
+            write_run(number, p, behind - p, out, at);
+            p = self.next(true, behind);
+            at += RUN;
+        }
+        at
+    }
 }

@@ -12,7 +12,7 @@ use Rattle.comparing.proofs.count.Goals as goal
 pub loop-i-init : goal.loop-i-init
 loop-i-init c = let a = c.args in
     let all = pairs-all a.masked a.first.now a.second.now in
-    (omega arith, omega arith, rw (c.first-b.ensures, c.first-a.ensures, all) (omega arith))
+    (omega arith, rw (c.first-b.ensures, c.first-a.ensures, all) (omega arith))
 
 pub loop-i-preserved : goal.loop-i-preserved
 loop-i-preserved c = let a = c.args in
@@ -22,7 +22,7 @@ loop-i-preserved c = let a = c.args in
     let counted = c.count-n.ensures in
     let same : length (runs a.masked c.datagram.result.now c.datagram-in-loop-i.result.now) ≡ length (runs a.masked (bytes_of x) (bytes_of y)) =
     rw (c.datagram.ensures, c.datagram-in-loop-i.ensures) in
-    (omega arith, omega arith, rw (c.next-next_b.ensures, c.next-next_a.ensures) (omega arith))
+    (omega arith, rw (c.next-b.ensures, c.next-a.ensures) (omega arith))
 
 pub returns : goal.returns
 returns c = let a = c.args in

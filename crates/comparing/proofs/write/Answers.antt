@@ -62,7 +62,7 @@ loop-at-preserved c = let a = c.args in
     let long : length (runs_bytes rs) ≡ 6 * length (runs a.masked (bytes_of x) (bytes_of y)) = length-report rs ∙ rw length-map in
     let more = done_more (runs_of a.masked a.first.now a.second.now) (left_pairs a.masked n m i x y) rs (left_pairs a.masked n m (i + 1) (behind_datagram x) (behind_datagram y)) 0 c.loop-at.at c.write-at.result a.out.now c.loop-at.invariant.2
     (pairs_turn a.masked n m i x y some) (ended ∙ rw long) (omega (arith, ended, t, c.loop-at.invariant.1, c.requires.1)) put in
-    (more.0, rw (c.next-next_b.ensures, c.next-next_a.ensures) (omega arith), rw (c.next-next_b.ensures, c.next-next_a.ensures) more.1)
+    (more.0, rw (c.next-b.ensures, c.next-a.ensures) (omega arith), rw (c.next-b.ensures, c.next-a.ensures) more.1)
 
 pub returns : goal.returns
 unfolding report_of

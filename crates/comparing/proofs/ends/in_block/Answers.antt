@@ -7,7 +7,7 @@ use Rattle.comparing.proofs.Ending.{ends_turn, ends-past, ends-most}
 use Rattle.comparing.proofs.ends.in_block.Goals as goal
 
 pub loop-i-init : goal.loop-i-init
-loop-i-init c = (omega arith, omega arith)
+loop-i-init c = omega arith
 
 pub overflow_add-n-in-loop-i-2 : goal.overflow_add-n-in-loop-i-2
 overflow_add-n-in-loop-i-2 c = let a = c.args in
@@ -17,7 +17,7 @@ overflow_add-n-in-loop-i-2 c = let a = c.args in
 pub loop-i-preserved : goal.loop-i-preserved
 loop-i-preserved c = let a = c.args in
     let e = ends_turn (is_unequal_at a.a.now a.b.now) c.loop-i.i (length a.a.now - 1) (omega arith) in
-    (omega arith, omega arith)
+    omega arith
 
 pub overflow_cast-result : goal.overflow_cast-result
 overflow_cast-result c = let a = c.args in

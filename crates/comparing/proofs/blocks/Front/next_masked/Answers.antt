@@ -1,0 +1,24 @@
+-- `comparing::blocks::Front::next_masked` meets its contract: no place is passed that is wanted.
+use mathlib.Core.Path.{◌≡◌, refl}
+use native.Mathlib.Omega.{arith}
+use Rattle.comparing.proofs.Searching.{none_yet, none_turn, found_here, found_none}
+use Rattle.comparing.proofs.blocks.Front.next_masked.Invariants.{unlike}
+use Rattle.comparing.proofs.blocks.Front.next_masked.Goals as goal
+
+pub loop-p-init : goal.loop-p-init
+loop-p-init c = let a = c.args in none_yet (unlike a.self.a.now a.self.b.now) a.wanted a.start
+
+pub returns-then-masked_byte-a : goal.returns-then-masked_byte-a
+returns-then-masked_byte-a c = let a = c.args in
+    found_here (unlike a.self.a.now a.self.b.now) a.wanted a.start a.self.end c.loop-p.p (omega arith) (omega arith) c.loop-p.invariant
+    (rw c.masked_byte.ensures at c.if-masked_byte-a.true)
+
+pub loop-p-preserved : goal.loop-p-preserved
+loop-p-preserved c = let a = c.args in
+    none_turn (unlike a.self.a.now a.self.b.now) a.wanted a.start c.loop-p.p c.loop-p.invariant
+    (rw c.masked_byte.ensures at c.if-masked_byte-a.false)
+
+pub returns : goal.returns
+returns c = let a = c.args in
+    let e : c.loop-p.p ≡ a.self.end = omega arith in
+    found_none (unlike a.self.a.now a.self.b.now) a.wanted a.start a.self.end a.self.end (omega arith) refl (rw e at c.loop-p.invariant)
