@@ -101,7 +101,18 @@ pub extern "C" fn bogtrumpet_new_pair(node: &mut Node, first: Settings, second: 
     refusals::number(setup.answer)
 }
 
-// The service of a number, to be changed. A number above 1 reads as the second, and is then not there.
+// The service of a number. One above 1 reads as the second, and is then not there.
+fn service_at(node: &Node, service: u8) -> &Service
+    ensures { result.now ≡ service_of node.now (name_of service) }
+{
+    if service == 0 {
+        &node.first
+    } else {
+        &node.second
+    }
+}
+
+// The same, to be changed.
 fn named(node: &mut Node, service: u8) -> &mut Service
     ensures* lends { sem 𝓛 (LendsService node.entry service result) }
     ensures value { result.now ≡ service_of node.old (name_of service) }
@@ -149,11 +160,7 @@ pub extern "C" fn bogtrumpet_receive(
 pub extern "C" fn bogtrumpet_path_size(node: &Node, service: u8, neighbour: u32) -> Sized
     ensures { result ≡ by_number service (λ w. plain_sized (path_size_of node.now w neighbour)) (plain_sized (Err NoLocator)) }
 {
-    let named = if service == 0 {
-        &node.first
-    } else {
-        &node.second
-    };
+    let named = service_at(node, service);
     sizes::size_in_force(
         named.settings.link_size,
         node.both,
@@ -171,11 +178,7 @@ pub extern "C" fn bogtrumpet_path_size(node: &Node, service: u8, neighbour: u32)
 fn size_toward(node: &Node, service: u8, next_hop: Address, time: u32) -> u16
     ensures { result ≡ path_size_toward node.now (name_of service) (bytes_of next_hop) time }
 {
-    let named = if service == 0 {
-        &node.first
-    } else {
-        &node.second
-    };
+    let named = service_at(node, service);
     sizes::size_toward(
         named.settings.link_size,
         node.both,
@@ -346,11 +349,7 @@ pub extern "C" fn bogtrumpet_advertise(
     ensures { (result ≡ by_number service (λ w. plain_advertised (advertise_of node.now w packet.now locator (advertisement_from advertisement) (length out.old))) (plain_advertised (Err NoLocator)))
         × (out.new ≡ by_number service (λ w. advertise_output node.now w packet.now locator (advertisement_from advertisement) out.old) out.old) }
 {
-    let named = if service == 0 {
-        &node.first
-    } else {
-        &node.second
-    };
+    let named = service_at(node, service);
     steps::advertised(
         *named,
         node.both,

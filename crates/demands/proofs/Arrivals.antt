@@ -12,6 +12,7 @@ use Rattle.lists.specs.Any.{Some}
 use Rattle.lists.proofs.Tests.{tested}
 use Rattle.lists.proofs.Decides.{fails}
 use Rattle.checksum.specs.Sum.{is_right_from}
+use Rattle.refusals.specs.Given.{number_in}
 use Rattle.refusals.specs.Refusals.{number_of, first_of}
 use Rattle.refusals.proofs.Laws.{all_false}
 use Rattle.refusals.specs.declared.Refusal.{Refusal}
@@ -50,11 +51,6 @@ key_rows s i d =
 -- the first of 11, 4, 6 and 7
 abbrev pub onward : Bool × Settings → ℕ → List ℕ → Result Unit Refusal
 onward q i d = first_of ((not q.0, NoLocator) ∷ key_rows q.1 i d)
-
--- the number of a check, 0 where it passes
-abbrev number_in : Result Unit Refusal → ℕ
-number_in (Ok tt) = 0
-number_in (Err r) = number_of r
 
 pub onward_same : (q : Bool × Settings) (i : ℕ) {e d : List ℕ} → SameKey e d → onward q i e ≡ onward q i d
 onward_same q i k = rw (k.protocol, k.destination, k.source)

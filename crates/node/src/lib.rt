@@ -43,12 +43,12 @@ pub struct Node {
     pub paths: PathTable,
     // The latest time seen.
     pub latest: u32,
-    // Any value but 0 says that the node has the second service.
+    // Any value but 0 says that the node has the second service: a byte, for a C caller may hand in any.
     pub both: u8,
 }
 
 // The service that a call names.
-#[derive(Clone, Copy)]
+#[derive(Clone, Copy, Debug, PartialEq, Eq)]
 pub enum ServiceName {
     First,
     Second,
@@ -178,7 +178,8 @@ impl Node {
         }
     }
 
-    // Whether the node has the service: a call that names another gives 11.
+    // Whether the node has the service: a call that names another gives 11. It is handed on beside the service, not as an Option of it: a refused
+    // call puts the service back too.
     fn has(self, name: ServiceName) -> bool
         ensures { result ≡ has_service self name }
     {

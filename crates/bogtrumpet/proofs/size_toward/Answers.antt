@@ -1,15 +1,13 @@
 -- The rows of the path table are those of the node, and the link that of the service.
-use Rattle.std.proofs.Common.{◌≡◌, max, ap, ◌∙◌, eq-eqb, ne_eqb, Bor}
+use Rattle.std.proofs.Common.{max, ap, ◌∙◌}
 use Rattle.address.specs.Address.{last_quad}
 use Rattle.paths.specs.Kept.{in_force}
 use Rattle.paths.specs.Table.{kept_among}
-use Rattle.node.specs.Node.{service_of}
 use Rattle.node.specs.declared.Service.{Service}
 use Rattle.bogtrumpet.specs.Numbered.{name_of}
 use Rattle.bogtrumpet.specs.Plain.{bytes_of}
 use Rattle.bogtrumpet.proofs.Same.{size_is}
 use Rattle.bogtrumpet.proofs.size_toward.Goals as goal
-use Rattle.bogtrumpet.proofs.size_toward.Goals.{then-service-eq0, else-service-eq0}
 
 pub returns : goal.returns
 returns c =
@@ -17,11 +15,7 @@ returns c =
     let k = c.args.service in
     let v = last_quad (bytes_of c.args.next_hop) in
     let now = max h.latest c.args.time in
-    let e : c.if-service-eq0.named.now ≡ service_of h (name_of k) =
-    elim c.if-service-eq0.branch [
-      | then-service-eq0 w ↦ rw (eq-eqb k 0 w.if-service-eq0.true) (ap (λ (b : Bor Service). b.now) w.named-is)
-      | else-service-eq0 w ↦ rw (ne_eqb k 0 w.if-service-eq0.false) (ap (λ (b : Bor Service). b.now) w.named-is)
-    ] in
+    let e = c.service_at-named.ensures in
     c.size_toward.ensures
     ∙ ap (λ (s : Service). in_force s.settings.link_size (kept_among h.paths.neighbours h.paths.sizes h.paths.times h.paths.count v now)) e
     ∙ size_is h (name_of k) v now
