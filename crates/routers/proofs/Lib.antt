@@ -7,3 +7,4 @@ pub mod Earliest
 pub mod Due
 pub mod Fairness
 pub mod Facts
+mod Chains

@@ -29,11 +29,7 @@ impl Router {
     fn if_due(self, now: u32) -> Option<u32>
         ensures { result ≡ if_due now self }
     {
-        if self.due <= now as u64 {
-            Some(self.address)
-        } else {
-            None
-        }
+        (self.due <= u64::from(now)).then_some(self.address)
     }
 }
 
@@ -52,39 +48,23 @@ fn earlier_of_two(first: Router, second: Router) -> Router
 pub fn lists_among(addresses: &[u32], count: usize, address: u32) -> bool
     ensures { result ≡ among address (take count addresses.now) }
 {
-    let n = lists::least(count, addresses.len());
-    let mut i = 0;
-    while i < n {
-        if addresses[i] == address {
-            return true;
-        }
-        i += 1;
-    }
-    false
+    addresses[..count.min(addresses.len())].contains(&address)
 }
 
 // Of the routers of the first `count` places the one with the earliest due time that is not in the future, lowest place on a tie.
 pub fn next_among<'a>(addresses: &'a [u32], dues: &'a [u64], count: usize, time: u32) -> Option<u32>
     ensures { result ≡ next_of time (held_in addresses.now dues.now count) }
 {
-    let n = lists::least(count, lists::least(addresses.len(), dues.len()));
-    if n == 0 {
-        return None;
-    }
-    let mut best = Router {
-        address: addresses[0],
-        due: dues[0],
-    };
-    let mut i = 1;
-    while i < n {
-        let router = Router {
-            address: addresses[i],
-            due: dues[i],
-        };
-        best = earlier_of_two(best, router);
-        i += 1;
-    }
-    best.if_due(time)
+    addresses
+        .iter()
+        .zip(dues)
+        .take(count)
+        .map(|(address, due)| Router {
+            address: *address,
+            due: *due,
+        })
+        .reduce(earlier_of_two)?
+        .if_due(time)
 }
 
 // Of the routers of the first `count` places the due time of the one of that address, and `other` if there is none.
@@ -97,15 +77,12 @@ fn due_among<'a>(
 ) -> u64
     ensures { result ≡ due_or other address (held_in addresses.now dues.now count) }
 {
-    let n = lists::least(count, lists::least(addresses.len(), dues.len()));
-    let mut i = 0;
-    while i < n {
-        if addresses[i] == address {
-            return dues[i];
-        }
-        i += 1;
-    }
-    other
+    addresses
+        .iter()
+        .zip(dues)
+        .take(count)
+        .find(|(listed, _due)| **listed == address)
+        .map_or(other, |(_listed, due)| *due)
 }
 
 // A due time where the addresses are the same, else another.
@@ -125,10 +102,8 @@ fn dues_after(
     ensures { result ≡ dues_after address due addresses dues }
 {
     let old = dues;
-    let mut i = 0;
-    while i < PLACES {
+    for i in 0..PLACES {
         dues[i] = due_if(addresses[i] == address, due, old[i]);
-        i += 1;
     }
     dues
 }
@@ -183,10 +158,8 @@ impl RouterList {
         let old = self.addresses;
         let dues = self.dues;
         let old_count = self.count;
-        let mut i = 0;
-        while i < PLACES {
-            self.dues[i] = due_among(&old, &dues, old_count, addresses[i], now as u64);
-            i += 1;
+        for i in 0..PLACES {
+            self.dues[i] = due_among(&old, &dues, old_count, addresses[i], u64::from(now));
         }
         self.addresses = addresses;
         self.count = count;
@@ -198,26 +171,20 @@ impl RouterList {
 fn stands(addresses: [u32; PLACES], from: usize, count: usize, address: u32) -> bool
     ensures { result ≡ among address (drop from (take count addresses)) }
 {
-    let n = lists::least(count, PLACES);
-    let mut found = false;
-    let mut i = from;
-    while i < n {
-        found = found | (addresses[i] == address);
-        i += 1;
-    }
-    found
+    addresses
+        .iter()
+        .take(count)
+        .skip(from)
+        .any(|other| *other == address)
 }
 
 // Whether no two of the first `count` addresses are the same.
 pub fn distinct(addresses: [u32; PLACES], count: usize) -> bool
     ensures { result ≡ are_distinct (take count addresses) }
 {
-    let n = lists::least(count, PLACES);
-    let mut all = true;
-    let mut i = 0;
-    while i < n {
-        all = all & !stands(addresses, i + 1, count, addresses[i]);
-        i += 1;
-    }
-    all
+    addresses
+        .iter()
+        .take(count)
+        .enumerate()
+        .all(|(i, address)| !stands(addresses, i + 1, count, *address))
 }

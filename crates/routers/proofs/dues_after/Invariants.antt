@@ -1,6 +1,6 @@
 -- `routers::dues_after`: the first i places are done, the others as they were.
 --
-use Prim.Native.Nat.{◌-◌, ◌≤◌}
+use Prim.Native.Nat.{◌≤◌}
 use mathlib.Core.Path.{◌≡◌}
 use mathlib.Core.List.{map, ◌++◌}
 use lib.ListN.{take, drop}
@@ -11,6 +11,3 @@ use Rattle.routers.proofs.dues_after.Given as goal
 
 abbrev pub invariant-loop-i : goal.invariant-loop-i
 invariant-loop-i l = (l.i ≤ places) × (l.dues ≡ map (λ (r : Router). (due_if l.address l.due r).due) (take l.i (pairs l.addresses l.old)) ++ drop l.i l.old)
-
-abbrev pub decreases-loop-i : goal.decreases-loop-i
-decreases-loop-i l = places - l.i

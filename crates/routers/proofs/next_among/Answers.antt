@@ -1,26 +1,22 @@
--- `routers::next_among`: the earliest of all is the earliest of the best so far and those from i on.
---
-use native.Mathlib.Omega.{arith}
-use mathlib.Core.Path.{sym, ◌∙◌}
-use Rattle.routers.specs.Routers.{next_of, earliest}
-use Rattle.routers.proofs.Laws.{held_rest, held-past, earliest_step}
+-- `routers::next_among` meets its contract: the chain reduces the routers to the earliest.
+use mathlib.Core.Path.{sym, ◌∙◌, ap}
+use Rattle.std.proofs.Common.{rules}
+use Rattle.std.specs.List.{reduce}
+use Rattle.std.proofs.lemmas.Iterator.{YieldsList-from_slice, YieldsList-from_take, YieldsList-from_zip, YieldsList-from_map}
+use Rattle.routers.specs.Routers.{held_in, earlier_of}
+use Rattle.routers.proofs.Chains.{router_of, pairs_zipped, reduced, none-next, next_reduced}
 use Rattle.routers.proofs.next_among.Goals as goal
 
-pub returns-then-n-eq0 : goal.returns-then-n-eq0
-unfolding next_of
-returns-then-n-eq0 c = let a = c.args in
-    rw (held-past a.count 0 a.addresses.now a.dues.now (omega arith))
-
-pub loop-i-init : goal.loop-i-init
-unfolding next_of
-loop-i-init c = let a = c.args in
-    (omega arith, rw (held_rest a.count 0 a.addresses.now a.dues.now (omega arith)))
-
-pub loop-i-preserved : goal.loop-i-preserved
-loop-i-preserved c = let a = c.args in
-    (omega arith, c.loop-i.invariant.1 ∙ rw (earliest_step a.count c.loop-i.i a.addresses.now a.dues.now (omega arith) c.loop-i.best, c.earlier_of_two-best.ensures))
+pub returns-in_err-reduce : goal.returns-in_err-reduce
+returns-in_err-reduce c = let a = c.args in
+    rw c.from_residual.ensures (none-next a.time (held_in a.addresses.now a.dues.now a.count) (sym c.in_err-reduce.was
+    ∙ reduced _ earlier_of _ (λ p z y q k. search rules) _ c.reduce.result c.reduce.ensures.ran
+    (YieldsList-from_map _ router_of (YieldsList-from_take a.count (YieldsList-from_zip (YieldsList-from_slice a.addresses.now cc) (YieldsList-from_slice a.dues.now cc)) cc) (cc) (λ x r q k. search rules))
+    ∙ ap (reduce earlier_of) (pairs_zipped a.count a.addresses.now a.dues.now)))
 
 pub returns : goal.returns
-unfolding earliest
 returns c = let a = c.args in
-    sym (c.loop-i.invariant.1 ∙ rw (held-past a.count c.loop-i.i a.addresses.now a.dues.now (omega arith), c.if_due.ensures))
+    rw c.if_due.ensures (next_reduced a.time (held_in a.addresses.now a.dues.now a.count) c.in_ok-reduce.field-0 (sym c.in_ok-reduce.was
+    ∙ reduced _ earlier_of _ (λ p z y q k. search rules) _ c.reduce.result c.reduce.ensures.ran
+    (YieldsList-from_map _ router_of (YieldsList-from_take a.count (YieldsList-from_zip (YieldsList-from_slice a.addresses.now cc) (YieldsList-from_slice a.dues.now cc)) cc) (cc) (λ x r q k. search rules))
+    ∙ ap (reduce earlier_of) (pairs_zipped a.count a.addresses.now a.dues.now)))

@@ -24,7 +24,7 @@ loop-i-preserved c = let a = c.args in
     let full : length l.dues ≡ places = search rules in
     let whole : length a.addresses ≡ places = search rules in (
       omega arith,
-      rw (c.due_among.ensures, c.loop-i.invariant.1)
+      rw (c.due_among.ensures, c.from.ensures, c.loop-i.invariant.1)
           (fill (λ x. due_or a.now x (held_in l.addresses l.dues l.count)) a.addresses l.dues c.loop-i.i 0 (omega arith) (omega arith)),
     )
 
