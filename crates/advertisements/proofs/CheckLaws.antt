@@ -1,8 +1,8 @@
 -- When an advertisement is written, and how long it is. Assumes nothing.
-use Rattle.std.specs.Prelude.{Ok, Err}
+use Rattle.std.specs.Prelude.{Result, Ok, Err}
 use Prim.Native.Nat.{ℕ, ◌+◌, ◌*◌, ◌≤◌, ◌<◌}
-use mathlib.Core.Path.{◌≡◌, ap}
-use mathlib.Core.Bool.{true, false, ◌||◌}
+use mathlib.Core.Path.{◌≡◌, refl, ap}
+use mathlib.Core.Bool.{Bool, true, false, cond, ◌||◌}
 use mathlib.Core.List.{List, [], ◌∷◌}
 use native.Mathlib.Omega.{arith}
 use borrow.Author.Tests.{lt-ltb, le-ltb, ltb-false}
@@ -11,10 +11,12 @@ use lib.Dec.{ltb}
 use lib.Seq.{length-take-le}
 use Rattle.lists.specs.Any.{any_of}
 use Rattle.lists.proofs.Tests.{or_left, or_right}
+use Rattle.refusals.specs.declared.Refusal.{Refusal}
 use Rattle.refusals.specs.declared.Refusal.TheVariants.{OptionsBad, OutputShort}
 use Rattle.advertisements.specs.declared.route.Route.{Route}
 use Rattle.advertisements.specs.declared.Advertisement.{Advertisement}
-use Rattle.advertisements.specs.Advertisement.{prefixes_of, routes_of, is_prefix_too_long, is_route_too_long, are_options_bad, routes_length, advertisement_length, advertisement_check}
+use Rattle.advertisements.specs.Advertisement.{prefixes_of, routes_of, is_prefix_too_long, is_route_too_long, are_options_bad, routes_length, advertisement_length, advertisement_check, advertisement_answer}
+use Rattle.header.specs.Wrap.{writer_answer}
 use Rattle.advertisements.proofs.UnitLaws.{units_between}
 
 module _ (a : Advertisement) (room : ℕ) where
@@ -29,6 +31,32 @@ module _ (a : Advertisement) (room : ℕ) where
   pub both_pass : are_options_bad a ≡ false → advertisement_length a ≤ room → advertisement_check a room ≡ Ok tt
   unfolding advertisement_check
   both_pass h k = rw (h, le-ltb _ _ k)
+
+  -- what an answer says of the check behind it
+  pub answer_refused : (r : Refusal) → advertisement_answer a room ≡ Err r → advertisement_check a room ≡ Err r
+  unfolding advertisement_answer
+  answer_refused r = go (advertisement_check a room)
+    where
+      go : (c : Result Unit Refusal) → writer_answer c (advertisement_length a) ≡ Err r → c ≡ Err r
+      go (Ok tt) e = absurd cc
+      go (Err q) e = let same : q ≡ r = cc in ap Err same
+
+  pub answer_passed : (n : ℕ) → advertisement_answer a room ≡ Ok n
+      → ((are_options_bad a ≡ false) × (advertisement_length a ≤ room)) × ((advertisement_check a room ≡ Ok (tt {0})) × (n ≡ advertisement_length a))
+  unfolding advertisement_answer advertisement_check
+  answer_passed n = go (are_options_bad a) (ltb room (advertisement_length a)) refl refl
+    where
+      go : (s t : Bool) → are_options_bad a ≡ s → ltb room (advertisement_length a) ≡ t
+          → writer_answer (cond s (Err OptionsBad) (cond t (Err OutputShort) (Ok (tt {0})))) (advertisement_length a) ≡ Ok n
+          → ((are_options_bad a ≡ false) × (advertisement_length a ≤ room)) × ((cond (are_options_bad a) (Err OptionsBad) (cond (ltb room (advertisement_length a)) (Err OutputShort) (Ok (tt {0}))) ≡ Ok (tt {0})) × (n ≡ advertisement_length a))
+      go true t e f h = absurd cc
+      go false true e f h = absurd cc
+      go false false e f h = ((e, ltb-false room (advertisement_length a) f), (rw (e, f), cc))
+
+-- the length is that of the parts
+pub length_parts : (a : Advertisement) → advertisement_length a ≡ 56 + (length (prefixes_of a) * 32 + routes_length (routes_of a))
+unfolding advertisement_length
+length_parts a = omega arith
 
 -- routes take 24 bytes each at most
 pub routes-most : (rs : List Route) → routes_length rs ≤ length rs * 24

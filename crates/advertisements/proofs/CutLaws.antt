@@ -8,6 +8,7 @@ use native.Mathlib.Nat.{eq-zero-or-pos, div-div-eq-div-mul, div-mul-le_self, mod
 use lib.Pow.{pow_pos, pow-add}
 use lib.ListN.{length, get_or, drop, length-append}
 use lib.Seq.{take_all, drop-length}
+use Rattle.std.specs.Int.{w64, to_be_bytes, from_be_bytes}
 use Rattle.header.specs.Fields.{bytes_from}
 use Rattle.lent.specs.Written.{written_at}
 use Rattle.lent.proofs.Laws.{written_at-first, written_at-more}
@@ -89,6 +90,14 @@ module _ (n a b c d e f g h x : ℕ) (a8 : a < 256) (b8 : b < 256) (c8 : c < 256
 
       last : y / 2 ^ 0 % 256 ≡ get_or (first_bits_of n l) 7 0 → y % 256 ≡ get_or (first_bits_of n l) 7 0
       last p = omega arith
+
+-- the same of the bytes that the library makes of it
+pub cut_bytes : (n : ℕ) (p : List ℕ) → length p ≡ 8 → ((i : ℕ) → get_or p i 0 < 256) → (x : ℕ) → x ≡ from_be_bytes w64 p → (y : ℕ) → y ≡ cut (64 - n) x
+    → to_be_bytes w64 y ≡ first_bits_of n p
+cut_bytes n p full small x e y q =
+    first-bits-of_eight n (get_or p 0 0) (get_or p 1 0) (get_or p 2 0) (get_or p 3 0) (get_or p 4 0) (get_or p 5 0) (get_or p 6 0) (get_or p 7 0) x
+    (small 0) (small 1) (small 2) (small 3) (small 4) (small 5) (small 6) (small 7) (e ∙ omega arith) y q
+    ∙ ap (λ (l : List ℕ). first_bits_of n l) (bytes-taken 8 0 p (omega arith) ∙ take_all 8 p (omega arith))
 
 -- a shift by less than the width
 pub shifted : (n x others : ℕ) → 0 < n → x < 2 ^ 64 → others ≡ (64 - min n 64) % 64 → (x / 2 ^ others * 2 ^ others) % 2 ^ 64 ≡ cut (64 - n) x

@@ -5,13 +5,12 @@ pub mod bits;
 pub mod prefix;
 pub mod route;
 
-ghost use Rattle.std.specs.Prelude.{◌≡◌, ◌+◌, ◌*◌, ◌≤◌, min, ◌<◌, length, take};
+ghost use Rattle.std.specs.Prelude.{◌≡◌, ◌+◌, ◌*◌, ◌≤◌, ◌<◌, length, take};
 ghost use mathlib.Core.List.{map, flatten};
-ghost use Rattle.lists.specs.Any.{any_of};
 ghost use Rattle.lent.specs.Written.{written, written_at};
 ghost use Rattle.advertisements.specs.Options.{prefix_option, route_option};
 ghost use Rattle.header.specs.Wrap.{be32};
-ghost use Rattle.advertisements.specs.Advertisement.{is_prefix_too_long, is_route_too_long, are_options_bad, written_options, routes_of, routes_length, advertisement_length, advertisement_answer, advertisement_output};
+ghost use Rattle.advertisements.specs.Advertisement.{are_options_bad, written_options, prefixes_of, routes_of, routes_length, advertisement_length, advertisement_answer, advertisement_output};
 
 use header::fields;
 use lent::write_at;
@@ -32,7 +31,8 @@ const CURRENT_HOP_LIMIT: u8 = 0;
 // Where the options start: behind the message's headers stand the reachable time and the retransmission timer.
 const OPTIONS: usize = HEADERS + 8;
 
-// An advertisement as the operator sets it. Entries behind a count are not read.
+// An advertisement as the operator sets it. Entries behind a count are not read. Arrays, for memory is fixed, and each with its count beside
+// it, for that may be above 8, which is refused by 26 (`BadOptions`).
 #[derive(Clone, Copy)]
 pub struct Advertisement {
     // The flag M.
@@ -41,73 +41,67 @@ pub struct Advertisement {
     pub other: bool,
     // The router's lifetime.
     pub lifetime: u16,
-    pub prefixes: [Prefix; 8],
+    pub prefixes: [Prefix; MOST],
     pub prefix_count: usize,
-    pub routes: [Route; 8],
+    pub routes: [Route; MOST],
     pub route_count: usize,
 }
 
-// Whether one of the first `count` prefixes has more than 128 bits.
-fn prefix_too_long(prefixes: [Prefix; 8], count: usize) -> bool
-    ensures { result ≡ any_of is_prefix_too_long (take count prefixes) }
-{
-    let n = lists::least(count, MOST);
-    let mut i: usize = 0;
-    while i < n {
-        let p = prefixes[i];
-        if LONGEST < p.length {
-            return true;
-        }
-        i += 1;
+impl Advertisement {
+    // The prefixes that count.
+    fn counted_prefixes(&self) -> &[Prefix]
+        ensures { result.now ≡ prefixes_of self.now }
+    {
+        &self.prefixes[..self.prefix_count.min(MOST)]
     }
-    false
-}
 
-// Whether one of the first `count` routes has more than 128 bits.
-fn route_too_long(routes: [Route; 8], count: usize) -> bool
-    ensures { result ≡ any_of is_route_too_long (take count routes) }
-{
-    let n = lists::least(count, MOST);
-    let mut i: usize = 0;
-    while i < n {
-        let r = routes[i];
-        if LONGEST < r.length {
-            return true;
-        }
-        i += 1;
+    // The routes that count.
+    fn counted_routes(&self) -> &[Route]
+        ensures { result.now ≡ routes_of self.now }
+    {
+        &self.routes[..self.route_count.min(MOST)]
     }
-    false
+
+    // Number 26.
+    fn options_bad(&self) -> bool
+        ensures { result ≡ are_options_bad self.now }
+    {
+        let prefix = self.counted_prefixes().iter().any(|p| LONGEST < p.length);
+        let route = self.counted_routes().iter().any(|r| LONGEST < r.length);
+        (MOST < self.prefix_count) | ((MOST < self.route_count) | (prefix | route))
+    }
+
+    fn length(&self) -> usize
+        ensures { result ≡ advertisement_length self.now }
+    {
+        OPTIONS
+            + (self.counted_prefixes().len() * PREFIX_OPTION + routes_length(self.counted_routes()))
+    }
+
+    // The length where there is so much room, or the refusal.
+    fn checked(&self, room: usize) -> Result<usize, Refusal>
+        ensures { result ≡ advertisement_answer self.now room }
+    {
+        if self.options_bad() {
+            return Err(Refusal::OptionsBad);
+        }
+        let n = self.length();
+        if room < n {
+            Err(Refusal::OutputShort)
+        } else {
+            Ok(n)
+        }
+    }
 }
 
-// Number 26.
-fn options_bad(a: Advertisement) -> bool
-    ensures { result ≡ are_options_bad a }
+// The bytes that route options take.
+fn routes_length(routes: &[Route]) -> usize
+    requires { length routes.now ≤ 8 }
+    ensures { (result ≡ routes_length routes.now) × (result ≤ 192) }
 {
-    let prefixes = a.prefixes;
-    let routes = a.routes;
-    (MOST < a.prefix_count)
-        | ((MOST < a.route_count)
-            | (prefix_too_long(prefixes, a.prefix_count) | route_too_long(routes, a.route_count)))
-}
-
-// The bytes that the first `count` prefix options take.
-fn prefixes_length(count: usize) -> usize
-    ensures { result ≡ min count 8 * 32 }
-{
-    lists::least(count, MOST) * PREFIX_OPTION
-}
-
-// The bytes that the first `count` route options take.
-fn routes_length(routes: [Route; 8], count: usize) -> usize
-    ensures { (result ≡ routes_length (take count routes)) × (result ≤ 192) }
-{
-    let n = lists::least(count, MOST);
-    let mut sum: usize = 0;
-    let mut i: usize = 0;
-    while i < n {
-        let r = routes[i];
+    let mut sum = 0;
+    for r in routes {
         sum += route::route_size(r.length);
-        i += 1;
     }
     sum
 }
@@ -118,21 +112,17 @@ pub fn advertisement_length(a: Advertisement) -> usize
     ensures value { result ≡ advertisement_length a }
     ensures lifetime_bound { (a.lifetime < 65536) × (length a.prefixes ≡ 8) }
 {
-    let routes = a.routes;
-    OPTIONS + (prefixes_length(a.prefix_count) + routes_length(routes, a.route_count))
+    a.length()
 }
 
-// Writes the first `count` prefix options to the front of out.
-fn write_prefixes(prefixes: [Prefix; 8], count: usize, out: &mut [u8])
-    requires { (count ≤ 8) × (count * 32 ≤ length out.old) }
-    ensures out_after { out.new ≡ written (flatten (map prefix_option (take count prefixes))) out.old }
-    ensures prefixes_len { length (flatten (map prefix_option (take count prefixes))) ≡ count * 32 }
+// Writes prefix options to the front of out.
+fn write_prefixes(prefixes: &[Prefix], out: &mut [u8])
+    requires { length prefixes.now * 32 ≤ length out.old }
+    ensures out_after { out.new ≡ written (flatten (map prefix_option prefixes.now)) out.old }
+    ensures prefixes_len { length (flatten (map prefix_option prefixes.now)) ≡ length prefixes.now * 32 }
 {
-    let mut i: usize = 0;
-    while i < count {
-        let option = prefix::prefix_option(prefixes[i]);
-        write_at(&option, out, i * PREFIX_OPTION);
-        i += 1;
+    for (i, p) in prefixes.iter().enumerate() {
+        write_at(&prefix::prefix_option(*p), out, i * PREFIX_OPTION);
     }
 }
 
@@ -142,52 +132,40 @@ fn write_first(option: [u8; ROUTE_OPTION], size: usize, at: usize, out: &mut [u8
     requires { size ≤ 24 }
     ensures { out.new ≡ written_at at (take size option) out.old }
 {
-    if size == 8 {
-        write_at(&option[..8], out, at);
-        return;
+    match size {
+        8 => write_at(&option[..8], out, at),
+        16 => write_at(&option[..16], out, at),
+        ROUTE_OPTION => write_at(&option, out, at),
+        _ => write_at(&option[..size], out, at),
     }
-    if size == 16 {
-        write_at(&option[..16], out, at);
-        return;
-    }
-    if size == ROUTE_OPTION {
-        write_at(&option, out, at);
-        return;
-    }
-    write_at(&option[..size], out, at);
 }
 
-// Writes the first `count` route options to the front of out.
-fn write_routes(routes: [Route; 8], count: usize, out: &mut [u8])
-    requires { (count ≤ 8) × (routes_length (take count routes) ≤ length out.old) }
-    ensures out_after { out.new ≡ written (flatten (map route_option (take count routes))) out.old }
-    ensures routes_len { length (flatten (map route_option (take count routes))) ≡ routes_length (take count routes) }
+// Writes route options to the front of out.
+fn write_routes(routes: &[Route], out: &mut [u8])
+    requires { (length routes.now ≤ 8) × (routes_length routes.now ≤ length out.old) }
+    ensures out_after { out.new ≡ written (flatten (map route_option routes.now)) out.old }
+    ensures routes_len { length (flatten (map route_option routes.now)) ≡ routes_length routes.now }
 {
-    let mut at: usize = 0;
-    let mut i: usize = 0;
-    while i < count {
-        let r = routes[i];
+    let mut at = 0;
+    for r in routes {
         let size = route::route_size(r.length);
-        let option = route::route_option(r);
-        write_first(option, size, at, out);
+        write_first(route::route_option(*r), size, at, out);
         at += size;
-        i += 1;
     }
 }
 
 // Writes what stands behind the message's headers to the front of out: reachable time and retransmission timer 0, and the options.
-fn write_rest(a: Advertisement, out: &mut [u8])
-    requires prefix_count_bound { (a.prefix_count ≤ 8) × (a.route_count ≤ 8) }
-    requires a_in_bounds { 8 + (a.prefix_count * 32 + routes_length (routes_of a)) ≤ length out.old }
-    ensures out_after { out.new ≡ written (be32 0 (be32 0 (flatten (written_options a)))) out.old }
-    ensures a_len { length (flatten (written_options a)) ≡ a.prefix_count * 32 + routes_length (routes_of a) }
+fn write_rest(a: &Advertisement, out: &mut [u8])
+    requires { 8 + (length (prefixes_of a.now) * 32 + routes_length (routes_of a.now)) ≤ length out.old }
+    ensures out_after { out.new ≡ written (be32 0 (be32 0 (flatten (written_options a.now)))) out.old }
+    ensures a_len { length (flatten (written_options a.now)) ≡ length (prefixes_of a.now) * 32 + routes_length (routes_of a.now) }
 {
-    let prefixes = a.prefixes;
-    let routes = a.routes;
-    let behind = 8 + prefixes_length(a.prefix_count);
+    let prefixes = a.counted_prefixes();
+    let routes = a.counted_routes();
+    let behind = 8 + prefixes.len() * PREFIX_OPTION;
     write_at(&[0; 8], out, 0);
-    write_prefixes(prefixes, a.prefix_count, &mut out[8..]);
-    write_routes(routes, a.route_count, &mut out[behind..]);
+    write_prefixes(prefixes, &mut out[8..]);
+    write_routes(routes, &mut out[behind..]);
 }
 
 // Writes the advertisement, an IPv6 packet that is not wrapped.
@@ -200,14 +178,8 @@ pub fn write(
     ensures value { result ≡ advertisement_answer a (length out.old) }
     ensures out_after { out.new ≡ advertisement_output from to a out.old }
 {
-    if options_bad(a) {
-        return Err(Refusal::OptionsBad);
-    }
-    let n = advertisement_length(a);
-    if out.len() < n {
-        return Err(Refusal::OutputShort);
-    }
-    write_rest(a, &mut out[HEADERS..]);
+    let n = a.checked(out.len())?;
+    write_rest(&a, &mut out[HEADERS..]);
     let message = Message {
         hop: HOP_LIMIT,
         from,

@@ -30,8 +30,7 @@ pub fn prefix_option(prefix: Prefix) -> [u8; PREFIX_OPTION]
     ensures value { result ≡ prefix_option prefix }
     ensures prefix_fits { PrefixFits prefix }
 {
-    let bytes = prefix.bytes;
-    let kept = bits::first_bits_of(prefix.length, bytes);
+    let kept = bits::first_bits_of(prefix.length, prefix.bytes);
     let mut option = [0; PREFIX_OPTION];
     option[0] = PREFIX;
     option[1] = PREFIX_UNITS;

@@ -8,12 +8,20 @@ use header::fields;
 use lent::write_at;
 use options::{ROUTE, UNIT};
 
-// How a router is preferred for a route.
+// How a router is preferred for a route: by the bits 3 and 4 of a byte whose others are 0 (RFC 4191, 2.1).
 #[derive(Clone, Copy)]
 pub enum Preference {
-    Medium,
-    High,
-    Low,
+    Medium = 0x00,
+    High = 0x08,
+    Low = 0x18,
+}
+
+impl Preference {
+    fn bits(self) -> u8
+        ensures { result ≡ preference_bits self }
+    {
+        self as u8
+    }
 }
 
 // A route as the operator sets it.
@@ -29,25 +37,15 @@ pub struct Route {
 // The most bytes of a route option.
 pub const ROUTE_OPTION: usize = 24;
 
-// The bits 3 and 4 of a byte whose others are 0 (RFC 4191, 2.1).
-fn preference_bits(preference: Preference) -> u8
-    ensures { result ≡ preference_bits preference }
-{
-    match preference {
-        Preference::Medium => 0x00,
-        Preference::High => 0x08,
-        Preference::Low => 0x18,
-    }
-}
-
 // The shortest length of the option for a prefix of that many bits, in units of 8 bytes.
 fn route_units(length: u8) -> u8
     ensures { result ≡ route_units length }
 {
-    if length == 0 {
-        return 1;
+    match length {
+        0 => 1,
+        1..=64 => 2,
+        _ => 3,
     }
-    if length <= 64 { 2 } else { 3 }
 }
 
 // The bytes that the option takes.
@@ -63,14 +61,12 @@ pub fn route_option(route: Route) -> [u8; ROUTE_OPTION]
     ensures value { result ≡ full_route_option route }
     ensures route_fits { RouteFits route }
 {
-    let bytes = route.bytes;
-    let kept = bits::first_bits_of(route.length, bytes);
-    let preference = route.preference;
+    let kept = bits::first_bits_of(route.length, route.bytes);
     let mut option = [0; ROUTE_OPTION];
     option[0] = ROUTE;
     option[1] = route_units(route.length);
     option[2] = route.length;
-    option[3] = preference_bits(preference);
+    option[3] = route.preference.bits();
     write_at(&fields::quad_bytes(route.lifetime), &mut option, 4);
     write_at(&kept, &mut option, 8);
     option

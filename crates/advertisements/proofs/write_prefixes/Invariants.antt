@@ -1,5 +1,5 @@
--- `advertisements::write_prefixes` meets its contract. The loop's invariant: the first i options stand one behind another.
-use Prim.Native.Nat.{◌-◌, ◌*◌, ◌≤◌}
+-- The first i options stand one behind another.
+use Prim.Native.Nat.{◌*◌}
 use mathlib.Core.Path.{◌≡◌}
 use mathlib.Core.List.{map, flatten}
 use lib.ListN.{take, length}
@@ -8,7 +8,5 @@ use Rattle.advertisements.specs.Options.{prefix_option}
 use Rattle.advertisements.proofs.write_prefixes.Given as goal
 
 abbrev pub invariant-loop-i : goal.invariant-loop-i
-invariant-loop-i l = (l.i ≤ l.count) × (length l.out ≡ length l.initial.out) × (length (flatten (map prefix_option (take l.i l.prefixes))) ≡ l.i * 32) × (l.out ≡ written (flatten (map prefix_option (take l.i l.prefixes))) l.initial.out)
-
-abbrev pub decreases-loop-i : goal.decreases-loop-i
-decreases-loop-i l = l.count - l.i
+invariant-loop-i l = (length l.out ≡ length l.initial.out) × (length (flatten (map prefix_option (take l.i l.prefixes))) ≡ l.i * 32)
+    × (l.out ≡ written (flatten (map prefix_option (take l.i l.prefixes))) l.initial.out)

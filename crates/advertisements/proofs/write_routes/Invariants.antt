@@ -1,5 +1,5 @@
--- `advertisements::write_routes` meets its contract. The loop's invariant: the first i options stand one behind another, up to `at`.
-use Prim.Native.Nat.{◌-◌, ◌+◌, ◌*◌, ◌≤◌}
+-- The first options stand one behind another, up to `at`.
+use Prim.Native.Nat.{◌+◌, ◌*◌, ◌≤◌}
 use mathlib.Core.Path.{◌≡◌}
 use mathlib.Core.List.{map, flatten}
 use lib.ListN.{take, drop, length}
@@ -8,9 +8,7 @@ use Rattle.advertisements.specs.Options.{route_option}
 use Rattle.advertisements.specs.Advertisement.{routes_length}
 use Rattle.advertisements.proofs.write_routes.Given as goal
 
-abbrev pub invariant-loop-i : goal.invariant-loop-i
-invariant-loop-i l = (l.i ≤ l.count) × (length l.out ≡ length l.initial.out) × (length (flatten (map route_option (take l.i l.routes))) ≡ l.at)
-    × (l.at + routes_length (drop l.i (take l.count l.routes)) ≡ routes_length (take l.count l.routes)) × (l.at ≤ l.i * 24) × (l.out ≡ written (flatten (map route_option (take l.i l.routes))) l.initial.out)
-
-abbrev pub decreases-loop-i : goal.decreases-loop-i
-decreases-loop-i l = l.count - l.i
+abbrev pub invariant-loop-r : goal.invariant-loop-r
+invariant-loop-r l = (length l.out ≡ length l.initial.out) × (length (flatten (map route_option (take l.r-index l.routes))) ≡ l.at)
+    × (l.at + routes_length (drop l.r-index l.routes) ≡ routes_length l.routes) × (l.at ≤ l.r-index * 24)
+    × (l.out ≡ written (flatten (map route_option (take l.r-index l.routes))) l.initial.out)

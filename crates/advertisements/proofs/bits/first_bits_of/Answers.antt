@@ -1,7 +1,5 @@
 -- `advertisements::bits::first_bits_of` meets its contract: one half is written behind the other.
 use borrow.Author.Rules.{rules}
-use native.Mathlib.Omega.{arith}
-use Prim.Native.Nat.{◌-◌}
 use mathlib.Core.Path.{◌≡◌, refl}
 use lib.ListN.{length, replicate}
 use Rattle.advertisements.proofs.CutLaws.{halves_written}
@@ -9,5 +7,5 @@ use Rattle.advertisements.proofs.bits.first_bits_of.Goals as goal
 
 pub returns : goal.returns
 returns c = let a = c.args in
-    let full : length a.prefix ≡ 16 = search (rules, c.ranges) in
-    halves_written a.n (a.n - c.least.result) a.prefix (replicate 16 0) full refl (omega arith) c.half.ensures c.half-2.ensures c.write_at.ensures c.write_at-2.ensures
+    let full : length a.prefix ≡ 16 = search rules in
+    halves_written a.n c.saturating_sub.result a.prefix (replicate 16 0) full refl c.saturating_sub.ensures c.half-high.ensures c.half-low.ensures c.write_at.ensures c.write_at-2.ensures

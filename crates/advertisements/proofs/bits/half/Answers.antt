@@ -1,9 +1,13 @@
 -- `advertisements::bits::half` meets its contract: each byte of the number has its own first bits.
-use native.Mathlib.Omega.{arith}
-use Rattle.advertisements.proofs.CutLaws.{first-bits-of_eight}
+use Prim.Native.Nat.{ℕ, ◌<◌}
+use mathlib.Core.Path.{◌≡◌, ◌∙◌}
+use borrow.Author.Rules.{rules}
+use lib.ListN.{length, get_or}
+use Rattle.advertisements.proofs.CutLaws.{cut_bytes}
 use Rattle.advertisements.proofs.bits.half.Goals as goal
 
 pub returns : goal.returns
-returns c = let w = c.wide in
-    let v = c.args in
-    first-bits-of_eight v.n v.a v.b v.c v.d v.e v.f v.g v.h w.result (omega arith) (omega arith) (omega arith) (omega arith) (omega arith) (omega arith) (omega arith) (omega arith) w.ensures c.first_bits-x.result c.first_bits-x.ensures
+returns c = let a = c.args in
+    let full : length a.bytes ≡ 8 = search rules in
+    let small : (i : ℕ) → get_or a.bytes i 0 < 256 = search rules in
+    c.to_be_bytes.ensures ∙ cut_bytes a.n a.bytes full small c.from_be_bytes.result c.from_be_bytes.ensures c.first_bits.result c.first_bits.ensures

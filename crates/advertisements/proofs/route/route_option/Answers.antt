@@ -14,5 +14,5 @@ returns-clause-value c = let masked = c.first_bits_of-kept in
     let r = c.args.route in
     let full : length masked.result ≡ 16 = search rules in
     let long = rw masked.ensures at full in
-    let lifetime = rw (c.quad_bytes.ensures, c.preference_bits.ensures, c.route_units.ensures) at c.write_at.ensures in
+    let lifetime = rw (c.quad_bytes.ensures, c.bits.ensures, c.route_units.ensures) at c.write_at.ensures in
     rw (masked.ensures, lifetime, long, append-nil (first_bits_of r.length r.bytes)) at c.write_at-2.ensures

@@ -1,19 +1,17 @@
 -- `advertisements::route::route_units` meets its contract: by cases on the length.
 use native.Mathlib.Omega.{arith}
-use borrow.Author.Tests.{eq-eqb, ne_eqb, le-leb, lt-leb}
+use Rattle.std.proofs.lemmas.Bool.Decides.{nat_tests}
 use Rattle.advertisements.specs.Options.{route_units}
 use Rattle.advertisements.proofs.route.route_units.Goals as goal
 
-pub returns-then-length-eq0 : goal.returns-then-length-eq0
+pub returns-in-0 : goal.returns-in-0
 unfolding route_units
-returns-then-length-eq0 c = rw (eq-eqb c.args.length 0 (omega arith))
+returns-in-0 c = grind (arith, nat_tests)
 
-pub returns-then-length-le64 : goal.returns-then-length-le64
+pub returns-in-1-to-64 : goal.returns-in-1-to-64
 unfolding route_units
-returns-then-length-le64 c = let l = c.args.length in
-    rw (ne_eqb l 0 c.if-length-eq0.false, le-leb l 64 (omega arith))
+returns-in-1-to-64 c = grind (arith, nat_tests)
 
-pub returns-else-length-le64 : goal.returns-else-length-le64
+pub returns-in_default : goal.returns-in_default
 unfolding route_units
-returns-else-length-le64 c = let l = c.args.length in
-    rw (ne_eqb l 0 c.if-length-eq0.false, lt-leb l 64 (omega arith))
+returns-in_default c = grind (arith, nat_tests)
