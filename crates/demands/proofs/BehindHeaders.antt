@@ -1,4 +1,5 @@
 -- What a packet's chain of headers means for a sending, by demand 2 and by what the chain decides. Assumes nothing.
+use Rattle.std.specs.Prelude.{Ok, Err}
 use Prim.Native.Nat.{ℕ, ◌≤◌}
 use mathlib.Core.Path.{◌≡◌, refl, ap, ◌∙◌}
 use mathlib.Core.Bool.{Bool, true, false, cond}
@@ -19,7 +20,7 @@ use Rattle.settings.specs.Settings.{locator_of}
 use Rattle.sending.specs.Plan.{send_check, sized_plan, plan_of}
 use Rattle.sending.specs.Sending.{identification_after, sent_of, sent_output}
 use Rattle.sending.specs.declared.judging.Plan.{Plan}
-use Rattle.sending.specs.declared.judging.Plan.TheVariants.{Wrap, Tell, Silent, Refuse}
+use Rattle.sending.specs.declared.judging.Plan.TheVariants.{Wrap, Tell, Silent}
 use Rattle.settings.specs.declared.Settings.{Settings}
 use Rattle.node.specs.Send.{path_size_toward, send_of, send_output}
 use Rattle.node.specs.Node.{service_of}
@@ -39,7 +40,7 @@ largest-least P = omega arith
 by_first_lem : (s : Settings) (P : ℕ) (packet hop : List ℕ) (k : ℕ) → UpperLayer (get_or packet 6 0) → plan_of s P packet hop k ≡ plan_by_first s P packet hop k
 unfolding plan_of sized_plan
 by_first_lem s P packet hop k u =
-    ap (λ (plan : Plan). stop_or Refuse (send_check s packet hop k) plan) (go (ltb (largest_packet P) (length packet)) refl)
+    ap (λ (plan : Plan). stop_or Err (send_check s packet hop k) (Ok plan)) (go (ltb (largest_packet P) (length packet)) refl)
   where
     go : (t : Bool) → ltb (largest_packet P) (length packet) ≡ t
         → ◌≡◌ {A = Plan}

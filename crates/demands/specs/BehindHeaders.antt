@@ -1,5 +1,6 @@
 -- Errors behind extension headers (R25): what a packet's chain of headers means for a sending that comes to 14, through every service of every node.
-use Rattle.std.specs.Prelude.{ℕ, ◌≤◌, ◌≡◌, Bool, cond, not, ◌&&◌, ◌||◌, List, eqb, ltb, get_or, length}
+use Rattle.std.specs.Prelude.{ℕ, ◌≤◌, ◌≡◌, Bool, cond, not, ◌&&◌, ◌||◌, List, eqb, ltb, get_or, length, Result, Ok, Err}
+use Rattle.refusals.specs.declared.Refusal.{Refusal}
 use Rattle.address.specs.Address.{is_multicast_or_unspecified}
 use Rattle.header.specs.Draws.{UpperLayer, Chain, OffsetsZero, ErrorOrRedirect, Harmless, Answerable}
 use Rattle.header.specs.Fields.{address_at}
@@ -14,7 +15,7 @@ use Rattle.sending.specs.Plan.{send_check}
 use Rattle.sending.specs.Sending.{plan_answer, identification_after, plan_output}
 use Rattle.sending.specs.Exactly.{Exceeds, message_length}
 use Rattle.sending.specs.declared.judging.Plan.{Plan}
-use Rattle.sending.specs.declared.judging.Plan.TheVariants.{Wrap, Tell, Silent, Refuse}
+use Rattle.sending.specs.declared.judging.Plan.TheVariants.{Wrap, Tell, Silent}
 use Rattle.sending.specs.declared.SendAnswer.{SendAnswer}
 use Rattle.sending.specs.declared.SendAnswer.TheVariants.{TooBig}
 use Rattle.node.specs.Send.{path_size_toward, send_of, send_output}
@@ -30,11 +31,11 @@ may_draw_by_first p =
     not (is_multicast_or_unspecified (address_at p 8) || (eqb (get_or p 6 0) 58 && ltb 40 (length p) && (ltb (get_or p 40 0) 128 || eqb (get_or p 40 0) 137)))
 
 -- the plan of a sending by that
-abbrev pub plan_by_first : Settings → ℕ → List ℕ → List ℕ → ℕ → Plan
+abbrev pub plan_by_first : Settings → ℕ → List ℕ → List ℕ → ℕ → Result Plan Refusal
 plan_by_first s P packet hop k =
     let size : ℕ = largest_packet P in
-    stop_or Refuse (send_check s packet hop k)
-    (cond (ltb size (length packet)) (cond (may_draw_by_first packet) (Tell size) (Silent size)) (Wrap (address_of (locator_of s k))))
+    stop_or Err (send_check s packet hop k)
+    (Ok (cond (ltb size (length packet)) (cond (may_draw_by_first packet) (Tell size) (Silent size)) (Wrap (address_of (locator_of s k)))))
 
 module _ (n : Node) (w : ServiceName) (packet hop : List ℕ) (k time : ℕ) (out : List ℕ) where
   -- 14 is to be given, and to name M

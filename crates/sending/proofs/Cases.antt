@@ -12,7 +12,7 @@ use Rattle.settings.specs.declared.Settings.{Settings}
 use Rattle.sending.specs.Plan.{send_check, sized_plan, plan_of}
 use Rattle.sending.specs.Sending.{wrapped_as, told_as, plan_answer}
 use Rattle.sending.specs.declared.judging.Plan.{Plan}
-use Rattle.sending.specs.declared.judging.Plan.TheVariants.{Wrap, Tell, Silent, Refuse}
+use Rattle.sending.specs.declared.judging.Plan.TheVariants.{Wrap, Tell, Silent}
 use Rattle.sending.specs.declared.SendAnswer.TheVariants.{Wrapped, TooBig}
 
 -- a writer that names a length has passed its check
@@ -38,19 +38,19 @@ told-not-wrapped size (Err r) len e = let z : ◌≡◌ {A = ℕ} 0 1 = cc in om
 
 module _ (n room : ℕ) where
   -- a packet is answered as wrapped only where that is the plan, and with the length that the writer names
-  pub wrapped_plan : (plan : Plan) (len : ℕ) → plan_answer plan n room ≡ Wrapped len → ((source : ℕ) × (plan ≡ Wrap source)) × (wrap_answer n room ≡ Ok len)
-  wrapped_plan (Wrap source) len e = ((source, refl), wrapped-named (wrap_answer n room) len e)
-  wrapped_plan (Tell size) len e = absurd (told-not-wrapped size (too_big_answer n room) len e)
-  wrapped_plan (Silent size) len e = let z : ◌≡◌ {A = ℕ} 0 1 = cc in absurd (omega arith)
-  wrapped_plan (Refuse r) len e = let z : ◌≡◌ {A = ℕ} 0 1 = cc in absurd (omega arith)
+  pub wrapped_plan : (plan : Result Plan Refusal) (len : ℕ) → plan_answer plan n room ≡ Wrapped len → ((source : ℕ) × (plan ≡ Ok (Wrap source))) × (wrap_answer n room ≡ Ok len)
+  wrapped_plan (Ok (Wrap source)) len e = ((source, refl), wrapped-named (wrap_answer n room) len e)
+  wrapped_plan (Ok (Tell size)) len e = absurd (told-not-wrapped size (too_big_answer n room) len e)
+  wrapped_plan (Ok (Silent size)) len e = let z : ◌≡◌ {A = ℕ} 0 1 = cc in absurd (omega arith)
+  wrapped_plan (Err r) len e = let z : ◌≡◌ {A = ℕ} 0 1 = cc in absurd (omega arith)
 
   -- Too Big is answered with the length of the message that the writer names, or without a message
-  pub big_plan : (plan : Plan) (m len : ℕ) → plan_answer plan n room ≡ TooBig m len
-      → ((plan ≡ Tell m) × (too_big_answer n room ≡ Ok len)) ⊎ ((plan ≡ Silent m) × (len ≡ 0))
-  big_plan (Wrap source) m len e = absurd (wrapped-not_big (wrap_answer n room) m len e)
-  big_plan (Tell size) m len e = let f = told_named size (too_big_answer n room) m len e in inl (ap Tell f.0, f.1)
-  big_plan (Silent size) m len e = inr (cc, cc)
-  big_plan (Refuse r) m len e = let z : ◌≡◌ {A = ℕ} 0 1 = cc in absurd (omega arith)
+  pub big_plan : (plan : Result Plan Refusal) (m len : ℕ) → plan_answer plan n room ≡ TooBig m len
+      → ((plan ≡ Ok (Tell m)) × (too_big_answer n room ≡ Ok len)) ⊎ ((plan ≡ Ok (Silent m)) × (len ≡ 0))
+  big_plan (Ok (Wrap source)) m len e = absurd (wrapped-not_big (wrap_answer n room) m len e)
+  big_plan (Ok (Tell size)) m len e = let f = told_named size (too_big_answer n room) m len e in inl (ap (λ (x : ℕ). Ok (Tell x)) f.0, f.1)
+  big_plan (Ok (Silent size)) m len e = inr (cc, cc)
+  big_plan (Err r) m len e = let z : ◌≡◌ {A = ℕ} 0 1 = cc in absurd (omega arith)
 
 sized_wrap : (big may : Bool) (size source a : ℕ) → cond big (cond may (Tell size) (Silent size)) (Wrap source) ≡ Wrap a → (big ≡ false) × (source ≡ a)
 sized_wrap true true size source a e = (cc, cc)
@@ -67,36 +67,41 @@ sized_silent true true size source m e = (cc, cc, cc)
 sized_silent true false size source m e = (refl, refl, cc)
 sized_silent false may size source m e = (cc, cc, cc)
 
+same_plan : (x y : Plan) → ◌≡◌ {A = Result Plan Refusal} (Ok x) (Ok y) → x ≡ y
+same_plan x y e = cc
+
 module _ (s : Settings) (P : ℕ) (packet hop : List ℕ) (k : ℕ) where
   abbrev big : Bool
   big = ltb (largest_packet P) (length packet)
 
   -- a plan that is no refusal has passed 8, 11, 12 and 13
-  passed : (plan : Plan) → ((r : Refusal) → Refuse r ≡ plan → ⊥) → plan_of s P packet hop k ≡ plan
+  passed : (plan : Plan) → plan_of s P packet hop k ≡ Ok plan
       → (send_check s packet hop k ≡ Ok tt) × (sized_plan P packet (address_of (locator_of s k)) ≡ plan)
   unfolding plan_of
-  passed plan other e = stop_passed Refuse (send_check s packet hop k) (sized_plan P packet (address_of (locator_of s k))) plan other e
+  passed plan e =
+      let p = stop_passed Err (send_check s packet hop k) (Ok (sized_plan P packet (address_of (locator_of s k)))) (Ok plan) (λ r x. let z : ◌≡◌ {A = ℕ} 0 1 = cc in omega arith) e in
+      (p.0, same_plan _ _ p.1)
 
-  pub plan_wrap : (a : ℕ) → plan_of s P packet hop k ≡ Wrap a
+  pub plan_wrap : (a : ℕ) → plan_of s P packet hop k ≡ Ok (Wrap a)
       → (send_check s packet hop k ≡ Ok tt) × (length packet ≤ largest_packet P) × (address_of (locator_of s k) ≡ a)
   unfolding sized_plan
   plan_wrap a e =
-      let p = passed (Wrap a) (λ r x. let z : ◌≡◌ {A = ℕ} 0 1 = cc in omega arith) e in
+      let p = passed (Wrap a) e in
       let f = sized_wrap big (may_draw_error packet) (largest_packet P) (address_of (locator_of s k)) a p.1 in
       (p.0, ltb-false (largest_packet P) (length packet) f.0, f.1)
 
-  pub plan_tell : (m : ℕ) → plan_of s P packet hop k ≡ Tell m
+  pub plan_tell : (m : ℕ) → plan_of s P packet hop k ≡ Ok (Tell m)
       → (send_check s packet hop k ≡ Ok tt) × (largest_packet P < length packet) × (may_draw_error packet ≡ true) × (largest_packet P ≡ m)
   unfolding sized_plan
   plan_tell m e =
-      let p = passed (Tell m) (λ r x. let z : ◌≡◌ {A = ℕ} 0 1 = cc in omega arith) e in
+      let p = passed (Tell m) e in
       let f = sized_tell big (may_draw_error packet) (largest_packet P) (address_of (locator_of s k)) m p.1 in
       (p.0, ltb-true (largest_packet P) (length packet) f.0, f.1, f.2)
 
-  pub plan_silent : (m : ℕ) → plan_of s P packet hop k ≡ Silent m
+  pub plan_silent : (m : ℕ) → plan_of s P packet hop k ≡ Ok (Silent m)
       → (send_check s packet hop k ≡ Ok tt) × (largest_packet P < length packet) × (may_draw_error packet ≡ false) × (largest_packet P ≡ m)
   unfolding sized_plan
   plan_silent m e =
-      let p = passed (Silent m) (λ r x. let z : ◌≡◌ {A = ℕ} 0 1 = cc in omega arith) e in
+      let p = passed (Silent m) e in
       let f = sized_silent big (may_draw_error packet) (largest_packet P) (address_of (locator_of s k)) m p.1 in
       (p.0, ltb-true (largest_packet P) (length packet) f.0, f.1, f.2)

@@ -46,12 +46,12 @@ module _ (s : Settings) (P : ℕ) (packet hop : List ℕ) (k : ℕ) where
         let longer : largest_packet P < length packet = rw (← larger-is P M f.largest) f.longer in
         lt-ltb (largest_packet P) (length packet) longer
 
-    exceeds_tell : DrawsMessage packet → plan_of s P packet hop k ≡ Tell M
+    exceeds_tell : DrawsMessage packet → plan_of s P packet hop k ≡ Ok (Tell M)
     unfolding plan_of sized_plan
     exceeds_tell d =
         simp (passes_check s packet hop k f.passes.0 f.passes.1, exceeds_big, (decides_draws packet).passes d, ← larger-is P M f.largest)
 
-    exceeds_silent : (DrawsMessage packet → ⊥) → plan_of s P packet hop k ≡ Silent M
+    exceeds_silent : (DrawsMessage packet → ⊥) → plan_of s P packet hop k ≡ Ok (Silent M)
     unfolding plan_of sized_plan
     exceeds_silent n =
         simp (passes_check s packet hop k f.passes.0 f.passes.1, exceeds_big, refutes (may_draw_error packet) (decides_draws packet) n, ← larger-is P M f.largest)
@@ -93,11 +93,11 @@ module _ (s : Settings) (P : ℕ) (packet hop : List ℕ) (k : ℕ) where
     unfolding sent_of sent_output plan_of
     stopped r e = ((rw e, rw e), rw e)
 
-    unwrapped : (a : ℕ) (r : Refusal) → plan_of s P packet hop k ≡ Wrap a → wrap_check (length packet) (length out) ≡ Err r → Stops r
+    unwrapped : (a : ℕ) (r : Refusal) → plan_of s P packet hop k ≡ Ok (Wrap a) → wrap_check (length packet) (length out) ≡ Err r → Stops r
     unfolding sent_of sent_output wrap_answer wrap_output
     unwrapped a r p e = ((rw p (rw e), rw p (rw e)), rw p (rw e))
 
-    untold : (M : ℕ) (r : Refusal) → plan_of s P packet hop k ≡ Tell M → too_big_check (length packet) (length out) ≡ Err r → Stops r
+    untold : (M : ℕ) (r : Refusal) → plan_of s P packet hop k ≡ Ok (Tell M) → too_big_check (length packet) (length out) ≡ Err r → Stops r
     unfolding sent_of sent_output too_big_answer too_big_output
     untold M r p e = ((rw p (rw e), rw p (rw e)), rw p (rw e))
 

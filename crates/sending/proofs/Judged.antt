@@ -15,6 +15,15 @@ use Rattle.settings.specs.declared.Settings.{Settings}
 use Rattle.sending.specs.Plan.{is_not_isatap, send_rows, send_check}
 use Rattle.sending.specs.Wraps.{Whole, Passes}
 
+-- what an ISATAP address embeds is its last 32 bits
+pub embedded-last : (s : Settings) (hop : List ℕ) (v : ℕ) → embedded_to s hop ≡ Some v → last_quad hop ≡ v
+unfolding embedded_to embedded_in
+embedded-last s hop v h = go (is_on_link (rows_of s.prefixes) s.prefix_count hop && is_identifier hop) h
+  where
+    go : (b : Bool) → cond b (Some (last_quad hop)) None ≡ Some v → last_quad hop ≡ v
+    go true e = cc
+    go false e = cc
+
 embeds : (b : Bool) (a : ℕ) → is_not_isatap (cond b (Some a) None) ≡ false → cond b (Some a) None ≡ Some a
 unfolding is_not_isatap
 embeds true a e = refl

@@ -11,7 +11,7 @@ use Rattle.sending.specs.Plan.{plan_of}
 use Rattle.sending.specs.Sending.{fields_for, wrapped_as, told_as, plan_answer, plan_output, sent_of, sent_output}
 use Rattle.sending.proofs.Cases.{writer_passed, big_plan, plan_tell, plan_silent}
 use Rattle.sending.specs.declared.judging.Plan.{Plan}
-use Rattle.sending.specs.declared.judging.Plan.TheVariants.{Wrap, Tell, Silent, Refuse}
+use Rattle.sending.specs.declared.judging.Plan.TheVariants.{Wrap, Tell, Silent}
 use Rattle.sending.specs.declared.SendAnswer.TheVariants.{TooBig, Refused}
 
 -- the message of 14: nothing, where the packet may draw none
@@ -34,12 +34,12 @@ told_leaves size (Ok tt) n w out r e = cc
 told_leaves size (Err x) n w out r e = refl
 
 module _ (s : Settings) (i P : ℕ) (packet hop out : List ℕ) where
-  plan_leaves : (plan : Plan) (r : Refusal) → plan_answer plan (length packet) (length out) ≡ Refused r → plan_output plan s i P packet hop out ≡ out
+  plan_leaves : (plan : Result Plan Refusal) (r : Refusal) → plan_answer plan (length packet) (length out) ≡ Refused r → plan_output plan s i P packet hop out ≡ out
   unfolding wrap_answer wrap_output too_big_answer too_big_output
-  plan_leaves (Wrap source) r e = wrapped_leaves (wrap_check (length packet) (length out)) _ (wrapped (fields_for s i P hop source) packet) out r e
-  plan_leaves (Tell size) r e = told_leaves size (too_big_check (length packet) (length out)) _ (too_big_of s.reporting size packet) out r e
-  plan_leaves (Silent size) r e = refl
-  plan_leaves (Refuse x) r e = refl
+  plan_leaves (Ok (Wrap source)) r e = wrapped_leaves (wrap_check (length packet) (length out)) _ (wrapped (fields_for s i P hop source) packet) out r e
+  plan_leaves (Ok (Tell size)) r e = told_leaves size (too_big_check (length packet) (length out)) _ (too_big_of s.reporting size packet) out r e
+  plan_leaves (Ok (Silent size)) r e = refl
+  plan_leaves (Err x) r e = refl
 
 module _ (s : Settings) (i P : ℕ) (packet hop : List ℕ) (k : ℕ) (out : List ℕ) where
   -- a refusal leaves the identification and the output

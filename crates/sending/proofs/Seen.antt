@@ -39,7 +39,7 @@ wrapped_seen (Err r) = refl
 
 module _ (n room : ℕ) where
   seen_by : (big may short : Bool) (size source : ℕ) → too_big_check n room ≡ cond short (Err OutputShort) (Ok tt)
-      → too_big_seen (plan_answer (cond big (cond may (Tell size) (Silent size)) (Wrap source)) n room) ≡ cond (big && not (may && short)) (too_big size) other
+      → too_big_seen (plan_answer (Ok (cond big (cond may (Tell size) (Silent size)) (Wrap source))) n room) ≡ cond (big && not (may && short)) (too_big size) other
   unfolding too_big_answer
   seen_by true true true size source e = rw e
   seen_by true true false size source e = rw e

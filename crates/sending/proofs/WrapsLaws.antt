@@ -36,7 +36,7 @@ same_test false false f d = refl
 
 module _ (s : Settings) (P : ℕ) (packet hop : List ℕ) (k : ℕ) where
   -- where 8, 11, 12 and 13 do not hold and the path takes the packet, the plan is to wrap it, from the locator's address
-  pub passes_plan : (a : ℕ) → Passes s packet hop k a → PathTakes P (length packet) → plan_of s P packet hop k ≡ Wrap a
+  pub passes_plan : (a : ℕ) → Passes s packet hop k a → PathTakes P (length packet) → plan_of s P packet hop k ≡ Ok (Wrap a)
   unfolding plan_of sized_plan
   passes_plan a f p = simp (passes_check s packet hop k a f, locator-found s k a f.locator, le-ltb _ _ (taken P (length packet) p))
 

@@ -1,5 +1,5 @@
 -- What a sending comes to (R7), before a byte is written: 8, 11, 12, 13, then 14. 23 and 15 are the writers'.
-use Rattle.std.specs.Prelude.{ℕ, Bool, true, false, cond, List, [], ◌∷◌, length, nat_lt, Option, Some, None, Result}
+use Rattle.std.specs.Prelude.{ℕ, Bool, true, false, cond, List, [], ◌∷◌, length, nat_lt, Option, Some, None, Result, Ok, Err}
 use Rattle.address.specs.Address.{last_quad}
 use Rattle.header.specs.Inner.{inner_of, is_packet_malformed, may_draw_error}
 use Rattle.paths.specs.Packets.{largest_packet}
@@ -10,7 +10,7 @@ use Rattle.settings.specs.Locators.{address_of, is_no_locator}
 use Rattle.settings.specs.Settings.{locator_of, embedded_to, is_bad_end}
 use Rattle.settings.specs.declared.Settings.{Settings}
 use Rattle.sending.specs.declared.judging.Plan.{Plan}
-use Rattle.sending.specs.declared.judging.Plan.TheVariants.{Wrap, Tell, Silent, Refuse}
+use Rattle.sending.specs.declared.judging.Plan.TheVariants.{Wrap, Tell, Silent}
 
 -- 12: the next hop is no ISATAP address
 unfoldable pub is_not_isatap : Option ℕ → Bool
@@ -31,6 +31,10 @@ send_rows s packet hop k =
 unfoldable pub send_check : Settings → List ℕ → List ℕ → ℕ → Result Unit Refusal
 send_check s packet hop k = first_of (send_rows s packet hop k)
 
+-- the same, else the locator's address
+unfoldable pub source_for : Settings → List ℕ → List ℕ → ℕ → Result ℕ Refusal
+source_for s packet hop k = stop_or Err (send_check s packet hop k) (Ok (address_of (locator_of s k)))
+
 -- if n > M: 14 (R7.7), with a message where the packet may draw one. Otherwise the packet is wrapped (R7.10), from the locator's address
 unfoldable pub sized_plan : ℕ → List ℕ → ℕ → Plan
 sized_plan P packet source =
@@ -38,5 +42,5 @@ sized_plan P packet source =
     cond (nat_lt size (length packet)) (cond (may_draw_error packet) (Tell size) (Silent size)) (Wrap source)
 
 -- the plan for a packet over a path of size P to a next hop, from locator k
-unfoldable pub plan_of : Settings → ℕ → List ℕ → List ℕ → ℕ → Plan
-plan_of s P packet hop k = stop_or Refuse (send_check s packet hop k) (sized_plan P packet (address_of (locator_of s k)))
+unfoldable pub plan_of : Settings → ℕ → List ℕ → List ℕ → ℕ → Result Plan Refusal
+plan_of s P packet hop k = stop_or Err (send_check s packet hop k) (Ok (sized_plan P packet (address_of (locator_of s k))))

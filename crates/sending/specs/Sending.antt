@@ -11,7 +11,7 @@ use Rattle.refusals.specs.Given.{Given, answered, refused}
 use Rattle.settings.specs.declared.Settings.{Settings}
 use Rattle.sending.specs.Plan.{plan_of}
 use Rattle.sending.specs.declared.judging.Plan.{Plan}
-use Rattle.sending.specs.declared.judging.Plan.TheVariants.{Wrap, Tell, Silent, Refuse}
+use Rattle.sending.specs.declared.judging.Plan.TheVariants.{Wrap, Tell, Silent}
 use Rattle.sending.specs.declared.Sent.{Sent}
 use Rattle.sending.specs.declared.SendAnswer.{SendAnswer}
 use Rattle.sending.specs.declared.SendAnswer.TheVariants.{Wrapped, TooBig, Refused}
@@ -27,11 +27,11 @@ told_as size (Ok n) = TooBig size n
 told_as size (Err refusal) = Refused refusal
 
 -- what is answered for a packet of n bytes with that much room: 23 and 15 are the writers'
-abbrev pub plan_answer : Plan → ℕ → ℕ → SendAnswer
-plan_answer (Wrap source) n room = wrapped_as (wrap_answer n room)
-plan_answer (Tell size) n room = told_as size (too_big_answer n room)
-plan_answer (Silent size) n room = TooBig size 0
-plan_answer (Refuse refusal) n room = Refused refusal
+abbrev pub plan_answer : Result Plan Refusal → ℕ → ℕ → SendAnswer
+plan_answer (Ok (Wrap source)) n room = wrapped_as (wrap_answer n room)
+plan_answer (Ok (Tell size)) n room = told_as size (too_big_answer n room)
+plan_answer (Ok (Silent size)) n room = TooBig size 0
+plan_answer (Err refusal) n room = Refused refusal
 
 -- the identification wraps from 65,535 to 0; only a wrapped packet uses one (R7.13)
 abbrev pub identification_after : SendAnswer → ℕ → ℕ
@@ -51,11 +51,11 @@ fields_for s identification P hop source = record {
 }
 
 -- what stands in the output afterwards: the wrapped packet, the message, or what stood there
-abbrev pub plan_output : Plan → Settings → ℕ → ℕ → List ℕ → List ℕ → List ℕ → List ℕ
-plan_output (Wrap source) s identification P packet hop out = wrap_output (fields_for s identification P hop source) packet out
-plan_output (Tell size) s identification P packet hop out = too_big_output s.reporting size packet out
-plan_output (Silent size) s identification P packet hop out = out
-plan_output (Refuse refusal) s identification P packet hop out = out
+abbrev pub plan_output : Result Plan Refusal → Settings → ℕ → ℕ → List ℕ → List ℕ → List ℕ → List ℕ
+plan_output (Ok (Wrap source)) s identification P packet hop out = wrap_output (fields_for s identification P hop source) packet out
+plan_output (Ok (Tell size)) s identification P packet hop out = too_big_output s.reporting size packet out
+plan_output (Ok (Silent size)) s identification P packet hop out = out
+plan_output (Err refusal) s identification P packet hop out = out
 
 -- the answer to a sending over a path of size P, to a next hop from locator k, with that much room in the output
 abbrev pub answer_of : Settings → ℕ → List ℕ → List ℕ → ℕ → ℕ → SendAnswer

@@ -2,7 +2,7 @@
 ghost use Rattle.std.specs.Prelude.{◌≡◌, length};
 ghost use Rattle.header.specs.Inner.{inner_of, is_packet_malformed};
 ghost use Rattle.settings.specs.Settings.{embedded_to};
-ghost use Rattle.sending.specs.Plan.{is_not_isatap, send_check, sized_plan, plan_of};
+ghost use Rattle.sending.specs.Plan.{source_for, sized_plan, plan_of};
 
 use address::prefixes;
 use header::{INNER_HEADER, inner};
@@ -11,7 +11,7 @@ use refusals::Refusal;
 use settings::Settings;
 
 // Room and total length are the writer's to judge, which refuses by 23 and 15 itself.
-#[derive(Clone, Copy)]
+#[derive(Clone, Copy, Debug, PartialEq, Eq)]
 pub enum Plan {
     // The packet is wrapped, from the locator's address.
     Wrap(u32),
@@ -19,7 +19,6 @@ pub enum Plan {
     Tell(u16),
     // Too Big, without a message.
     Silent(u16),
-    Refuse(Refusal),
 }
 
 // Number 8.
@@ -32,49 +31,35 @@ fn packet_malformed(packet: &[u8]) -> bool
     inner::packet_malformed(packet.len(), inner::inner_header(packet))
 }
 
-// Number 12, of what the next hop embeds.
-fn not_isatap(embedded: Option<u32>) -> bool
-    ensures { result ≡ is_not_isatap embedded }
-{
-    match embedded {
-        Some(_) => false,
-        None => true,
-    }
-}
-
-// Number 12. A link-local ISATAP address is one whatever prefixes there are.
-fn next_hop_not_isatap(settings: Settings, next_hop: [u8; 16]) -> bool
-    ensures { result ≡ is_not_isatap (embedded_to settings next_hop) }
+// The tunnel end that the next hop embeds: a link-local ISATAP address one whatever prefixes there are.
+fn tunnel_end(settings: Settings, next_hop: [u8; 16]) -> Option<u32>
+    ensures { result ≡ embedded_to settings next_hop }
 {
     if address::link_local_prefixed(next_hop) & address::identifier(next_hop) {
-        return false;
+        return Some(address::last_quad(next_hop));
     }
     let on_link = settings.prefixes;
-    not_isatap(address::isatap(prefixes::rows(on_link), settings.prefix_count, next_hop))
+    address::isatap(prefixes::rows(on_link), settings.prefix_count, next_hop)
 }
 
-// Numbers 8, 11, 12 and 13.
-fn send_check(
+// Numbers 8, 11, 12 and 13; else the locator's address.
+fn source_for(
     settings: Settings,
     packet: &[u8],
     next_hop: [u8; 16],
     locator: usize,
-) -> Result<(), Refusal>
-    ensures { result ≡ send_check settings packet.now next_hop locator }
+) -> Result<u32, Refusal>
+    ensures { result ≡ source_for settings packet.now next_hop locator }
 {
     if packet_malformed(packet) {
         return Err(Refusal::InnerMalformed);
     }
-    if settings.locator(locator).is_none() {
-        return Err(Refusal::NoLocator);
-    }
-    if next_hop_not_isatap(settings, next_hop) {
-        return Err(Refusal::NextHopNotIsatap);
-    }
-    if settings.bad_end(address::last_quad(next_hop)) {
+    let source = settings.locator(locator).ok_or(Refusal::NoLocator)?;
+    let end = tunnel_end(settings, next_hop).ok_or(Refusal::NextHopNotIsatap)?;
+    if settings.bad_end(end) {
         return Err(Refusal::TunnelEndForbidden);
     }
-    Ok(())
+    Ok(source)
 }
 
 // Number 14: a packet that is longer than the largest gets a message if it may draw one.
@@ -98,12 +83,9 @@ pub(crate) fn send_plan(
     packet: &[u8],
     next_hop: [u8; 16],
     locator: usize,
-) -> Plan
+) -> Result<Plan, Refusal>
     ensures { result ≡ plan_of settings path_size packet.now next_hop locator }
 {
-    let check = send_check(settings, packet, next_hop, locator);
-    match check {
-        Ok(()) => sized_plan(path_size, packet, settings.locator(locator).unwrap_or(0)),
-        Err(refusal) => Plan::Refuse(refusal),
-    }
+    let source = source_for(settings, packet, next_hop, locator)?;
+    Ok(sized_plan(path_size, packet, source))
 }

@@ -4,7 +4,7 @@
 mod judging;
 
 ghost use Rattle.std.specs.Prelude.{◌≡◌, length};
-ghost use Rattle.sending.specs.Sending.{fields_for, wrapped_as, told_as, plan_answer, plan_output, identification_after, sent_of, sent_output, send_given};
+ghost use Rattle.sending.specs.Sending.{fields_for, plan_answer, plan_output, identification_after, sent_of, sent_output, send_given};
 
 use header::wrap::OuterFields;
 use header::{IPV6, wrap};
@@ -13,7 +13,8 @@ use paths::packets;
 use refusals::Refusal;
 use settings::Settings;
 
-#[derive(Clone, Copy)]
+// Three cases and no Result: 14 is an answer of document 01, with values, and a refusal has none.
+#[derive(Clone, Copy, Debug, PartialEq, Eq)]
 pub enum SendAnswer {
     // The length written.
     Wrapped(usize),
@@ -23,7 +24,7 @@ pub enum SendAnswer {
 }
 
 // The answer to a sending, and the next identification.
-#[derive(Clone, Copy)]
+#[derive(Clone, Copy, Debug, PartialEq, Eq)]
 pub struct Sent {
     pub answer: SendAnswer,
     pub identification: u16,
@@ -51,32 +52,9 @@ fn fields_for(
     }
 }
 
-// The answer for a packet that is wrapped: what the writer says.
-fn wrapped_as(written: Result<usize, Refusal>) -> SendAnswer
-    ensures { result ≡ wrapped_as written }
-{
-    match written {
-        Ok(length) => SendAnswer::Wrapped(length),
-        Err(refusal) => SendAnswer::Refused(refusal),
-    }
-}
-
-// The answer for a packet that is too big, about which a message is written.
-fn told_as(size: u16, written: Result<usize, Refusal>) -> SendAnswer
-    ensures { result ≡ told_as size written }
-{
-    match written {
-        Ok(length) => SendAnswer::TooBig {
-            size,
-            written: length,
-        },
-        Err(refusal) => SendAnswer::Refused(refusal),
-    }
-}
-
 // Carries a plan out.
 fn carry_out(
-    plan: Plan,
+    plan: Result<Plan, Refusal>,
     settings: Settings,
     identification: u16,
     path_size: u16,
@@ -88,16 +66,19 @@ fn carry_out(
     ensures out_after { out.new ≡ plan_output plan settings identification path_size packet.now next_hop out.old }
 {
     match plan {
-        Plan::Wrap(source) => {
+        Ok(Plan::Wrap(source)) => {
             let h = fields_for(settings, identification, path_size, next_hop, source);
-            wrapped_as(wrap::wrap(h, packet, out))
+            wrap::wrap(h, packet, out).map_or_else(SendAnswer::Refused, SendAnswer::Wrapped)
         }
-        Plan::Tell(size) => {
+        Ok(Plan::Tell(size)) => {
             let reporting = settings.reporting;
-            told_as(size, messages::too_big(reporting, size, packet, out))
+            messages::too_big(reporting, size, packet, out).map_or_else(
+                SendAnswer::Refused,
+                |written| SendAnswer::TooBig { size, written },
+            )
         }
-        Plan::Silent(size) => SendAnswer::TooBig { size, written: 0 },
-        Plan::Refuse(refusal) => SendAnswer::Refused(refusal),
+        Ok(Plan::Silent(size)) => SendAnswer::TooBig { size, written: 0 },
+        Err(refusal) => SendAnswer::Refused(refusal),
     }
 }
 
@@ -107,8 +88,7 @@ fn identification_after(answer: SendAnswer, identification: u16) -> u16
 {
     match answer {
         SendAnswer::Wrapped(_) => identification.wrapping_add(1),
-        SendAnswer::TooBig { size, written } => identification,
-        SendAnswer::Refused(_) => identification,
+        _ => identification,
     }
 }
 
@@ -148,7 +128,7 @@ impl SendAnswer {
     {
         match self {
             SendAnswer::Wrapped(_) => 0,
-            SendAnswer::TooBig { size, written } => 14,
+            SendAnswer::TooBig { .. } => 14,
             SendAnswer::Refused(refusal) => refusal.number(),
         }
     }

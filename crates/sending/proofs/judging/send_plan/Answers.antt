@@ -1,11 +1,12 @@
--- `sending::judging::send_plan` meets its contract: by cases on the check.
-use Rattle.sending.specs.Plan.{plan_of}
+-- `sending::judging::send_plan` meets its contract: the locator's address, then the plan.
+use Rattle.std.proofs.Common.{rules}
+use Rattle.sending.specs.Plan.{source_for, plan_of}
 use Rattle.sending.proofs.judging.send_plan.Goals as goal
 
-pub returns-in-Ok : goal.returns-in-Ok
-unfolding plan_of
-returns-in-Ok c = rw (← c.send_check-check.ensures, c.in-Ok.is) (rw (c.unwrap_or.ensures, c.locator.ensures) at c.sized_plan.ensures)
+pub returns-in_err-source : goal.returns-in_err-source
+unfolding plan_of source_for
+returns-in_err-source c = search rules
 
-pub returns-in-Err : goal.returns-in-Err
-unfolding plan_of
-returns-in-Err c = rw (← c.send_check-check.ensures, c.in-Err.is)
+pub returns : goal.returns
+unfolding plan_of source_for
+returns c = search rules

@@ -1,8 +1,0 @@
--- `sending::told_as` meets its contract: by cases on what the writer says.
-use Rattle.sending.proofs.told_as.Goals as goal
-
-pub returns-in-Ok : goal.returns-in-Ok
-returns-in-Ok c = rw c.in-Ok.is
-
-pub returns-in-Err : goal.returns-in-Err
-returns-in-Err c = rw c.in-Err.is
