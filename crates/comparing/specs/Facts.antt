@@ -1,11 +1,13 @@
 -- What the report says, in facts over bytes and places (R27). No contract rests on this.
 use Rattle.std.specs.Prelude.{ℕ, zero, suc, ◌+◌, ◌-◌, ◌*◌, ◌≤◌, ◌<◌, ◌≡◌, ◌⊎◌, Bool, true, List, [], ◌∷◌, map, length, get_or, take, drop, Result, Ok, Err}
+use Rattle.refusals.specs.Given.{number_in}
 use Rattle.refusals.specs.Refusals.{AnswersFirst}
 use Rattle.refusals.specs.declared.Refusal.{Refusal}
 use Rattle.refusals.specs.declared.Refusal.TheVariants.{RecordingMalformed, OutputShort}
 use Rattle.header.specs.Fields.{word_at}
 use Rattle.input.specs.Recording.{Datagram, datagrams_of}
 use Rattle.input.specs.Format.{section, datagram_record}
+use Rattle.comparing.specs.Given.{compared_given}
 use Rattle.comparing.specs.Runs.{Run, runs_of}
 use Rattle.comparing.specs.declared.More.{More}
 use Rattle.comparing.specs.declared.More.TheVariants.{First, Second, Neither}
@@ -130,3 +132,7 @@ exchanged Neither = Neither
 abbrev pub mirrored : Result Report Refusal → Result Report Refusal
 mirrored (Ok r) = Ok (record { length = r.length; more = exchanged r.more })
 mirrored (Err refusal) = Err refusal
+
+-- the number of an answer (`refusals::number`) is that of what is given for it (R20.3)
+abbrev pub IsNumbered : Result Report Refusal → Type 0
+IsNumbered answer = number_in answer ≡ (compared_given answer).number

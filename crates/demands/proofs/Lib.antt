@@ -27,3 +27,4 @@ pub mod Joining
 pub mod Collects
 pub mod Collecting
 pub mod Example
+pub mod Numbered

@@ -15,3 +15,4 @@ pub mod Cuttings
 pub mod Joining
 pub mod Fragments
 pub mod Starred
+pub mod Numbered

@@ -1,0 +1,31 @@
+-- Each answer's number is that of its definition: by cases, 0 or the refusal's. Assumes nothing.
+use Rattle.std.specs.Prelude.{ℕ, ◌≡◌, refl, Result, Ok, Err}
+use mathlib.Core.Path.{ap, sym}
+use Rattle.refusals.specs.Given.{Given, refused, number_in}
+use Rattle.refusals.specs.declared.Refusal.{Refusal}
+use Rattle.receiving.specs.Receive.{received_given}
+use Rattle.receiving.specs.declared.Received.{Received}
+use Rattle.receiving.specs.declared.Received.TheVariants.{Delivered, Joined}
+use Rattle.demands.specs.Numbered.{Numbered}
+
+module _ {A : Type 0} (given : Result A Refusal → Given) where
+  numbered_by : ((x : A) → (given (Ok x)).number ≡ 0) → ((r : Refusal) → given (Err r) ≡ refused r) → (a : Result A Refusal) → number_in a ≡ (given a).number
+  numbered_by value refusal (Ok x) = sym (value x)
+  numbered_by value refusal (Err r) = sym (ap (λ (g : Given). g.number) (refusal r))
+
+standing : (x : Received) → (received_given (Ok x)).number ≡ 0
+standing (Delivered offset size) = refl
+standing (Joined offset size) = refl
+
+pub numbered : Numbered
+numbered = record {
+  outer = numbered_by _ (λ x. refl) (λ r. refl);
+  written = numbered_by _ (λ x. refl) (λ r. refl);
+  received = numbered_by _ standing (λ r. refl);
+  report = numbered_by _ (λ x. refl) (λ r. refl);
+  asked = numbered_by _ (λ x. refl) (λ r. refl);
+  heard = numbered_by _ (λ x. refl) (λ r. refl);
+  setup = numbered_by _ (λ x. refl) (λ r. refl);
+  list = numbered_by _ (λ x. refl) (λ r. refl);
+  size = numbered_by _ (λ x. refl) (λ r. refl);
+}
