@@ -7,8 +7,13 @@ use lib.ListN.{length}
 use Rattle.refusals.specs.Refusals.{first_of, stop_or}
 use Rattle.refusals.proofs.Laws.{stop_append}
 use Rattle.refusals.specs.declared.Refusal.{Refusal}
-use Rattle.header.specs.Outer.{outer_of, header_rows, protocol_rows, piece_rows, header_check, outer_check, read_with, header_read_of, outer_read_of, read_or}
+use Rattle.header.specs.Outer.{outer_of, header_rows, protocol_rows, piece_rows, header_check, outer_check, read_with, header_read_of, outer_read_of}
 use Rattle.header.specs.declared.outer.Outer.{Outer}
+
+-- what follows from a header that is read; of a refusal, that refusal in the form of the call's answer
+abbrev pub read_or : {A : Type 0} → (Refusal → A) → Result Outer Refusal → (Outer → A) → A
+read_or refuse (Ok o) follows = follows o
+read_or refuse (Err refusal) follows = refuse refusal
 
 -- what follows from a header that a check lets pass follows the check
 pub read_stop : {A : Type 0} (refuse : Refusal → A) (c : Result Unit Refusal) (o : Outer) (follows : Outer → A)

@@ -77,11 +77,6 @@ header_read_of d = read_with (header_check (length d) d (outer_of d)) (outer_of 
 unfoldable pub outer_read_of : List ℕ → Result Outer Refusal
 outer_read_of d = read_with (outer_check (length d) d (outer_of d)) (outer_of d)
 
--- what follows from a header that is read; of a refusal, that refusal in the form of the call's answer
-abbrev pub read_or : {A : Type 0} → (Refusal → A) → Result Outer Refusal → (Outer → A) → A
-read_or refuse (Ok o) follows = follows o
-read_or refuse (Err refusal) follows = refuse refusal
-
 -- bytes after the total length are padding. The inner packet starts after the header, options included (R5.3, R5.9).
 unfoldable pub payload_of : List ℕ → Outer → List ℕ
 payload_of d o = drop o.header (take o.total d)

@@ -11,8 +11,8 @@ use Rattle.address.specs.declared.quads.Quads.{Quads}
 use Rattle.refusals.specs.Refusals.{first_of, stop_or}
 use Rattle.refusals.proofs.Laws.{stop_append}
 use Rattle.refusals.specs.declared.Refusal.{Refusal}
-use Rattle.header.specs.Outer.{outer_of, header_rows, protocol_rows, piece_rows, header_check, outer_check, payload_of, read_with, header_read_of, outer_read_of, read_or}
-use Rattle.header.proofs.Readers.{read_stop}
+use Rattle.header.specs.Outer.{outer_of, header_rows, protocol_rows, piece_rows, header_check, outer_check, payload_of, read_with, header_read_of, outer_read_of}
+use Rattle.header.proofs.Readers.{read_stop, read_or}
 use Rattle.header.specs.Inner.{inner_of, is_inner_malformed}
 use Rattle.header.specs.declared.inner.Inner.{Inner}
 use Rattle.header.specs.declared.outer.Outer.{Outer}
@@ -23,9 +23,17 @@ use Rattle.pieces.specs.Places.{memory_room}
 use Rattle.pieces.specs.declared.Collection.{Collection}
 use Rattle.receiving.specs.Receive.{inner_rows, received_of}
 use Rattle.receiving.specs.Collect.{Collected, arrival_rows, whole_of, is_piece, fragment_of, fragment_memory, collected_of, collected_memory}
-use Rattle.receiving.specs.Stages.{address_rows, address_check, inner_check, arrived_of, arrival_of, opened_of, whole_opened, delivered_of, settled_of, settled_memory}
+use Rattle.receiving.specs.Stages.{address_rows, address_check, inner_check, arrival_of, opened_of, whole_opened, settled_of, settled_memory}
 use Rattle.receiving.specs.declared.Received.{Received}
 use Rattle.receiving.specs.declared.Received.TheVariants.{Delivered}
+
+-- 6 and 7, of a header that is read
+unfoldable pub arrived_of : Settings → ℕ → Result Outer Refusal → Result Outer Refusal
+arrived_of s interface r = read_or Err r (λ (o : Outer). read_with (address_check s interface o) o)
+
+-- what comes of a datagram that is read to have arrived whole, or the number
+unfoldable pub delivered_of : Settings → List Router → List ℕ → Result Outer Refusal → Result Received Refusal
+delivered_of s routers d r = read_or Err r (λ (o : Outer). whole_opened s routers d o)
 
 -- 8 to 10 ask of an inner header what is read of it
 pub same_check : (s : Settings) (isListed : Bool) (source n : ℕ) (i : Inner) (q : Quads) → bytes_in q ≡ i.source

@@ -6,7 +6,7 @@ use Rattle.address.specs.Quads.{bytes_in}
 use Rattle.refusals.specs.Refusals.{first_of, stop_or}
 use Rattle.refusals.specs.declared.Refusal.{Refusal}
 use Rattle.refusals.specs.declared.Refusal.TheVariants.{NotForUs, OuterSourceForbidden}
-use Rattle.header.specs.Outer.{outer_of, payload_of, read_with, read_or}
+use Rattle.header.specs.Outer.{outer_of, payload_of, read_with}
 use Rattle.header.specs.Inner.{inner_of, is_inner_malformed}
 use Rattle.header.specs.declared.outer.Outer.{Outer}
 use Rattle.header.specs.declared.inner.Inner.{Inner}
@@ -39,10 +39,6 @@ address_check s interface o = first_of (address_rows s interface o)
 -- the first of 8, 9 and 10
 unfoldable pub inner_check : Settings → Bool → ℕ → ℕ → Inner → Result Unit Refusal
 inner_check s isListed source n i = first_of (inner_rows s isListed source n i)
-
--- 6 and 7, of a header that is read
-unfoldable pub arrived_of : Settings → ℕ → Result Outer Refusal → Result Outer Refusal
-arrived_of s interface r = read_or Err r (λ (o : Outer). read_with (address_check s interface o) o)
 
 -- 15, 2, 3, 4, 6, 7, of a datagram d, where so many bytes of memory are lent
 unfoldable pub arrival_of : Settings → ℕ → ℕ → List ℕ → Result Outer Refusal
@@ -93,10 +89,6 @@ opened_of s routers placed source p = stop_or Err (packet_check s routers source
 -- the same of a datagram d with the outer fields o that has arrived whole
 unfoldable pub whole_opened : Settings → List Router → List ℕ → Outer → Result Received Refusal
 whole_opened s routers d o = opened_of s routers (Delivered o.header) o.source (payload_of d o)
-
--- the same behind the numbers of its arrival
-unfoldable pub delivered_of : Settings → List Router → List ℕ → Result Outer Refusal → Result Received Refusal
-delivered_of s routers d r = read_or Err r (λ (o : Outer). whole_opened s routers d o)
 
 -- the place of a joined datagram is one of the eight
 abbrev pub InMemory : Result taken.Joined Refusal → Type 0

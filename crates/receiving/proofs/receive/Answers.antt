@@ -1,7 +1,6 @@
 -- `receiving::receive` meets its contract: its stages are the table.
 use Rattle.std.proofs.Common.{rules}
-use Rattle.receiving.specs.Stages.{arrived_of, delivered_of}
-use Rattle.receiving.proofs.Stages.{by_stages}
+use Rattle.receiving.proofs.Stages.{arrived_of, delivered_of, by_stages}
 use Rattle.receiving.proofs.receive.Goals as goal
 
 pub returns-in_err-o : goal.returns-in_err-o

@@ -2,8 +2,8 @@
 use Rattle.std.proofs.Common.{rules}
 use borrow.Author.Tests.{lt-ltb, le-ltb}
 use Rattle.pieces.specs.Places.{memory_room}
-use Rattle.receiving.specs.Stages.{arrival_of, arrived_of}
-use Rattle.receiving.proofs.Stages.{arrival_stages}
+use Rattle.receiving.specs.Stages.{arrival_of}
+use Rattle.receiving.proofs.Stages.{arrived_of, arrival_stages}
 use Rattle.receiving.proofs.collect.arrival.Goals as goal
 
 pub returns-then-lent-lt-MEMORY : goal.returns-then-lent-lt-MEMORY
