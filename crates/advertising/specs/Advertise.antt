@@ -1,5 +1,5 @@
 -- Answering a solicitation (R22): the order 8, 11, 24, 25, 26, 15, and the advertisement.
-use Rattle.std.specs.Prelude.{ℕ, Bool, not, ◌&&◌, List, [], ◌∷◌, length, Option, Result, Err}
+use Rattle.std.specs.Prelude.{ℕ, Bool, not, ◌&&◌, List, [], ◌∷◌, length, Option, Result, Ok, Err}
 use Rattle.address.specs.Address.{is_link_local, is_identifier, link_local_of}
 use Rattle.refusals.specs.Refusals.{first_of, stop_or}
 use Rattle.refusals.specs.declared.Refusal.{Refusal}
@@ -31,6 +31,10 @@ asker_rows found p =
 -- the first of 8, 11, 24 and 25
 unfoldable pub asker_check : Option ℕ → List ℕ → Result Unit Refusal
 asker_check found p = first_of (asker_rows found p)
+
+-- the same, else the locator's address
+unfoldable pub source_for : Option ℕ → List ℕ → Result ℕ Refusal
+source_for found p = stop_or Err (asker_check found p) (Ok (address_of found))
 
 -- the length written, or the number; 26 and 15 are the writer's
 unfoldable pub advertised_of : Option ℕ → List ℕ → Advertisement → ℕ → Result ℕ Refusal

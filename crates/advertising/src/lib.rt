@@ -2,7 +2,7 @@
 #![tactic(auto)]
 
 ghost use Rattle.std.specs.Prelude.{◌≡◌, length};
-ghost use Rattle.advertising.specs.Advertise.{is_asker_right, asker_check, advertised_of, advertised_output};
+ghost use Rattle.advertising.specs.Advertise.{is_asker_right, source_for, advertised_of, advertised_output};
 
 use advertisements::Advertisement;
 use header::{fields, inner};
@@ -16,23 +16,21 @@ fn asker_right(asker: [u8; 16]) -> bool
     address::link_local_prefixed(asker) & address::identifier(asker)
 }
 
-// Numbers 8, 11, 24 and 25.
-fn asker_check(found: Option<u32>, packet: &[u8]) -> Result<(), Refusal>
-    ensures { result ≡ asker_check found packet.now }
+// Numbers 8, 11, 24 and 25; else the locator's address.
+fn source_for(found: Option<u32>, packet: &[u8]) -> Result<u32, Refusal>
+    ensures { result ≡ source_for found packet.now }
 {
     if inner::inner_malformed(packet.len(), inner::inner_header(packet)) {
         return Err(Refusal::InnerMalformed);
     }
-    if found.is_none() {
-        return Err(Refusal::NoLocator);
-    }
+    let source = found.ok_or(Refusal::NoLocator)?;
     if !solicitation::solicitation(packet) {
         return Err(Refusal::SolicitationInvalid);
     }
     if !asker_right(fields::address(packet, 8)) {
         return Err(Refusal::AskerNotIsatap);
     }
-    Ok(())
+    Ok(source)
 }
 
 // What an inner packet that asks gets, from the locator that was found: out gets the advertisement.
@@ -45,13 +43,8 @@ pub fn advertise(
     ensures value { result ≡ advertised_of found packet.now advertisement (length out.old) }
     ensures out_after { out.new ≡ advertised_output found packet.now advertisement out.old }
 {
-    let check = asker_check(found, packet);
-    match check {
-        Ok(()) => {
-            let from = address::link_local(found.unwrap_or(0));
-            let to = fields::address(packet, 8);
-            advertisements::write(from, to, advertisement, out)
-        }
-        Err(refusal) => Err(refusal),
-    }
+    let source = source_for(found, packet)?;
+    let from = address::link_local(source);
+    let to = fields::address(packet, 8);
+    advertisements::write(from, to, advertisement, out)
 }

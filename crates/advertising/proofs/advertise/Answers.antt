@@ -1,20 +1,20 @@
--- `advertising::advertise` meets its contract: by cases on the check.
-use Rattle.advertising.specs.Advertise.{advertised_of, advertised_output}
+-- `advertising::advertise` meets its contract: the locator's address, then the writer.
+use Rattle.std.proofs.Common.{rules}
+use Rattle.advertising.specs.Advertise.{source_for, advertised_of, advertised_output}
 use Rattle.advertising.proofs.advertise.Goals as goal
 
-pub returns-in-Ok : goal.returns-in-Ok
-unfolding advertised_of advertised_output
-returns-in-Ok c = let check = c.asker_check-check.ensures in
-    let is = c.in-Ok.is in record {
-      value = rw (← check, is) c.write.ensures.value;
-      out_after = rw (← check, is, ← c.unwrap_or.ensures, ← c.link_local-from.ensures, ← c.address-to.ensures) c.write.ensures.out_after;
-    }
+pub returns-in_err-source-clause-value : goal.returns-in_err-source-clause-value
+unfolding source_for advertised_of
+returns-in_err-source-clause-value c = search rules
 
-pub returns-in-Err : goal.returns-in-Err
-unfolding advertised_of advertised_output
-returns-in-Err c = let check = c.asker_check-check.ensures in
-    let is = c.in-Err.is in
-    record {
-      value = rw (← check, is);
-      out_after = rw (← check, is);
-    }
+pub returns-in_err-source-clause-out_after : goal.returns-in_err-source-clause-out_after
+unfolding source_for advertised_output
+returns-in_err-source-clause-out_after c = search rules
+
+pub returns-clause-value : goal.returns-clause-value
+unfolding source_for advertised_of
+returns-clause-value c = search rules
+
+pub returns-clause-out_after : goal.returns-clause-out_after
+unfolding source_for advertised_output
+returns-clause-out_after c = search rules
