@@ -77,22 +77,23 @@ impl<'a> Front<'a> {
         }
         end
     }
+}
 
-    // The same, quickly: blocks without a wanted place are passed at once. Short runs are common, so the first places are looked at by themselves.
-    pub(crate) fn next_unequal(self, wanted: bool, start: usize) -> usize
-        requires { start ≤ self.end }
-        ensures { IsNext (is_unequal_at self.entry.a.now self.entry.b.now) wanted start self.entry.end result }
-    {
-        let Front { a, b, end } = self;
-        let near = start + NEAR.min(end - start);
-        let first = Front { a, b, end: near }.next_by_bytes(wanted, start);
-        if first < near {
-            return first;
-        }
-        let p = self.behind_blocks(wanted, first);
-        let q = self.behind_block(wanted, p, BLOCK / 2);
-        let r = self.behind_block(wanted, q, BLOCK / 4);
-        let s = self.behind_block(wanted, r, BLOCK / 8);
-        self.next_by_bytes(wanted, s)
+// The same, quickly: blocks without a wanted place are passed at once. Short runs are common, so the first places are looked at by themselves.
+// It takes the parts of a front: a struct of five words goes through memory, and where every other byte differs that takes a sixth more.
+pub(crate) fn next_unequal(wanted: bool, a: &[u8], b: &[u8], start: usize, end: usize) -> usize
+    requires { (start ≤ end) × (end ≤ length a.now) × (end ≤ length b.now) }
+    ensures { IsNext (is_unequal_at a.now b.now) wanted start end result }
+{
+    let near = start + NEAR.min(end - start);
+    let first = Front { a, b, end: near }.next_by_bytes(wanted, start);
+    if first < near {
+        return first;
     }
+    let front = Front { a, b, end };
+    let p = front.behind_blocks(wanted, first);
+    let q = front.behind_block(wanted, p, BLOCK / 2);
+    let r = front.behind_block(wanted, q, BLOCK / 4);
+    let s = front.behind_block(wanted, r, BLOCK / 8);
+    front.next_by_bytes(wanted, s)
 }

@@ -19,25 +19,23 @@ fn in_block(a: &[u8], b: &[u8]) -> usize
     n as usize
 }
 
-impl<'a> Front<'a> {
-    // The ends from `start` on, where no place is masked and both datagrams have the one at `end` too. What is left behind the blocks is short of
-    // one: the last block goes back over places that are counted, since most often it has no unequal one.
-    fn unmasked(self, start: usize) -> usize
-        requires { (start ≤ self.end) × (self.end < length self.a.now) × (self.end < length self.b.now) }
-        ensures { result ≡ ends (is_unequal_at self.entry.a.now self.entry.b.now) start self.entry.end }
-    {
-        let Front { a, b, end } = self;
-        let mut n: usize = 0;
-        let mut p = self.behind_blocks(true, start);
-        while BLOCK <= end - p {
-            let behind = p + BLOCK;
-            n += in_block(&a[p..behind + 1], &b[p..behind + 1]);
-            p = self.behind_blocks(true, behind);
-        }
-        let last = self.behind_block(true, end - BLOCK.min(end), BLOCK);
-        let r = p.max(last);
-        n + in_block(&a[r..end + 1], &b[r..end + 1])
+// The ends from `start` up to `end`, where no place is masked and both datagrams have the next one too. What is left behind the blocks is short of
+// one: the last block goes back over places that are counted, since most often it has no unequal one.
+fn unmasked(a: &[u8], b: &[u8], start: usize, end: usize) -> usize
+    requires { (start ≤ end) × (end < length a.now) × (end < length b.now) }
+    ensures { result ≡ ends (is_unequal_at a.now b.now) start end }
+{
+    let front = Front { a, b, end };
+    let mut n: usize = 0;
+    let mut p = front.behind_blocks(true, start);
+    while BLOCK <= end - p {
+        let behind = p + BLOCK;
+        n += in_block(&a[p..behind + 1], &b[p..behind + 1]);
+        p = front.behind_blocks(true, behind);
     }
+    let last = front.behind_block(true, end - BLOCK.min(end), BLOCK);
+    let r = p.max(last);
+    n + in_block(&a[r..end + 1], &b[r..end + 1])
 }
 
 // The ends in the masked header, up to `end`. Where no place differs none is looked at again.
@@ -82,9 +80,9 @@ impl<'a> Pair<'a> {
         let Pair { masked, a, b } = self;
         if masked {
             let front = search::BEHIND_MASK.min(end);
-            return in_header(a, b, front) + Front { a, b, end }.unmasked(front);
+            return in_header(a, b, front) + unmasked(a, b, front, end);
         }
-        Front { a, b, end }.unmasked(0)
+        unmasked(a, b, 0, end)
     }
 
     // How many runs there are. Behind the shorter datagram's end there is one end, the longer one's.

@@ -14,6 +14,7 @@ ghost use Rattle.comparing.specs.Compared.{more_of, report_of, compared_of, outp
 use input::recording;
 use pair::Pair;
 use refusals::Refusal;
+use std::cmp::Ordering;
 
 // Which of two recordings has more datagrams.
 #[derive(Clone, Copy)]
@@ -36,13 +37,11 @@ fn more_in(first: &[u8], second: &[u8]) -> More
 {
     let n = recording::count(first);
     let m = recording::count(second);
-    if m < n {
-        return More::First;
+    match n.cmp(&m) {
+        Ordering::Greater => More::First,
+        Ordering::Less => More::Second,
+        Ordering::Equal => More::Neither,
     }
-    if n < m {
-        return More::Second;
-    }
-    More::Neither
 }
 
 // How many runs there are; from `limit` on they are not counted.
@@ -53,7 +52,7 @@ fn count(masked: bool, first: &[u8], second: &[u8], limit: usize) -> usize
     let mut a = recording::first(first);
     let mut b = recording::first(second);
     let mut n: usize = 0;
-    for i in 0..pairs {
+    for _i in 0..pairs {
         let pair = Pair {
             masked,
             a: recording::datagram(a),

@@ -3,6 +3,8 @@ ghost use Rattle.std.specs.Prelude.{◌≡◌, ◌+◌, ◌*◌, ◌≤◌, ◌<
 ghost use Rattle.lent.specs.Written.{written_at};
 ghost use Rattle.comparing.specs.Runs.{runs, numbered, run_bytes, runs_bytes};
 
+use header::fields;
+
 // Two datagrams beside each other. Where `masked`, identification, TTL and checksum count as equal, where both have the byte.
 #[derive(Clone, Copy)]
 pub(crate) struct Pair<'a> {
@@ -19,12 +21,10 @@ fn write_run(number: usize, offset: usize, size: usize, out: &mut [u8], at: usiz
     requires { at + 6 ≤ length out.old }
     ensures { out.new ≡ written_at at (run_bytes (number, record { offset = offset; length = size })) out.old }
 {
-    out[at] = (number % 65536 / 256) as u8;
-    out[at + 1] = (number % 65536 % 256) as u8;
-    out[at + 2] = (offset % 65536 / 256) as u8;
-    out[at + 3] = (offset % 65536 % 256) as u8;
-    out[at + 4] = (size % 65536 / 256) as u8;
-    out[at + 5] = (size % 65536 % 256) as u8;
+    let [a, b] = fields::word_bytes((number % 65536) as u16);
+    let [c, d] = fields::word_bytes((offset % 65536) as u16);
+    let [e, f] = fields::word_bytes((size % 65536) as u16);
+    lent::write_at(&[a, b, c, d, e, f], out, at);
 }
 
 impl<'a> Pair<'a> {

@@ -3,6 +3,7 @@ ghost use Rattle.std.specs.Prelude.{◌≡◌, ◌≤◌, ◌<◌, min, max, tru
 ghost use Rattle.comparing.specs.Runs.{is_masked_byte, is_unequal_at, differs_at};
 ghost use Rattle.comparing.specs.Search.{IsNext};
 
+use crate::blocks;
 use crate::blocks::Front;
 use crate::pair::Pair;
 
@@ -42,7 +43,7 @@ impl<'a> Front<'a> {
         if p < front {
             return p;
         }
-        self.next_unequal(wanted, p)
+        blocks::next_unequal(wanted, a, b, p, end)
     }
 
     // The next place from `start` on where the bytes differ, if so is wanted, or else do not.
@@ -53,7 +54,8 @@ impl<'a> Front<'a> {
         if masked & (start < BEHIND_MASK) {
             return self.next_in_header(wanted, start);
         }
-        self.next_unequal(wanted, start)
+        let Front { a, b, end } = self;
+        blocks::next_unequal(wanted, a, b, start, end)
     }
 }
 

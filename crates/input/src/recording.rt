@@ -72,7 +72,7 @@ pub fn well_formed(r: &[u8]) -> bool
     let n = section::count(r);
     let mut rest = first(r);
     let mut good = 2 <= r.len();
-    for i in 0..n {
+    for _i in 0..n {
         good = good & there(rest);
         rest = next(rest);
     }

@@ -18,7 +18,7 @@ pub loop-i-preserved : goal.loop-i-preserved
 loop-i-preserved c = let a = c.args in
     let x = c.loop-i.a.now in
     let y = c.loop-i.b.now in
-    let t = pairs-count a.masked (count_of a.first.now) (count_of a.second.now) (c.loop-i.i + 1) x y (omega arith) in
+    let t = pairs-count a.masked (count_of a.first.now) (count_of a.second.now) (c.loop-i._i + 1) x y (omega arith) in
     let counted = c.count-n.ensures in
     let same : length (runs a.masked c.datagram.result.now c.datagram-in-loop-i.result.now) ≡ length (runs a.masked (bytes_of x) (bytes_of y)) =
     rw (c.datagram.ensures, c.datagram-in-loop-i.ensures) in
@@ -26,5 +26,5 @@ loop-i-preserved c = let a = c.args in
 
 pub returns : goal.returns
 returns c = let a = c.args in
-    let e = ap length (pairs_end a.masked (count_of a.first.now) (count_of a.second.now) (c.loop-i.i + 1) c.loop-i.a.now c.loop-i.b.now (omega arith)) in
+    let e = ap length (pairs_end a.masked (count_of a.first.now) (count_of a.second.now) (c.loop-i._i + 1) c.loop-i.a.now c.loop-i.b.now (omega arith)) in
     omega arith

@@ -12,8 +12,8 @@ loop-i-init c = let e : c.count-n.result - 0 ≡ c.count-n.result = omega arith 
     rw (e, c.count-n.ensures, c.first-rest.ensures)
 
 pub loop-i-preserved : goal.loop-i-preserved
-loop-i-preserved c = rw (c.there-good.ensures, c.next-rest.ensures) (there_turn c.count-n.result c.loop-i.i c.loop-i.good c.loop-i.rest.now (omega arith) ∙ c.loop-i.invariant)
+loop-i-preserved c = rw (c.there-good.ensures, c.next-rest.ensures) (there_turn c.count-n.result c.loop-i._i c.loop-i.good c.loop-i.rest.now (omega arith) ∙ c.loop-i.invariant)
 
 pub returns : goal.returns
-returns c = let e : c.count-n.result - c.loop-i.i ≡ 0 = omega arith in
+returns c = let e : c.count-n.result - c.loop-i._i ≡ 0 = omega arith in
     rw e at c.loop-i.invariant

@@ -6,4 +6,4 @@ use Rattle.input.specs.Recording.{are_there, is_recording}
 use Rattle.input.proofs.recording.well_formed.Given as goal
 
 abbrev pub invariant-loop-i : goal.invariant-loop-i
-invariant-loop-i l = (l.good && are_there (l.n - l.i) l.rest) ≡ is_recording l.r
+invariant-loop-i l = (l.good && are_there (l.n - l._i) l.rest) ≡ is_recording l.r
