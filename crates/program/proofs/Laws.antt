@@ -1,4 +1,6 @@
 -- Laws of the program: which text there is, one line after another, and what is given back. Assumes nothing.
+use Rattle.std.specs.Prelude.{Result}
+use Rattle.refusals.specs.declared.Refusal.{Refusal}
 use Prim.Native.Nat.{ℕ, suc, ◌+◌, ◌-◌, ◌≤◌, ◌<◌}
 use mathlib.Core.Path.{◌≡◌, refl, sym, ◌∙◌}
 use mathlib.Core.Bool.{Bool, true, false, cond}
@@ -20,7 +22,6 @@ use Rattle.node.specs.declared.receive.Receipt.{Receipt}
 use Rattle.input.specs.Section.{count_of}
 use Rattle.input.specs.Input.{settings_of, is_well_formed}
 use Rattle.input.specs.Recording.{Datagram, interface_of, bytes_of, behind_datagram, first_datagram, datagrams_from, datagrams_of}
-use Rattle.program.specs.declared.lines.Line.{Line}
 use Rattle.program.specs.Lines.{bad_input}
 use Rattle.program.specs.Program.{line_with, receipt_of, memory_after, lines_for, lines_of, taken_text, text_for, output_room, IsFront, count_given, bytes_left}
 use Rattle.program.proofs.Lengths.{many_lines, text_short}
@@ -51,8 +52,8 @@ walked-first node memory r = let e : count_of r - 0 ≡ count_of r = omega arith
 abbrev pub datagram_at : List ℕ → Datagram
 datagram_at rest = record { interface = interface_of rest; bytes = bytes_of rest }
 
-module _ (node₀ : Node) (memory₀ r : List ℕ) (k : ℕ) (none : Line) (h : k < count_of r) (node : Node) (memory rest : List ℕ) (w : Walked node₀ memory₀ r k node memory rest) where
-  abbrev ls : List Line
+module _ (node₀ : Node) (memory₀ r : List ℕ) (k : ℕ) (none : Result ℕ Refusal) (h : k < count_of r) (node : Node) (memory rest : List ℕ) (w : Walked node₀ memory₀ r k node memory rest) where
+  abbrev ls : List (Result ℕ Refusal)
   ls = lines_of node₀ memory₀ r
 
   abbrev receipt : Receipt

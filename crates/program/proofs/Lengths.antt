@@ -19,7 +19,6 @@ use Rattle.routers.specs.declared.Router.{Router}
 use Rattle.settings.specs.declared.Settings.{Settings}
 use Rattle.receiving.specs.Collect.{Collected, whole_of, is_piece, fragment_of, collected_of}
 use Rattle.receiving.specs.declared.Received.{Received}
-use Rattle.receiving.specs.declared.Received.TheVariants.{Refused}
 use Rattle.node.specs.Receive.{collected_by, receive_of}
 use Rattle.node.specs.declared.Node.{Node}
 use Rattle.node.specs.Node.{setup_of}
@@ -74,18 +73,18 @@ number_short refusal.PieceUnfit = omega arith
 number_short refusal.RecordingMalformed = omega arith
 
 -- the line of number k fits: 16 bytes for each three of the n + 3 that a datagram of n bytes takes
-abbrev Fits : ℕ → Received → ℕ → Type 0
+abbrev Fits : ℕ → Result Received Refusal → ℕ → Type 0
 Fits k r n = 3 * length (line_of k (line_with r)) ≤ 16 * (3 + n)
 
 module _ (k : ℕ) (h : k < 100000) (n : ℕ) where
-  refused-fits : (r : Refusal) → Fits k (Refused r) n
-  refused-fits r = omega (arith, length-refusal k (number_of r) h (number_short r))
+  refused-fits : (r : Refusal) → Fits k (Err r) n
+  refused-fits r = omega (arith, length-refusal k r h (number_short r))
 
-  long-fits : 20 ≤ n → (r : Received) → Fits k r n
+  long-fits : 20 ≤ n → (r : Result Received Refusal) → Fits k r n
   long-fits g r = omega (arith, length_line k (line_with r) h)
 
   -- what is not refused by 15 or 2 has the bytes of an outer header
-  rows_fit : {A : Type 0} (refuse : Refusal → A) (answer : A → Received) → ((r : Refusal) → Fits k (answer (refuse r)) n)
+  rows_fit : {A : Type 0} (refuse : Refusal → A) (answer : A → Result Received Refusal) → ((r : Refusal) → Fits k (answer (refuse r)) n)
       → (t u : Bool) (a b : Refusal) (rest : Result Unit Refusal) (follows : A) → (u ≡ false → 20 ≤ n)
       → Fits k (answer (stop_or refuse (cond t (Err a) (cond u (Err b) rest)) follows)) n
   rows_fit refuse answer refuses true u a b rest follows g = refuses a
@@ -103,12 +102,12 @@ module _ (k : ℕ) (h : k < 100000) (s : Settings) (routers : List Router) (d : 
   whole-fits : (lent : ℕ) → Fits k (whole_of s routers lent d interface) (length d)
   unfolding whole_of
   whole-fits lent =
-      rows_fit k h (length d) Refused (λ (r : Received). r) (refused-fits k h (length d)) (ltb lent memory_room) (is_outer_malformed (length d) (outer_of d)) refusal.OutputShort refusal.OuterMalformed _ _ long
+      rows_fit k h (length d) Err (λ (r : Result Received Refusal). r) (refused-fits k h (length d)) (ltb lent memory_room) (is_outer_malformed (length d) (outer_of d)) refusal.OutputShort refusal.OuterMalformed _ _ long
 
   fragment-fits : (c : Collection) (now : ℕ) (memory : List ℕ) → Fits k (fragment_of s routers c now d interface memory).answer (length d)
   unfolding fragment_of
   fragment-fits c now memory =
-      rows_fit k h (length d) (λ (r : Refusal). record { answer = Refused r; pieces = c }) (λ (x : Collected). x.answer) (refused-fits k h (length d)) (ltb (length memory) memory_room) (is_outer_malformed (length d) (outer_of d)) refusal.OutputShort refusal.OuterMalformed _ _ long
+      rows_fit k h (length d) (λ (r : Refusal). record { answer = Err r; pieces = c }) (λ (x : Collected). x.answer) (refused-fits k h (length d)) (ltb (length memory) memory_room) (is_outer_malformed (length d) (outer_of d)) refusal.OutputShort refusal.OuterMalformed _ _ long
 
   collected-fits : (c : Collection) (now : ℕ) (memory : List ℕ) → Fits k (collected_of s routers c now d interface memory).answer (length d)
   unfolding collected_of

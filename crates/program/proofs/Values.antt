@@ -1,4 +1,5 @@
 -- Worked values: the worked input (R17.6), a datagram in pieces, and inputs at the edge. Assumes nothing.
+use Rattle.std.specs.Prelude.{Ok, Err}
 use Prim.Native.Nat.{ℕ}
 use mathlib.Core.Path.{◌≡◌, refl}
 use mathlib.Core.List.{List, [], ◌∷◌, ◌++◌}
@@ -21,7 +22,7 @@ use Rattle.node.specs.Receive.{collected_by, collected_through, receive_of, rece
 use Rattle.input.specs.Section.{records_of, locator_of, filled, locators_in, prefixes_in, routers_in}
 use Rattle.input.specs.Recording.{datagrams_of, is_recording}
 use Rattle.input.specs.Input.{prefix_section, router_section, behind_settings, are_sections_whole, settings_of, is_well_formed}
-use Rattle.program.specs.declared.lines.Line.TheVariants.{Deliver, Refuse}
+use Rattle.refusals.specs.declared.Refusal.TheVariants.{OuterSourceWrong, PieceWaits}
 use Rattle.text.specs.Text.{decimal}
 use Rattle.program.specs.Lines.{datagrams_word, deliver_word, refuse_word, bad_input, entry_of, count_line, line_of, lines_from, text_of}
 use Rattle.program.specs.Program.{receipt_of, memory_after, lines_of, own_memory, taken_text, text_for}
@@ -57,10 +58,10 @@ last_piece =
     ∷ 254 ∷ 128 ∷ 0 ∷ 0 ∷ 0 ∷ 0 ∷ 0 ∷ 0 ∷ 0 ∷ 0 ∷ 94 ∷ 254 ∷ 10 ∷ 0 ∷ 0 ∷ 1 ∷ []
 
 -- no datagram; the pieces in either order; no input, a byte too many, one too few, and no locator
-pub program_worked : (text_for example ≡ text_of (Deliver 40 ∷ Refuse 10 ∷ []))
+pub program_worked : (text_for example ≡ text_of (Ok 40 ∷ Err OuterSourceWrong ∷ []))
     × (text_for (take 11 settings ++ (0 ∷ 0 ∷ [])) ≡ text_of [])
-    × (text_for (settings ++ (first_piece ++ last_piece)) ≡ text_of (Refuse 27 ∷ Deliver 40 ∷ []))
-    × (text_for (settings ++ (last_piece ++ first_piece)) ≡ text_of (Refuse 27 ∷ Deliver 40 ∷ []))
+    × (text_for (settings ++ (first_piece ++ last_piece)) ≡ text_of (Err PieceWaits ∷ Ok 40 ∷ []))
+    × (text_for (settings ++ (last_piece ++ first_piece)) ≡ text_of (Err PieceWaits ∷ Ok 40 ∷ []))
     × (text_for [] ≡ bad_input)
     × (text_for (example ++ (0 ∷ [])) ≡ bad_input)
     × (text_for (take 138 example) ≡ bad_input)
@@ -69,7 +70,7 @@ unfolding text_for taken_text lines_of receipt_of memory_after own_memory ones_s
 program_worked = (refl, refl, refl, refl, refl, refl, refl, refl)
 
 -- "datagrams 2", "1 deliver 40", "2 refuse 10"; "datagrams 0"
-pub lines_worked : (text_of (Deliver 40 ∷ Refuse 10 ∷ [])
+pub lines_worked : (text_of (Ok 40 ∷ Err OuterSourceWrong ∷ [])
     ≡ datagrams_word ++ (50 ∷ 10 ∷ 49 ∷ []) ++ deliver_word ++ (52 ∷ 48 ∷ 10 ∷ 50 ∷ []) ++ refuse_word ++ (49 ∷ 48 ∷ 10 ∷ []))
     × (text_of [] ≡ datagrams_word ++ (48 ∷ 10 ∷ []))
 unfolding decimal entry_of count_line line_of lines_from text_of

@@ -1,8 +1,8 @@
 -- The program's output (R17.4), from what it says of each datagram.
-use Rattle.std.specs.Prelude.{ℕ, suc, List, [], ◌∷◌, ◌++◌, length}
+use Rattle.std.specs.Prelude.{ℕ, suc, List, [], ◌∷◌, ◌++◌, length, Result, Ok, Err}
 use Rattle.text.specs.Text.{decimal}
-use Rattle.program.specs.declared.lines.Line.{Line}
-use Rattle.program.specs.declared.lines.Line.TheVariants.{Deliver, Refuse}
+use Rattle.refusals.specs.Refusals.{number_of}
+use Rattle.refusals.specs.declared.Refusal.{Refusal}
 
 -- "datagrams "
 abbrev pub datagrams_word : List ℕ
@@ -29,19 +29,19 @@ unfoldable pub count_line : ℕ → List ℕ
 count_line n = entry_of datagrams_word n
 
 -- `K deliver LENGTH` or `K refuse NUMBER`
-unfoldable pub line_of : ℕ → Line → List ℕ
-line_of k (Deliver n) = decimal k ++ entry_of deliver_word n
-line_of k (Refuse n) = decimal k ++ entry_of refuse_word n
+unfoldable pub line_of : ℕ → Result ℕ Refusal → List ℕ
+line_of k (Ok n) = decimal k ++ entry_of deliver_word n
+line_of k (Err refusal) = decimal k ++ entry_of refuse_word (number_of refusal)
 
 -- no line is longer: two numbers of 20 digits, the longer word and a line feed
 abbrev pub longest_line : ℕ
 longest_line = 50
 
 -- a line for each datagram, the first of number k
-unfoldable pub lines_from : ℕ → List Line → List ℕ
+unfoldable pub lines_from : ℕ → List (Result ℕ Refusal) → List ℕ
 lines_from k [] = []
 lines_from k (l ∷ ls) = line_of k l ++ lines_from (suc k) ls
 
 -- the whole output
-unfoldable pub text_of : List Line → List ℕ
+unfoldable pub text_of : List (Result ℕ Refusal) → List ℕ
 text_of ls = count_line (length ls) ++ lines_from 1 ls

@@ -2,10 +2,9 @@
 use Rattle.refusals.specs.declared.Refusal.{Refusal}
 use Rattle.std.specs.Prelude.{ℕ, ◌+◌, ◌*◌, ◌≤◌, ◌≡◌, cond, List, [], ◌∷◌, ltb, length, take, replicate, Result, Ok, Err}
 use Rattle.lent.specs.Written.{written}
-use Rattle.refusals.specs.Refusals.{number_of}
 use Rattle.pieces.specs.Places.{memory_room}
 use Rattle.receiving.specs.declared.Received.{Received}
-use Rattle.receiving.specs.declared.Received.TheVariants.{Delivered, Joined, Refused}
+use Rattle.receiving.specs.declared.Received.TheVariants.{Delivered, Joined}
 use Rattle.node.specs.Node.{setup_of}
 use Rattle.node.specs.Receive.{receive_of, receive_memory}
 use Rattle.node.specs.declared.Node.{Node}
@@ -13,15 +12,13 @@ use Rattle.node.specs.declared.ServiceName.TheVariants.{First}
 use Rattle.node.specs.declared.receive.Receipt.{Receipt}
 use Rattle.input.specs.Input.{behind_settings, settings_of, input_limit, is_well_formed}
 use Rattle.input.specs.Recording.{Datagram, datagrams_of}
-use Rattle.program.specs.declared.lines.Line.{Line}
-use Rattle.program.specs.declared.lines.Line.TheVariants.{Deliver, Refuse}
 use Rattle.program.specs.Lines.{bad_input, text_of}
 
 -- R17.4: `deliver` with the length of the inner packet, be it in the datagram or in the memory, or `refuse` with the number
-abbrev pub line_with : Received → Line
-line_with (Delivered offset size) = Deliver size
-line_with (Joined offset size) = Deliver size
-line_with (Refused refusal) = Refuse (number_of refusal)
+abbrev pub line_with : Result Received Refusal → Result ℕ Refusal
+line_with (Ok (Delivered offset size)) = Ok size
+line_with (Ok (Joined offset size)) = Ok size
+line_with (Err refusal) = Err refusal
 
 -- R17.3, R26.10: a datagram comes at time 0, to the one service of this node and with this memory
 unfoldable pub receipt_of : Node → List ℕ → Datagram → Receipt
@@ -32,13 +29,13 @@ unfoldable pub memory_after : Node → List ℕ → Datagram → List ℕ
 memory_after node memory d = receive_memory node First d.bytes d.interface 0 memory
 
 -- R17.4: a line for each datagram in its order; the node and the memory that one leaves are handed on to the next
-abbrev pub lines_for : Node → List ℕ → List Datagram → List Line
+abbrev pub lines_for : Node → List ℕ → List Datagram → List (Result ℕ Refusal)
 lines_for node memory [] = []
 lines_for node memory (d ∷ ds) =
     line_with (receipt_of node memory d).answer ∷ lines_for (receipt_of node memory d).node (memory_after node memory d) ds
 
 -- a line for each datagram of a section
-unfoldable pub lines_of : Node → List ℕ → List ℕ → List Line
+unfoldable pub lines_of : Node → List ℕ → List ℕ → List (Result ℕ Refusal)
 lines_of node memory r = lines_for node memory (datagrams_of r)
 
 -- R17.3: the program's own memory, before the first datagram

@@ -11,9 +11,9 @@ ghost use Rattle.program.specs.Lines.{lines_from, text_of};
 ghost use Rattle.program.specs.Program.{input_room, output_room, IsFront, line_with, lines_of, own_memory, taken_text, count_given, bytes_left};
 
 use input::recording;
-use lines::Line;
 use node::{Node, ServiceName};
 use receiving::Received;
+use refusals::Refusal;
 
 // Room for any input, and for one byte more, so that a longer input is seen.
 pub const INPUT_ROOM: usize = input::LIMIT + 1;
@@ -47,13 +47,12 @@ fn own_memory() -> [u8; pieces::MEMORY]
 }
 
 // What the program says of a datagram.
-fn line_with(answer: Received) -> Line
+fn line_with(answer: Result<Received, Refusal>) -> Result<usize, Refusal>
     ensures { result ≡ line_with answer }
 {
-    match answer {
-        Received::Delivered { offset: _, length } => Line::Deliver(length),
-        Received::Joined { offset: _, length } => Line::Deliver(length),
-        Received::Refused(refusal) => Line::Refuse(refusal.number()),
+    match answer? {
+        Received::Delivered { offset: _, length } => Ok(length),
+        Received::Joined { offset: _, length } => Ok(length),
     }
 }
 
@@ -67,8 +66,7 @@ fn put_lines(node: Node, r: &[u8], memory: &mut [u8], out: &mut [u8], from: usiz
     let mut next = node;
     let mut at = from;
     let mut rest = recording::first(r);
-    let mut k: usize = 0;
-    while k < n {
+    for k in 0..n {
         let receipt = next.receive(
             ServiceName::First,
             recording::datagram(rest),
@@ -78,10 +76,8 @@ fn put_lines(node: Node, r: &[u8], memory: &mut [u8], out: &mut [u8], from: usiz
         );
         next = receipt.node;
         let answer = receipt.answer;
-        k += 1;
-        at = lines::put_line(k, line_with(answer), out, at);
-        let after = recording::next(rest);
-        rest = after;
+        at = lines::put_line(k + 1, line_with(answer), out, at);
+        rest = recording::next(rest);
     }
     at
 }

@@ -5,12 +5,7 @@ ghost use Rattle.lent.specs.Written.{written_at};
 ghost use Rattle.text.specs.Text.{behind};
 ghost use Rattle.program.specs.Lines.{longest_line, entry_of, bad_input, count_line, line_of};
 
-// What the program says of a datagram: the length that is delivered, or the number of the refusal.
-#[derive(Clone, Copy)]
-pub enum Line {
-    Deliver(usize),
-    Refuse(u8),
-}
+use refusals::Refusal;
 
 // The longest line: two numbers of 20 digits, the longer word and a line feed.
 const LONGEST_LINE: usize = 50;
@@ -27,15 +22,15 @@ fn put_entry(word: &[u8], n: u64, out: &mut [u8], at: usize) -> usize
 }
 
 // Writes a line where there is room for the longest one.
-fn write_line(k: usize, line: Line, out: &mut [u8], at: usize) -> usize
+fn write_line(k: usize, line: Result<usize, Refusal>, out: &mut [u8], at: usize) -> usize
     requires { at + longest_line ≤ length out.old }
     ensures value { result ≡ behind at (line_of k line) out.old }
     ensures out_after { out.new ≡ written_at at (line_of k line) out.old }
 {
     let next = text::put_decimal(k as u64, out, at);
     match line {
-        Line::Deliver(n) => put_entry(b" deliver ", n as u64, out, next),
-        Line::Refuse(n) => put_entry(b" refuse ", n as u64, out, next),
+        Ok(n) => put_entry(b" deliver ", n as u64, out, next),
+        Err(refusal) => put_entry(b" refuse ", refusal.number() as u64, out, next),
     }
 }
 
@@ -49,8 +44,8 @@ pub fn put_count(n: usize, out: &mut [u8], at: usize) -> usize
     text::put(&bytes[..end], out, at)
 }
 
-// Writes the line of the datagram of number k, counted from 1.
-pub fn put_line(k: usize, line: Line, out: &mut [u8], at: usize) -> usize
+// Writes the line of the datagram of number k, counted from 1: the length that is delivered, or the number of the refusal.
+pub fn put_line(k: usize, line: Result<usize, Refusal>, out: &mut [u8], at: usize) -> usize
     ensures value { result ≡ behind at (line_of k line) out.old }
     ensures out_after { out.new ≡ written_at at (line_of k line) out.old }
 {

@@ -1,5 +1,4 @@
 -- `put_lines` meets its contract: the walk has come to the datagram of number k, and the lines before it are written.
-use Prim.Native.Nat.{◌≤◌, ◌-◌}
 use mathlib.Core.Path.{◌≡◌}
 use lib.ListN.{length}
 use Rattle.text.proofs.Laws.{Wrote}
@@ -9,7 +8,4 @@ use Rattle.program.proofs.Laws.{Walked}
 use Rattle.program.proofs.put_lines.Given as goal
 
 abbrev pub invariant-loop-k : goal.invariant-loop-k
-invariant-loop-k l = (l.k ≤ l.n) × Walked l.initial.next l.initial.memory l.r l.k l.next l.memory l.rest × (length l.memory ≡ length l.initial.memory) × (length l.out ≡ length l.initial.out) × Wrote l.from (lines_to l.k (lines_of l.initial.next l.initial.memory l.r)) l.initial.out l.at l.out
-
-abbrev pub decreases-loop-k : goal.decreases-loop-k
-decreases-loop-k l = l.n - l.k
+invariant-loop-k l = Walked l.initial.next l.initial.memory l.r l.k l.next l.memory l.rest × (length l.memory ≡ length l.initial.memory) × (length l.out ≡ length l.initial.out) × Wrote l.from (lines_to l.k (lines_of l.initial.next l.initial.memory l.r)) l.initial.out l.at l.out

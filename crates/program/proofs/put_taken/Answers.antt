@@ -10,6 +10,6 @@ pub returns-in-Ok : goal.returns-in-Ok
 unfolding taken_text
 returns-in-Ok c = rw (← c.settings.ensures, ← c.new-setup.ensures, ← c.behind_settings.ensures, c.in-Ok.is) c.put_text.ensures
 
-pub returns-in-Refused : goal.returns-in-Refused
+pub returns-in-Err : goal.returns-in-Err
 unfolding taken_text
-returns-in-Refused c = rw (← c.settings.ensures, ← c.new-setup.ensures, c.in-Refused.is) c.put_bad_input.ensures
+returns-in-Err c = rw (← c.settings.ensures, ← c.new-setup.ensures, c.in-Err.is) c.put_bad_input.ensures
