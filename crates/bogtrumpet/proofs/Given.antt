@@ -21,10 +21,10 @@ use Rattle.sending.specs.declared.SendAnswer.TheVariants as sent
 use Rattle.bogtrumpet.specs.Answers.{plain_received, plain_sent, plain_reported, plain_asked, plain_heard, plain_advertised}
 use Rattle.bogtrumpet.specs.Given.{received_back, sent_back, reported_back, asked_back, heard_back, advertised_back}
 
-pub received-given : (a : Received) → received_back (plain_received a) ≡ received_given a
-received-given (received.Delivered offset length) = refl
-received-given (received.Joined offset length) = refl
-received-given (received.Refused r) = refused-back r (0 ∷ 0 ∷ 0 ∷ [])
+pub received-given : (a : Result Received Refusal) → received_back (plain_received a) ≡ received_given a
+received-given (Ok (received.Delivered offset length)) = refl
+received-given (Ok (received.Joined offset length)) = refl
+received-given (Err r) = refused-back r (0 ∷ 0 ∷ 0 ∷ [])
 
 pub sent-given : (a : SendAnswer) → sent_back (plain_sent a) ≡ send_given a
 sent-given (sent.Wrapped length) = refl

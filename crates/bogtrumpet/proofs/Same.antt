@@ -4,7 +4,7 @@
 --     gathered-same, absent-same     what receiving gathers changes one place, or none.        received-same     with the latest time it is the node's
 --     sent-same        a sending over a path of the size toward the tunnel end is the node's
 --     asked-same, heard-same, replaced-same     these change the router list of their service and the latest time alone.        advertised-same     advertising
-use Rattle.std.specs.Prelude.{Ok, Err}
+use Rattle.std.specs.Prelude.{Result, Ok, Err, None, IfSome}
 use mathlib.Core.Path.{◌≡◌, refl, ap, ◌∙◌}
 use Prim.Native.Nat.{ℕ, max, ◌<◌}
 use mathlib.Core.Bool.{Bool, true, false, cond}
@@ -17,6 +17,7 @@ use Rattle.asking.specs.declared.Asked as asking
 use Rattle.hearing.specs.declared.Heard as hearing
 use Rattle.paths.specs.Kept.{in_force}
 use Rattle.paths.specs.Table.{kept_among, kept_in}
+use Rattle.refusals.specs.declared.Refusal.{Refusal}
 use Rattle.refusals.specs.declared.Refusal.TheVariants.{NoLocator}
 use Rattle.routers.specs.Routers.{live}
 use Rattle.routers.specs.declared.Router.{Router}
@@ -27,11 +28,9 @@ use Rattle.pieces.specs.Places.{places}
 use Rattle.pieces.specs.Take.{with_place}
 use Rattle.pieces.specs.declared.Place.{Place}
 use Rattle.receiving.specs.Collect.{Collected, collected_of}
-use Rattle.receiving.specs.Stages.{placed_at, judged_of, judged_with}
-use Rattle.receiving.specs.declared.Received.TheVariants as received
+use Rattle.receiving.specs.Stages.{judged_of, judged_or, judged_with}
 use Rattle.receiving.specs.declared.collect.Gathered.{Gathered}
 use Rattle.receiving.specs.declared.judging.Stage.{Stage}
-use Rattle.receiving.specs.declared.judging.Stage.TheVariants as stage
 use Rattle.node.specs.Advertise.{advertised_by, advertised_through, advertise_of, advertise_output}
 use Rattle.node.specs.Ask.{asked_by, asked_through, ask_of, ask_output}
 use Rattle.node.specs.Hear.{heard_by, hear_of}
@@ -98,47 +97,31 @@ module _ (h : Node) (k : ℕ) (p hop : List ℕ) (locator t : ℕ) (out : List �
   pub sent-same : (size : ℕ) → size ≡ path_size_toward h (name_of k) hop t → Sent-same size
   sent-same size sized = rw sized at_size
 
-plain_placed : (joined : Bool) (offset length : ℕ) → record { number = 0; joined = joined; offset = offset; length = length } ≡ plain_received (placed_at joined offset length)
-plain_placed true offset length = refl
-plain_placed false offset length = refl
-
--- what is to be judged comes to the same with a refusal's number for it
-plain_judged_lem : (s : Settings) (routers : List Router) (x : Stage) → plain_judged s routers (plain_stage x) ≡ plain_received (judged_of s routers x)
-unfolding judged_of
-plain_judged_lem s routers (stage.Open x) = refl
-plain_judged_lem s routers (stage.Passed p) = plain_placed p.joined p.offset p.length
-plain_judged_lem s routers (stage.Refused r) = refl
+-- what is read comes to the same with a refusal's number for it
+plain_judged_lem : (s : Settings) (routers : List Router) (x : Result Stage Refusal) → plain_judged s routers (plain_stage x) ≡ plain_received (judged_or s routers x)
+plain_judged_lem s routers (Ok x) = refl
+plain_judged_lem s routers (Err r) = refl
 
 -- what is gathered, with one place changed or none, says all that is asked of receiving
 module _ (s : Service) (now : ℕ) (d : List ℕ) (i : ℕ) (memory : List ℕ) where
   module _ (g : Gathered) where
     abbrev gathered : GatheredStep
-    gathered = record { stage = plain_stage g.stage; place = g.place; at = g.at; latest = now; piece = g.piece }
+    gathered = record { stage = plain_stage g.stage; stored = g.stored; latest = now }
 
-    after : (b : Bool) → cond b (with_pieces s (with_place g.at g.place s.pieces)) s ≡ with_pieces s (cond b (with_place g.at g.place s.pieces) s.pieces)
-    after true = refl
-    after false = refl
-
-    settings-kept : (b : Bool) → (cond b (with_pieces s (with_place g.at g.place s.pieces)) s).settings ≡ s.settings
-    settings-kept true = refl
-    settings-kept false = refl
-
-    routers-kept : (b : Bool) → (cond b (with_pieces s (with_place g.at g.place s.pieces)) s).routers ≡ s.routers
-    routers-kept true = refl
-    routers-kept false = refl
-
-    pub gathered-same : judged_with s.settings (live s.routers) s.pieces g ≡ collected_of s.settings (live s.routers) s.pieces now d i memory → g.at < places → GatheredAs true s now d i memory gathered
+    pub gathered-same : judged_with s.settings (live s.routers) s.pieces g ≡ collected_of s.settings (live s.routers) s.pieces now d i memory
+        → IfSome g.stored (λ x. x.0 < places)
+        → GatheredAs true s now d i memory gathered
     unfolding collected_by judged_step
     gathered-same told in_bounds = record {
       at-time = refl;
-      next = after g.piece ∙ ap (λ (c : Collected). with_pieces s c.pieces) told;
-      answer = rw (settings-kept g.piece, routers-kept g.piece) (plain_judged_lem s.settings (live s.routers) g.stage ∙ ap (λ (c : Collected). plain_received c.answer) told);
+      next = ap (λ (c : Collected). with_pieces s c.pieces) told;
+      answer = plain_judged_lem s.settings (live s.routers) g.stage ∙ ap (λ (c : Collected). plain_received c.answer) told;
       in_bounds = in_bounds;
     }
 
-  pub absent-same : (p : Place) → GatheredAs false s now d i memory (record { stage = plain_stage (stage.Refused NoLocator); place = p; at = 0; latest = now; piece = false })
+  pub absent-same : GatheredAs false s now d i memory (record { stage = plain_stage (Err NoLocator); stored = None; latest = now })
   unfolding collected_by judged_step judged_of
-  absent-same p = record { at-time = refl; next = refl; answer = refl; in_bounds = omega arith }
+  absent-same = record { at-time = refl; next = refl; answer = refl; in_bounds = tt }
 
 -- with the latest time it is the node's
 module _ (h : Node) (k : ℕ) (d : List ℕ) (i t : ℕ) (memory : List ℕ) where
@@ -151,18 +134,18 @@ module _ (h : Node) (k : ℕ) (d : List ℕ) (i t : ℕ) (memory : List ℕ) whe
   abbrev now : ℕ
   now = max h.latest t
 
-  as_numbered : (plain_received (collected_by there service now d i memory).answer ≡ by_number k (λ w. plain_received (receive_of h w d i t memory).answer) (plain_received (received.Refused NoLocator)))
+  as_numbered : (plain_received (collected_by there service now d i memory).answer ≡ by_number k (λ w. plain_received (receive_of h w d i t memory).answer) (plain_received (Err NoLocator)))
       × (node_with h (name_of k) (with_pieces service (collected_by there service now d i memory).pieces) t ≡ by_number k (λ w. (receive_of h w d i t memory).node) (raised_to h t))
       × (collected_through there service now d i memory ≡ by_number k (λ w. receive_memory h w d i t memory) memory)
   unfolding collected_by collected_through receive_of receive_memory raised_to
   as_numbered = (
-    by_number_lem (λ there w. plain_received (collected_by there (service_of h w) now d i memory).answer) (λ w. plain_received (receive_of h w d i t memory).answer) (plain_received (received.Refused NoLocator)) h.both k refl refl refl,
+    by_number_lem (λ there w. plain_received (collected_by there (service_of h w) now d i memory).answer) (λ w. plain_received (receive_of h w d i t memory).answer) (plain_received (Err NoLocator)) h.both k refl refl refl,
     by_number_lem (λ there w. node_with h w (with_pieces (service_of h w) (collected_by there (service_of h w) now d i memory).pieces) t) (λ w. (receive_of h w d i t memory).node) (raised_to h t) h.both k refl refl refl,
     by_number_lem (λ there w. collected_through there (service_of h w) now d i memory) (λ w. receive_memory h w d i t memory) memory h.both k refl refl refl,
   )
 
   pub received-same : (z : GatheredStep) → GatheredAs there service now d i memory z
-      → (judged_step (gathered_after service z) z ≡ by_number k (λ w. plain_received (receive_of h w d i t memory).answer) (plain_received (received.Refused NoLocator)))
+      → (judged_step (gathered_after service z) z ≡ by_number k (λ w. plain_received (receive_of h w d i t memory).answer) (plain_received (Err NoLocator)))
       × (node_with h (name_of k) (gathered_after service z) t ≡ by_number k (λ w. (receive_of h w d i t memory).node) (raised_to h t))
       × (collected_through there service now d i memory ≡ by_number k (λ w. receive_memory h w d i t memory) memory)
   received-same z told = (told.answer ∙ as_numbered.0, ap (λ (s : Service). node_with h (name_of k) s t) told.next ∙ as_numbered.1, as_numbered.2)

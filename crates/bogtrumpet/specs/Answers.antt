@@ -23,10 +23,10 @@ unfoldable pub defaults_of : Settings → Settings
 defaults_of s = defaults_for s.locators s.locator_count s.prefixes s.prefix_count s.routers s.router_count
 
 -- the place of the 40 + payload length inner bytes, in the lent datagram (R5.13), or in the memory where they were joined (R23.14)
-abbrev pub plain_received : receiving.Received → Received
-plain_received (received.Delivered offset length) = record { number = 0; joined = false; offset = offset; length = length }
-plain_received (received.Joined offset length) = record { number = 0; joined = true; offset = offset; length = length }
-plain_received (received.Refused r) = record { number = number_of r; joined = false; offset = 0; length = 0 }
+abbrev pub plain_received : Result receiving.Received Refusal → Received
+plain_received (Ok (received.Delivered offset length)) = record { number = 0; joined = false; offset = offset; length = length }
+plain_received (Ok (received.Joined offset length)) = record { number = 0; joined = true; offset = offset; length = length }
+plain_received (Err r) = record { number = number_of r; joined = false; offset = 0; length = 0 }
 
 -- the size in force (R10.1)
 abbrev pub plain_sized : Result ℕ Refusal → Sized

@@ -67,23 +67,23 @@ pub struct Advertised {
     pub length: usize,
 }
 
-pub fn plain_received(answer: receiving::Received) -> Received
+pub fn plain_received(answer: Result<receiving::Received, Refusal>) -> Received
     ensures { result ≡ plain_received answer }
 {
     match answer {
-        receiving::Received::Delivered { offset, length } => Received {
+        Ok(receiving::Received::Delivered { offset, length }) => Received {
             number: 0,
             joined: false,
             offset,
             length,
         },
-        receiving::Received::Joined { offset, length } => Received {
+        Ok(receiving::Received::Joined { offset, length }) => Received {
             number: 0,
             joined: true,
             offset,
             length,
         },
-        receiving::Received::Refused(refusal) => Received {
+        Err(refusal) => Received {
             number: refusal.number(),
             joined: false,
             offset: 0,

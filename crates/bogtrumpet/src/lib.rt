@@ -13,7 +13,6 @@ pub mod steps;
 
 ghost use Rattle.std.specs.Prelude.{◌≡◌, length, Err};
 ghost use Rattle.std.specs.Borrow.{sem};
-ghost use Rattle.receiving.specs.declared.Received.TheVariants as received;
 ghost use Rattle.refusals.specs.declared.Refusal.TheVariants.{NoLocator};
 ghost use Rattle.sending.specs.declared.SendAnswer.TheVariants as sent;
 ghost use Rattle.node.specs.Advertise.{advertise_of, advertise_output};
@@ -136,7 +135,7 @@ pub extern "C" fn bogtrumpet_receive(
     time: u32,
     memory: &mut [u8],
 ) -> Received
-    ensures { (result ≡ by_number service (λ w. plain_received (receive_of node.old w datagram.now interface time memory.old).answer) (plain_received (received.Refused NoLocator)))
+    ensures { (result ≡ by_number service (λ w. plain_received (receive_of node.old w datagram.now interface time memory.old).answer) (plain_received (Err NoLocator)))
         × (node.new ≡ by_number service (λ w. (receive_of node.old w datagram.now interface time memory.old).node) (raised_to node.old time))
         × (memory.new ≡ by_number service (λ w. receive_memory node.old w datagram.now interface time memory.old) memory.old) }
 {
@@ -146,8 +145,8 @@ pub extern "C" fn bogtrumpet_receive(
     let step = steps::gathered(
         *named, both, latest, service, datagram, interface, time, memory,
     );
-    if step.piece {
-        named.pieces.places[step.at] = step.place;
+    if let Some((at, place)) = step.stored {
+        named.pieces.places[at] = place;
     }
     let answer = steps::judged(*named, step);
     node.latest = step.latest;

@@ -16,7 +16,7 @@ use super::plain::Advertisement;
 use super::{Address, Addresses, answers, numbered, plain};
 use node::{Service, advertise, ask, hear, router_list, send};
 use pieces::Place;
-use receiving::judging::{Opening, Stage, Standing};
+use receiving::judging::Stage;
 use receiving::{collect, judging};
 use refusals::Refusal;
 use routers::{Router, RouterList};
@@ -29,24 +29,13 @@ pub struct SentStep {
     pub latest: u32,
 }
 
-// What is to be judged of a datagram, or where the packet stands, or the number: what `receiving::judging::Stage` has, but for the number. It is
-// told where the refusal is, which the compiler knows there, and so is looked up nowhere.
-#[derive(Clone, Copy)]
-pub(crate) enum PlainStage {
-    Open(Opening),
-    Passed(Standing),
-    Refused(u8),
-}
-
-// What is to be judged of a datagram. Of the node a piece that comes to the collection of its service changes one place there and the latest time, any
-// other datagram the latest time alone.
+// What is read of a datagram, or the number, told where the refusal is: the compiler knows it there, and so looks it up nowhere. Of the node a
+// piece that comes to the collection of its service changes one place there and the latest time, any other datagram the latest time alone.
 #[derive(Clone, Copy)]
 pub(crate) struct GatheredStep {
-    pub stage: PlainStage,
-    pub place: Place,
-    pub at: usize,
+    pub stage: Result<Stage, u8>,
+    pub stored: Option<(usize, Place)>,
     pub latest: u32,
-    pub piece: bool,
 }
 
 // Of the node a new router list changes the router list of its service and the latest time alone.
@@ -65,14 +54,10 @@ pub struct RouterStep<A> {
     pub rescheduled: Option<Router>,
 }
 
-fn plain_stage(stage: Stage) -> PlainStage
+fn plain_stage(stage: Result<Stage, Refusal>) -> Result<Stage, u8>
     ensures { result ≡ plain_stage stage }
 {
-    match stage {
-        Stage::Open(x) => PlainStage::Open(x),
-        Stage::Passed(at) => PlainStage::Passed(at),
-        Stage::Refused(refusal) => PlainStage::Refused(refusal.number()),
-    }
+    stage.map_err(|refusal| refusal.number())
 }
 
 // A datagram up to what is to be judged of it: receiving::collect::gather.
@@ -94,25 +79,16 @@ pub(crate) fn gathered(
         let settings = named.settings;
         let pieces = named.pieces;
         let gathered = collect::gather(settings, pieces, latest, datagram, interface, memory);
-        let read = gathered.stage;
-        let stage = plain_stage(read);
-        let place = gathered.place;
         return GatheredStep {
-            stage,
-            place,
-            at: gathered.at,
+            stage: plain_stage(gathered.stage),
+            stored: gathered.stored,
             latest,
-            piece: gathered.piece,
         };
     }
-    let stage = plain_stage(Stage::Refused(Refusal::NoLocator));
-    let place = Place::none();
     GatheredStep {
-        stage,
-        place,
-        at: 0,
+        stage: plain_stage(Err(Refusal::NoLocator)),
+        stored: None,
         latest,
-        piece: false,
     }
 }
 
@@ -121,21 +97,13 @@ pub(crate) fn gathered(
 pub(crate) fn judged(named: Service, step: GatheredStep) -> Received
     ensures { result ≡ judged_step named step }
 {
-    let stage = step.stage;
-    match stage {
-        PlainStage::Open(x) => {
+    match step.stage {
+        Ok(stage) => {
             let settings = named.settings;
             let routers = named.routers;
-            let given = judging::judge(settings, routers, Stage::Open(x));
-            answers::plain_received(given)
+            answers::plain_received(judging::judge(settings, routers, stage))
         }
-        PlainStage::Passed(at) => Received {
-            number: 0,
-            joined: at.joined,
-            offset: at.offset,
-            length: at.length,
-        },
-        PlainStage::Refused(number) => Received {
+        Err(number) => Received {
             number,
             joined: false,
             offset: 0,

@@ -5,7 +5,7 @@ use Rattle.bogtrumpet.specs.Gathered.{gathered_after}
 use Rattle.bogtrumpet.specs.Numbered.{name_of}
 use Rattle.bogtrumpet.proofs.Same.{received-same}
 use Rattle.bogtrumpet.proofs.bogtrumpet_receive.Goals as goal
-use Rattle.bogtrumpet.proofs.bogtrumpet_receive.Goals.{then-step, else-step}
+use Rattle.bogtrumpet.proofs.bogtrumpet_receive.Goals.{in-Some, in_default}
 
 pub returns : goal.returns
 returns c =
@@ -15,9 +15,9 @@ returns c =
     let told = rw c.named-named.ensures.value at c.gathered-step.ensures.0 in
     let stored = rw c.named-named.ensures.value at c.gathered-step.ensures.1 in
     let s = received-same h a.service a.datagram.now a.interface a.time a.memory.now step told in
-    let after : c.if-step.named ≡ gathered_after (service_of h (name_of a.service)) step =
-    elim c.if-step.branch [
-      | then-step b ↦ rw (b.named-is, b.if-step.true, c.named-named.ensures.value)
-      | else-step b ↦ rw (b.named-is, b.if-step.false, c.named-named.ensures.value)
+    let after : c.match-step.named ≡ gathered_after (service_of h (name_of a.service)) step =
+    elim c.match-step.branch [
+      | in-Some b ↦ rw (b.named-is, b.in-Some.is, c.named-named.ensures.value)
+      | in_default b ↦ rw (b.named-is, b.in_default.is, c.named-named.ensures.value)
     ] in
     (c.judged-answer.ensures ∙ rw after s.0, rw (after, told.at-time) s.1, stored ∙ s.2)

@@ -12,8 +12,8 @@ returns-then-there c =
     let a = c.args in
     let g = c.gather-gathered in
     let there : is_there a.both a.service ≡ true = cc in (
-      rw (there, ← c.max-latest.ensures, c.plain_stage-stage.ensures)
-          (gathered-same a.named c.max-latest.result a.datagram.now a.interface a.memory.now g.result (g.ensures.at_lt_places.0 (live a.named.routers)) g.ensures.at_lt_places.1),
+      rw (there, ← c.max-latest.ensures, c.plain_stage.ensures)
+          (gathered-same a.named c.max-latest.result a.datagram.now a.interface a.memory.now g.result (g.ensures.judged (live a.named.routers)) g.ensures.at_lt_places),
       rw (there, ← c.max-latest.ensures) g.ensures.memory_after,
     )
 
@@ -22,7 +22,7 @@ unfolding collected_through
 returns c =
     let a = c.args in
     let there : is_there a.both a.service ≡ false = cc in (
-      rw (there, ← c.max-latest.ensures, c.plain_stage-stage-2.ensures)
-          (absent-same a.named c.max-latest.result a.datagram.now a.interface a.memory.now c.none-place.result),
+      rw (there, ← c.max-latest.ensures, c.plain_stage-2.ensures)
+          (absent-same a.named c.max-latest.result a.datagram.now a.interface a.memory.now),
       rw there,
     )
