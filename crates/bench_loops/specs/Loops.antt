@@ -1,5 +1,6 @@
 -- Loops over calls, one after the other: the sum of what n turns answer, and what they leave. Only functions of the crate's own cite this.
-use Rattle.std.specs.Prelude.{ℕ, zero, suc, ◌+◌, ◌*◌, ◌/◌, ◌%◌, ◌^◌, min, List, length, take, drop}
+use Rattle.std.specs.Prelude.{ℕ, zero, suc, ◌+◌, ◌*◌, ◌/◌, ◌%◌, ◌^◌, min, List, length, take, drop, Result, Ok, Err}
+use Rattle.refusals.specs.declared.Refusal.{Refusal}
 use Rattle.checksum.specs.Sum.{ones_sum_from}
 use Rattle.node.specs.Receive.{receive_of, receive_memory}
 use Rattle.node.specs.Send.{send_of, send_output}
@@ -28,10 +29,10 @@ abbrev pub added : ℕ → ℕ → ℕ
 added sum x = (sum + x) % 2 ^ 64
 
 -- the inner packet's length
-abbrev pub received_worth : Received → ℕ
-received_worth (received.Delivered offset length) = length
-received_worth (received.Joined offset length) = length
-received_worth (received.Refused r) = number_of r
+abbrev pub received_worth : Result Received Refusal → ℕ
+received_worth (Ok (received.Delivered offset length)) = length
+received_worth (Ok (received.Joined offset length)) = length
+received_worth (Err r) = number_of r
 
 -- the length written, or the size M of a Too Big
 abbrev pub sent_worth : SendAnswer → ℕ

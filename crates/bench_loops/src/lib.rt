@@ -8,6 +8,7 @@ ghost use Rattle.bench_loops.specs.Loops.{part_at, received_worth, sent_worth, s
 use node::{Node, ServiceName};
 use paths::PathTable;
 use receiving::Received;
+use refusals::Refusal;
 use sending::SendAnswer;
 
 // An IPv6 address.
@@ -29,13 +30,13 @@ fn part_at(all: &[u8], size: usize, i: u32) -> &[u8]
     &all[start..end]
 }
 
-fn received_worth(answer: Received) -> u64
+fn received_worth(answer: Result<Received, Refusal>) -> u64
     ensures { result ≡ received_worth answer }
 {
     match answer {
-        Received::Delivered { offset: _, length } => length as u64,
-        Received::Joined { offset: _, length } => length as u64,
-        Received::Refused(refusal) => refusal.number() as u64,
+        Ok(Received::Delivered { offset: _, length }) => length as u64,
+        Ok(Received::Joined { offset: _, length }) => length as u64,
+        Err(refusal) => refusal.number() as u64,
     }
 }
 

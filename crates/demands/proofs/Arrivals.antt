@@ -29,7 +29,6 @@ use Rattle.receiving.specs.Facts.{SumRight, Encapsulates, ForUs, OuterBad}
 use Rattle.receiving.specs.Receive.{received_given}
 use Rattle.receiving.proofs.Facts.{outer_whole-bytes, bytes-whole_outer, decides_piece}
 use Rattle.receiving.specs.declared.Received.{Received}
-use Rattle.receiving.specs.declared.Received.TheVariants.{Refused}
 use Rattle.demands.specs.Cuttings.{SameKey, HeaderRight, Cutting, Repeats}
 use Rattle.demands.proofs.PieceOf.{key_trans}
 use Rattle.demands.proofs.Seats.{Seat, collected_at}
@@ -156,8 +155,8 @@ module _ (i : ℕ) (d : List ℕ) (ps : List (List ℕ)) (cut : Cutting d ps) (n
   one_piece = (decides_piece e).passes (λ u. (cut.pieces p one.1).1 (sym repeats.fragment ∙ u))
 
   -- its number is that of its answer
-  refused_by_lem : (r : Refusal) → (collected_at n e i time memory).answer ≡ Refused r → number n e i time memory ≡ number_of r
-  refused_by_lem r h = ap (λ (a : Received). (received_given a).number) h
+  refused_by_lem : (r : Refusal) → (collected_at n e i time memory).answer ≡ Err r → number n e i time memory ≡ number_of r
+  refused_by_lem r h = ap (λ (a : Result Received Refusal). (received_given a).number) h
 
   pub one-memory : n.there ≡ true → memory_room ≤ length memory
   one-memory is =
@@ -168,5 +167,5 @@ module _ (i : ℕ) (d : List ℕ) (ps : List (List ℕ)) (cut : Cutting d ps) (n
   one-arrival = goes_onward n e i memory one-memory repeats.right ∙ onward_same (judge_of n) i one_key
 
   -- where 11, 4, 6 or 7 refuses, that is its answer
-  pub one_stops : (r : Refusal) → onward (judge_of n) i d ≡ Err r → (collected_at n e i time memory).answer ≡ Refused r
+  pub one_stops : (r : Refusal) → onward (judge_of n) i d ≡ Err r → (collected_at n e i time memory).answer ≡ Err r
   one_stops r h = stopped n e i time memory r (one-arrival ∙ h)

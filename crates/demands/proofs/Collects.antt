@@ -26,7 +26,7 @@ use Rattle.pieces.proofs.Joining.{Step, State, answer, after, after_all}
 use Rattle.receiving.specs.Collect.{is_piece, joined_by}
 use Rattle.receiving.specs.Receive.{is_source_right}
 use Rattle.receiving.specs.declared.Received.{Received}
-use Rattle.receiving.specs.declared.Received.TheVariants.{Delivered, Joined, Refused}
+use Rattle.receiving.specs.declared.Received.TheVariants.{Delivered, Joined}
 use Rattle.demands.specs.One.{MayChange, nothing, collection, memory_too, changed_by}
 use Rattle.demands.proofs.Seats.{Seat, collected_at, memory_at}
 use Rattle.demands.proofs.Steps.{arrival, step_at, step_by, state_of, inward, answered_step, received}
@@ -99,22 +99,22 @@ inward_changes n source p =
     go false false true = refl
     go false false false = refl
 
-refused-same : (q r : Refusal) → Refused q ≡ Refused r → q ≡ r
+refused-same : (q r : Refusal) → Err {A = Received} q ≡ Err r → q ≡ r
 refused-same q r h = cc
 
-joined-refused : (o l : ℕ) (r : Refusal) → Joined o l ≡ Refused r → ⊥
+joined-refused : (o l : ℕ) (r : Refusal) → Ok (Joined o l) ≡ Err r → ⊥
 joined-refused o l r e = let z : ◌≡◌ {A = ℕ} 0 1 = ap tagged e in omega arith
   where
-    tagged : Received → ℕ
-    tagged (Delivered o l) = 2
-    tagged (Joined o l) = 0
-    tagged (Refused r) = 1
+    tagged : Result Received Refusal → ℕ
+    tagged (Ok (Delivered o l)) = 2
+    tagged (Ok (Joined o l)) = 0
+    tagged (Err r) = 1
 
-module _ (n : Seat) (e : List ℕ) (j time : ℕ) (memory : List ℕ) (r : Refusal) (h : (collected_at n e j time memory).answer ≡ Refused r) where
+module _ (n : Seat) (e : List ℕ) (j time : ℕ) (memory : List ℕ) (r : Refusal) (h : (collected_at n e j time memory).answer ≡ Err r) where
   abbrev y : Step
   y = step_at (max n.latest time) e
 
-  joined_leaves : (t : State) (c : Result Unit Refusal) (o l : ℕ) → changed_in c ≡ memory_too → stop_or Refused c (Joined o l) ≡ Refused r → Leaves (changed_by true (number_of r)) (state_of n memory) t
+  joined_leaves : (t : State) (c : Result Unit Refusal) (o l : ℕ) → changed_in c ≡ memory_too → stop_or Err c (Ok (Joined o l)) ≡ Err r → Leaves (changed_by true (number_of r)) (state_of n memory) t
   joined_leaves t (Ok tt) o l m z = absurd (joined-refused o l r z)
   joined_leaves t (Err q) o l m z =
       subst (λ (k : MayChange). Leaves k (state_of n memory) t) (sym m ∙ ap (λ (k : Refusal). changed_by true (number_of k)) (refused-same q r z)) (leaves_none (state_of n memory) t)
@@ -123,7 +123,7 @@ module _ (n : Seat) (e : List ℕ) (j time : ℕ) (memory : List ℕ) (r : Refus
   piece_leaves a b = go (answer (state_of n memory) y) refl (sym (answered_step n e j time memory a b) ∙ h)
     where
       go : (x : Result taken.Joined Refusal) → answer (state_of n memory) y ≡ x
-          → joined_by n.service.settings (live n.service.routers) (quad_at e 12) x (after (state_of n memory) y).memory ≡ Refused r
+          → joined_by n.service.settings (live n.service.routers) (quad_at e 12) x (after (state_of n memory) y).memory ≡ Err r
           → Leaves (changed_by true (number_of r)) (state_of n memory) (after (state_of n memory) y)
       go (Ok d) q z = let p : List ℕ = part (room * d.place) d.length (after (state_of n memory) y).memory in
           joined_leaves (after (state_of n memory) y) (inward n (quad_at e 12) p) (room * d.place) (inner_of p).length (inward_changes n (quad_at e 12) p) z

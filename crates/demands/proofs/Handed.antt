@@ -31,7 +31,7 @@ use Rattle.pieces.proofs.Joining.{Step, State, answer, after}
 use Rattle.receiving.specs.Collect.{is_piece, joined_by}
 use Rattle.receiving.specs.Receive.{is_source_right, received_given}
 use Rattle.receiving.specs.declared.Received.{Received}
-use Rattle.receiving.specs.declared.Received.TheVariants.{Joined, Refused}
+use Rattle.receiving.specs.declared.Received.TheVariants.{Joined}
 use Rattle.demands.specs.Calls.{OfPieces, a_datagram, no_datagram}
 use Rattle.demands.specs.Calls as calls
 use Rattle.demands.specs.Collecting.{key_of, part_in, is_turned_away}
@@ -105,7 +105,7 @@ step_away : (s : State) (x : Step) → away_by (answer s x) ≡ false
 unfolding taken_of
 step_away s x = plan_away (plan_of x.time x.key x.piece s.collection s.memory) x.time x.key x.piece s.collection
 
-stop_away : (c : Result Unit Refusal) (o l : ℕ) → away c ≡ false → is_turned_away (received_given (stop_or Refused c (Joined o l))).number ≡ false
+stop_away : (c : Result Unit Refusal) (o l : ℕ) → away c ≡ false → is_turned_away (received_given (stop_or Err c (Ok (Joined o l)))).number ≡ false
 stop_away (Ok tt) o l h = refl
 stop_away (Err r) o l h = h
 
@@ -146,12 +146,12 @@ module _ (n : Seat) (e : List ℕ) (j time : ℕ) (memory : List ℕ) where
       go : (c : Result Unit Refusal) → arrival n e j memory ≡ c → (b : Bool) → is_piece (outer_of e) ≡ b → cond (b && not (is_turned_away number)) (here ∷ []) [] ≡ handed_at c b here
       go (Ok tt) a true b =
           turned false
-          (ap (λ (x : Received). is_turned_away (received_given x).number) (answered_step n e j time memory a b)
+          (ap (λ (x : Result Received Refusal). is_turned_away (received_given x).number) (answered_step n e j time memory a b)
           ∙ joined_away n (quad_at e 12) (answer (state_of n memory) (step_at (max n.latest time) e)) (after (state_of n memory) (step_at (max n.latest time) e)).memory
           (step_away (state_of n memory) (step_at (max n.latest time) e)))
       go (Ok tt) a false b = refl
       go (Err r) a true b =
-          turned true (ap (λ (x : Received). is_turned_away (received_given x).number) (stopped n e j time memory r a) ∙ arrival_away n e j memory r a)
+          turned true (ap (λ (x : Result Received Refusal). is_turned_away (received_given x).number) (stopped n e j time memory r a) ∙ arrival_away n e j memory r a)
       go (Err r) a false b = refl
 
 -- what a call hands in, by what it is to the collection

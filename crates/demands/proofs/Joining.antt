@@ -38,7 +38,7 @@ use Rattle.receiving.specs.Facts.{header_length, total_length, encapsulated, inn
 use Rattle.receiving.specs.Receive.{received_given}
 use Rattle.receiving.proofs.Facts.{decides_piece, inner-whole-bytes}
 use Rattle.receiving.specs.declared.Received.{Received}
-use Rattle.receiving.specs.declared.Received.TheVariants.{Delivered, Joined, Refused}
+use Rattle.receiving.specs.declared.Received.TheVariants.{Delivered, Joined}
 use Rattle.node.specs.Node.{service_of}
 use Rattle.node.specs.Receive.{receive_of, receive_memory}
 use Rattle.node.specs.declared.Node.{Node}
@@ -97,12 +97,12 @@ own-call Second e i t m = refl
 
 -- ---- the verdict on the joined payload and on the whole datagram
 
-same_number : (c : Result Unit Refusal) (o h l : ℕ) → (received_given (stop_or Refused c (Joined o l))).number ≡ (received_given (stop_or Refused c (Delivered h l))).number
+same_number : (c : Result Unit Refusal) (o h l : ℕ) → (received_given (stop_or Err c (Ok (Joined o l)))).number ≡ (received_given (stop_or Err c (Ok (Delivered h l)))).number
 same_number (Ok tt) o h l = refl
 same_number (Err r) o h l = refl
 
 same_bytes : (c : Result Unit Refusal) (o h l : ℕ) (f d memory other : List ℕ) → (c ≡ Ok tt → part o l memory ≡ part h l d)
-    → bytes_by (stop_or Refused c (Joined o l)) f memory ≡ bytes_by (stop_or Refused c (Delivered h l)) d other
+    → bytes_by (stop_or Err c (Ok (Joined o l))) f memory ≡ bytes_by (stop_or Err c (Ok (Delivered h l))) d other
 same_bytes (Ok tt) o h l f d memory other e = e refl
 same_bytes (Err r) o h l f d memory other e = refl
 
@@ -162,7 +162,7 @@ stop_all v q i d ps cut r stop n (x ∷ xs) same admitted = (
         gives v n x (number_of r)
             (handing v i d ps cut (seat_of v n) (Gives (seat_of v n) (number_of r)) one.0 one.1
             (λ e time memory repeats long.
-            ap (λ (z : Received). (received_given z).number)
+            ap (λ (z : Result Received Refusal). (received_given z).number)
             (one_stops i d ps cut (seat_of v n) e time memory (one.0, one.1, repeats) long r (ap (λ (t : Bool × Settings). onward t i d) same ∙ stop)))
             (pieces_of v x) one.2 (admits v i d ps cut n x admitted.0)),
         onward_number q i d r stop,
@@ -232,14 +232,14 @@ module _ (v : ServiceName) (i : ℕ) (d : List ℕ) (ps : List (List ℕ)) (n : 
   stops : (r : Refusal) → onward (judge_of start) i d ≡ Err r → GetsTheWhole v i d ps n e t m others f u w
   unfolding receive_of receive_memory
   stops r h =
-      let of-last : (collected_at end f i u w).answer ≡ Refused r = one_stops i d ps cut end f u w last_one last-long r (kept ∙ h) in
-      let of-whole : (collected_at end d i u w).answer ≡ Refused r = stopped end d i u w r (whole-arrival ∙ h) in
-      let number : number_by v then d i u w ≡ number_of r = ap (λ (x : Received). (received_given x).number) of-whole in
+      let of-last : (collected_at end f i u w).answer ≡ Err r = one_stops i d ps cut end f u w last_one last-long r (kept ∙ h) in
+      let of-whole : (collected_at end d i u w).answer ≡ Err r = stopped end d i u w r (whole-arrival ∙ h) in
+      let number : number_by v then d i u w ≡ number_of r = ap (λ (x : Result Received Refusal). (received_given x).number) of-whole in
       record {
-        number = ap (λ (x : Received). (received_given x).number) of-last ∙ sym number;
+        number = ap (λ (x : Result Received Refusal). (received_given x).number) of-last ∙ sym number;
         bytes =
-            ap (λ (x : Received). bytes_by x f (outcome_of then last).output) of-last
-            ∙ sym (ap (λ (x : Received). bytes_by x d (outcome_of then (receiving v d i u w)).output) of-whole);
+            ap (λ (x : Result Received Refusal). bytes_by x f (outcome_of then last).output) of-last
+            ∙ sym (ap (λ (x : Result Received Refusal). bytes_by x d (outcome_of then (receiving v d i u w)).output) of-whole);
         earlier = subst (λ (k : ℕ). AtEach (WaitsOr v i d ps k) n (first ∷ others)) (sym number) (stop_all v (judge_of start) i d ps cut r h n (first ∷ others) refl front-admitted);
       }
 
@@ -343,16 +343,16 @@ module _ (v : ServiceName) (i : ℕ) (d : List ℕ) (ps : List (List ℕ)) (n : 
         ∙ joins.stands
 
     -- the last call's answer: 8 to 10 on the joined payload
-    last-answer : (collected_at end f i u w).answer ≡ stop_or Refused (inward end (quad_at d 12) (encapsulated d)) (Joined (room * k) (inner_length (encapsulated d)))
+    last-answer : (collected_at end f i u w).answer ≡ stop_or Err (inward end (quad_at d 12) (encapsulated d)) (Ok (Joined (room * k) (inner_length (encapsulated d))))
     last-answer =
         answered_step end f i u w last-arrival last-piece
         ∙ ap (λ (x : Result taken.Joined Refusal). joined_by end.service.settings (live end.service.routers) (quad_at f 12) x (after (state_of end w) tail).memory) (ap (λ (x : State). answer x tail) state-last ∙ joins.joined)
-        ∙ ap (λ (p : List ℕ). stop_or Refused (inward end (quad_at f 12) p) (Joined (room * k) (inner_of p).length)) stands-there
-        ∙ ap (λ (s : ℕ). stop_or Refused (inward end s (encapsulated d)) (Joined (room * k) (inner_of (encapsulated d)).length)) (one_key i d ps cut end f u w last_one last-long).source
-        ∙ ap (λ (l : ℕ). stop_or Refused (inward end (quad_at d 12) (encapsulated d)) (Joined (room * k) l)) (inner-length (encapsulated d))
+        ∙ ap (λ (p : List ℕ). stop_or Err (inward end (quad_at f 12) p) (Ok (Joined (room * k) (inner_of p).length))) stands-there
+        ∙ ap (λ (s : ℕ). stop_or Err (inward end s (encapsulated d)) (Ok (Joined (room * k) (inner_of (encapsulated d)).length))) (one_key i d ps cut end f u w last_one last-long).source
+        ∙ ap (λ (l : ℕ). stop_or Err (inward end (quad_at d 12) (encapsulated d)) (Ok (Joined (room * k) l))) (inner-length (encapsulated d))
 
     -- and the whole datagram's, on its own
-    whole-answer : (collected_at end d i u w).answer ≡ stop_or Refused (inward end (quad_at d 12) (encapsulated d)) (Delivered (header_length d) (inner_length (encapsulated d)))
+    whole-answer : (collected_at end d i u w).answer ≡ stop_or Err (inward end (quad_at d 12) (encapsulated d)) (Ok (Delivered (header_length d) (inner_length (encapsulated d))))
     whole-answer = answered-whole end d i u w (whole-arrival ∙ ok) (refutes _ (decides_piece d) (λ piece. piece cut.whole))
 
     passes : GetsTheWhole v i d ps n e t m others f u w
@@ -363,14 +363,14 @@ module _ (v : ServiceName) (i : ℕ) (d : List ℕ) (ps : List (List ℕ)) (n : 
         let front = untouched-front v n m (first ∷ others) (last ∷ []) a.untouched in
         record {
           number =
-              ap (λ (x : Received). (received_given x).number) last-answer ∙ same_number c (room * k) (header_length d) l
-              ∙ sym (ap (λ (x : Received). (received_given x).number) whole-answer);
+              ap (λ (x : Result Received Refusal). (received_given x).number) last-answer ∙ same_number c (room * k) (header_length d) l
+              ∙ sym (ap (λ (x : Result Received Refusal). (received_given x).number) whole-answer);
           bytes =
-              ap (λ (x : Received). bytes_by x f (outcome_of then last).output) last-answer
+              ap (λ (x : Result Received Refusal). bytes_by x f (outcome_of then last).output) last-answer
               ∙ same_bytes c (room * k) (header_length d) l f d (outcome_of then last).output (outcome_of then (receiving v d i u w)).output
               (λ pass. same-part (room * k) (header_length d) (total_length d) l (outcome_of then last).output d cut.right.whole.inside cut.right.whole.all
               (ap (λ (x : List ℕ). part (room * k) (length (encapsulated d)) x) left_there ∙ stands-there) (inner_within pass))
-              ∙ sym (ap (λ (x : Received). bytes_by x d (outcome_of then (receiving v d i u w)).output) whole-answer);
+              ∙ sym (ap (λ (x : Result Received Refusal). bytes_by x d (outcome_of then (receiving v d i u w)).output) whole-answer);
           earlier =
               waits v i d ps cut (judge_of start) ok (number_by v then d i u w) n m (first ∷ others) refl front front-admitted
               (subst (λ (x : List Step). pieces.Wait (key_of d) (state_of start m) x) (sym front_steps) joins.waits);

@@ -26,7 +26,6 @@ use Rattle.receiving.specs.Collect.{is_piece, joined_by}
 use Rattle.receiving.specs.Receive.{received_given}
 use Rattle.receiving.proofs.Facts.{decides_piece}
 use Rattle.receiving.specs.declared.Received.{Received}
-use Rattle.receiving.specs.declared.Received.TheVariants.{Refused}
 use Rattle.node.specs.declared.Node.{Node}
 use Rattle.node.specs.declared.ServiceName.{ServiceName}
 use Rattle.demands.specs.Calls.{NodeCall, Outcome, outcome_of, OfPieces, a_datagram, no_datagram, pieces_of}
@@ -44,7 +43,7 @@ use Rattle.demands.proofs.Arrivals.{judge_of, onward, passed, one_key, one_piece
 
 -- a step that is refused gives the call's number
 pub step_refused : (n : Seat) (e : List ℕ) (j time : ℕ) (memory : List ℕ) (r : Refusal) → arrival n e j memory ≡ Ok tt → is_piece (outer_of e) ≡ true
-    → answer (state_of n memory) (step_at (max n.latest time) e) ≡ Err r → (collected_at n e j time memory).answer ≡ Refused r
+    → answer (state_of n memory) (step_at (max n.latest time) e) ≡ Err r → (collected_at n e j time memory).answer ≡ Err r
 step_refused n e j time memory r a b h =
     answered_step n e j time memory a b
     ∙ ap (λ (x : Result taken.Joined Refusal). joined_by n.service.settings (live n.service.routers) (quad_at e 12) x (after (state_of n memory) (step_at (max n.latest time) e)).memory) h
@@ -144,7 +143,7 @@ module _ (v : ServiceName) (i : ℕ) (d : List ℕ) (ps : List (List ℕ)) (cut 
 
       refusal : (r : Refusal) → arrival (seat_of v n) e j memory ≡ Ok tt → is_piece (outer_of e) ≡ true → answer (state_of (seat_of v n) m) y ≡ Err r → number (seat_of v n) e j time memory ≡ number_of r
       refusal r a b h =
-          ap (λ (z : Received). (received_given z).number)
+          ap (λ (z : Result Received Refusal). (received_given z).number)
           (step_refused (seat_of v n) e j time memory r a b (ap (λ (l : List ℕ). answer (state_of (seat_of v n) l) y) (lent_step (seat_of v n) m e j time memory a b lent) ∙ h))
 
       go : (c : Result Unit Refusal) → arrival (seat_of v n) e j memory ≡ c → (b : Bool) → is_piece (outer_of e) ≡ b
@@ -220,7 +219,7 @@ module _ (v : ServiceName) (i : ℕ) (d : List ℕ) (ps : List (List ℕ)) (cut 
         let own : pieces.Wait (key_of d) (state_of n memory) (step_at (max n.latest time) e ∷ rest) =
         subst (λ (l : List ℕ). pieces.Wait (key_of d) (state_of n l) (step_at (max n.latest time) e ∷ rest)) (sym (lent_step n m e i time memory a b lent))
         (subst (λ (l : List Step). pieces.Wait (key_of d) (state_of n m) (l ++ rest)) (one_step n m e i time memory a b) w) in
-        ap (λ (z : Received). (received_given z).number) (step_refused n e i time memory PieceWaits a b (own.0 (is_same_lem (one_key i d ps cut n e time memory one long)))))
+        ap (λ (z : Result Received Refusal). (received_given z).number) (step_refused n e i time memory PieceWaits a b (own.0 (is_same_lem (one_key i d ps cut n e time memory one long)))))
 
     wait_next : (t : State) (xs ys : List Step) → pieces.Wait (key_of d) t (xs ++ ys) → pieces.Wait (key_of d) (after_all t xs) ys
     wait_next t [] ys w = w

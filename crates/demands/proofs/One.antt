@@ -138,10 +138,10 @@ module _ (n : Node) (w : ServiceName) (d : List ℕ) (interface time : ℕ) (mem
   unfolding receive_memory
   own-memory = refl
 
-  receiving_refusing : (a : Received) → (collected_at (seat_of w n) d interface time memory).answer ≡ a → Refusing n (view_of call) (outcome_of n call)
-  receiving_refusing (received.Delivered offset size) e = answers n (view_of call) _ (0 ∷ offset ∷ size ∷ []) (ap received_given (own-answer ∙ e))
-  receiving_refusing (received.Joined offset size) e = answers n (view_of call) _ (1 ∷ offset ∷ size ∷ []) (ap received_given (own-answer ∙ e))
-  receiving_refusing (received.Refused r) e =
+  receiving_refusing : (a : Result Received Refusal) → (collected_at (seat_of w n) d interface time memory).answer ≡ a → Refusing n (view_of call) (outcome_of n call)
+  receiving_refusing (Ok (received.Delivered offset size)) e = answers n (view_of call) _ (0 ∷ offset ∷ size ∷ []) (ap received_given (own-answer ∙ e))
+  receiving_refusing (Ok (received.Joined offset size)) e = answers n (view_of call) _ (1 ∷ offset ∷ size ∷ []) (ap received_given (own-answer ∙ e))
+  receiving_refusing (Err r) e =
       let g : (outcome_of n call).given ≡ refused r = ap received_given (own-answer ∙ e) in
       let l = subst
       (λ (b : Bool). Leaves (changed_by b (number_of r)) (state_of (seat_of w n) memory) (record { collection = collected; memory = memory_at (seat_of w n) d interface time memory }))

@@ -22,7 +22,7 @@ use Rattle.receiving.specs.Collect.{Collected, arrival_rows, whole_of, is_piece,
 use Rattle.receiving.specs.Facts.{header_length, encapsulated, inner_length}
 use Rattle.receiving.specs.Receive.{inner_rows}
 use Rattle.receiving.specs.declared.Received.{Received}
-use Rattle.receiving.specs.declared.Received.TheVariants.{Delivered, Refused}
+use Rattle.receiving.specs.declared.Received.TheVariants.{Delivered}
 use Rattle.node.specs.Receive.{collected_by, collected_through}
 use Rattle.demands.specs.Calls.{OfPieces, a_datagram, no_datagram}
 use Rattle.demands.specs.Collecting.{key_of, part_in}
@@ -84,7 +84,7 @@ module _ (n : Seat) (e : List ℕ) (now : ℕ) (memory : List ℕ) where
 by_check : (c : Result Unit Refusal) (b : Bool) (s : State) (x : Step) (f g : Collected) (m : List ℕ) → f.pieces ≡ (after s x).collection → g.pieces ≡ s.collection → m ≡ (after s x).memory
     → ◌≡◌ {A = State}
     (record {
-      collection = (cond b (stop_or (λ (r : Refusal). record { answer = Refused r; pieces = s.collection }) c f) g).pieces;
+      collection = (cond b (stop_or (λ (r : Refusal). record { answer = Err r; pieces = s.collection }) c f) g).pieces;
       memory = cond b (stop_or (λ (r : Refusal). s.memory) c m) s.memory;
     })
     (after_all s (step_by c b x))
@@ -94,11 +94,11 @@ by_check (Err r) true s x f g m e h k = refl
 by_check (Err r) false s x f g m e h k = rw h
 
 -- rows that stop, or pass, before others
-rows_stop : (xs ys : List (Bool × Refusal)) (a : Received) (r : Refusal) → first_of xs ≡ Err r → stop_or Refused (first_of (xs ++ ys)) a ≡ Refused r
-rows_stop xs ys a r h = stop_append Refused xs ys a ∙ ap (λ (c : Result Unit Refusal). stop_or Refused c (stop_or Refused (first_of ys) a)) h
+rows_stop : (xs ys : List (Bool × Refusal)) (a : Result Received Refusal) (r : Refusal) → first_of xs ≡ Err r → stop_or Err (first_of (xs ++ ys)) a ≡ Err r
+rows_stop xs ys a r h = stop_append Err xs ys a ∙ ap (λ (c : Result Unit Refusal). stop_or Err c (stop_or Err (first_of ys) a)) h
 
-rows_pass : (xs ys : List (Bool × Refusal)) (a : Received) → first_of xs ≡ Ok tt → stop_or Refused (first_of (xs ++ ys)) a ≡ stop_or Refused (first_of ys) a
-rows_pass xs ys a h = stop_append Refused xs ys a ∙ ap (λ (c : Result Unit Refusal). stop_or Refused c (stop_or Refused (first_of ys) a)) h
+rows_pass : (xs ys : List (Bool × Refusal)) (a : Result Received Refusal) → first_of xs ≡ Ok tt → stop_or Err (first_of (xs ++ ys)) a ≡ stop_or Err (first_of ys) a
+rows_pass xs ys a h = stop_append Err xs ys a ∙ ap (λ (c : Result Unit Refusal). stop_or Err c (stop_or Err (first_of ys) a)) h
 
 -- 8 to 10 of the payload p, from an outer source
 abbrev pub inward_rows : Seat → ℕ → List ℕ → List (Bool × Refusal)
@@ -110,19 +110,19 @@ inward n source p = first_of (inward_rows n source p)
 
 module _ (n : Seat) (e : List ℕ) (interface : ℕ) (memory : List ℕ) where
   whole-rows : whole_of n.service.settings (live n.service.routers) (length memory) e interface
-      ≡ stop_or Refused
+      ≡ stop_or Err
       (first_of (arrival_rows n.service.settings interface (length memory) e (outer_of e)
       ++ inward_rows n (quad_at e 12) (encapsulated e)))
-      (Delivered (header_length e) (inner_length (encapsulated e)))
+      (Ok (Delivered (header_length e) (inner_length (encapsulated e))))
   unfolding whole_of outer_of payload_of inner_of
   whole-rows = refl
 
-  whole_stop : (r : Refusal) → first_of (arrival_rows n.service.settings interface (length memory) e (outer_of e)) ≡ Err r → whole_of n.service.settings (live n.service.routers) (length memory) e interface ≡ Refused r
-  whole_stop r h = whole-rows ∙ rows_stop (arrival_rows n.service.settings interface (length memory) e (outer_of e)) (inward_rows n (quad_at e 12) (encapsulated e)) (Delivered (header_length e) (inner_length (encapsulated e))) r h
+  whole_stop : (r : Refusal) → first_of (arrival_rows n.service.settings interface (length memory) e (outer_of e)) ≡ Err r → whole_of n.service.settings (live n.service.routers) (length memory) e interface ≡ Err r
+  whole_stop r h = whole-rows ∙ rows_stop (arrival_rows n.service.settings interface (length memory) e (outer_of e)) (inward_rows n (quad_at e 12) (encapsulated e)) (Ok (Delivered (header_length e) (inner_length (encapsulated e)))) r h
 
   whole_pass : first_of (arrival_rows n.service.settings interface (length memory) e (outer_of e)) ≡ Ok tt
-      → whole_of n.service.settings (live n.service.routers) (length memory) e interface ≡ stop_or Refused (inward n (quad_at e 12) (encapsulated e)) (Delivered (header_length e) (inner_length (encapsulated e)))
-  whole_pass h = whole-rows ∙ rows_pass (arrival_rows n.service.settings interface (length memory) e (outer_of e)) (inward_rows n (quad_at e 12) (encapsulated e)) (Delivered (header_length e) (inner_length (encapsulated e))) h
+      → whole_of n.service.settings (live n.service.routers) (length memory) e interface ≡ stop_or Err (inward n (quad_at e 12) (encapsulated e)) (Ok (Delivered (header_length e) (inner_length (encapsulated e))))
+  whole_pass h = whole-rows ∙ rows_pass (arrival_rows n.service.settings interface (length memory) e (outer_of e)) (inward_rows n (quad_at e 12) (encapsulated e)) (Ok (Delivered (header_length e) (inner_length (encapsulated e)))) h
 
 -- a datagram that is handed in for the number
 module _ (n : Seat) (e : List ℕ) (interface time : ℕ) (memory : List ℕ) where
@@ -149,20 +149,20 @@ module _ (n : Seat) (e : List ℕ) (interface time : ℕ) (memory : List ℕ) wh
       go false = refl
 
   -- a number of the arrival is the answer, of a whole datagram and of a piece
-  by_stop : (b : Bool) (c : Result Unit Refusal) (r : Refusal) (f : Collected) (p : Collection) (a : Received) → c ≡ Err r → a ≡ Refused r
-      → (cond b (stop_or (λ (q : Refusal). record { answer = Refused q; pieces = p }) c f) (record { answer = a; pieces = p })).answer ≡ Refused r
+  by_stop : (b : Bool) (c : Result Unit Refusal) (r : Refusal) (f : Collected) (p : Collection) (a : Result Received Refusal) → c ≡ Err r → a ≡ Err r
+      → (cond b (stop_or (λ (q : Refusal). record { answer = Err q; pieces = p }) c f) (record { answer = a; pieces = p })).answer ≡ Err r
   by_stop true c r f p a e h = rw e
   by_stop false c r f p a e h = h
 
-  pub stopped : (r : Refusal) → arrival n e interface memory ≡ Err r → (collected_at n e interface time memory).answer ≡ Refused r
+  pub stopped : (r : Refusal) → arrival n e interface memory ≡ Err r → (collected_at n e interface time memory).answer ≡ Err r
   unfolding collected_by collected_of fragment_of
   stopped r h = go n.there h
     where
-      go : (there : Bool) → first_of (arrives_at there n e interface memory) ≡ Err r → (came there).answer ≡ Refused r
+      go : (there : Bool) → first_of (arrives_at there n e interface memory) ≡ Err r → (came there).answer ≡ Err r
       go true h =
           by_stop (is_piece (outer_of e)) (first_of (arrival_rows n.service.settings interface (length memory) e (outer_of e))) r _ n.service.pieces _ h
           (whole_stop n e interface memory r h)
-      go false h = ap (λ (c : Result Unit Refusal). stop_or Refused c (Refused NoLocator)) h
+      go false h = ap (λ (c : Result Unit Refusal). stop_or Err c (Err NoLocator)) h
 
   -- a piece that passes is answered by the step
   pub answered_step : arrival n e interface memory ≡ Ok tt → is_piece (outer_of e) ≡ true
@@ -178,11 +178,11 @@ module _ (n : Seat) (e : List ℕ) (interface time : ℕ) (memory : List ℕ) wh
 
   -- a whole datagram that passes is judged by 8 to 10
   pub answered-whole : arrival n e interface memory ≡ Ok tt → is_piece (outer_of e) ≡ false
-      → (collected_at n e interface time memory).answer ≡ stop_or Refused (inward n (quad_at e 12) (encapsulated e)) (Delivered (header_length e) (inner_length (encapsulated e)))
+      → (collected_at n e interface time memory).answer ≡ stop_or Err (inward n (quad_at e 12) (encapsulated e)) (Ok (Delivered (header_length e) (inner_length (encapsulated e))))
   unfolding collected_by collected_of
   answered-whole h b = go n.there h
     where
       go : (there : Bool) → first_of (arrives_at there n e interface memory) ≡ Ok tt
-          → (came there).answer ≡ stop_or Refused (inward n (quad_at e 12) (encapsulated e)) (Delivered (header_length e) (inner_length (encapsulated e)))
+          → (came there).answer ≡ stop_or Err (inward n (quad_at e 12) (encapsulated e)) (Ok (Delivered (header_length e) (inner_length (encapsulated e))))
       go true h = rw b (whole_pass n e interface memory h)
       go false h = cc

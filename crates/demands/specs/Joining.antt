@@ -1,6 +1,7 @@
 -- The pieces of one cutting join (R23.19, R26.7): handed in to one service one by one, they get what the whole datagram would get in the place of
 -- the last.
-use Rattle.std.specs.Prelude.{ℕ, ◌+◌, ◌<◌, max, ◌≡◌, ◌⊎◌, true, get_or}
+use Rattle.std.specs.Prelude.{ℕ, ◌+◌, ◌<◌, max, ◌≡◌, ◌⊎◌, true, get_or, Result, Ok, Err}
+use Rattle.refusals.specs.declared.Refusal.{Refusal}
 use mathlib.Core.List.{List, [], ◌∷◌, ◌++◌, Memᴰ}
 use Rattle.lists.specs.Any.{Some}
 use Rattle.lists.specs.Parts.{part}
@@ -9,7 +10,7 @@ use Rattle.pieces.specs.History.{Handed}
 use Rattle.pieces.specs.declared.Place.{Place}
 use Rattle.receiving.specs.Facts.{Encapsulates, Unfragmented, ForUs, OuterBad}
 use Rattle.receiving.specs.declared.Received.{Received}
-use Rattle.receiving.specs.declared.Received.TheVariants.{Delivered, Joined, Refused}
+use Rattle.receiving.specs.declared.Received.TheVariants.{Delivered, Joined}
 use Rattle.node.specs.Node.{service_of}
 use Rattle.node.specs.Receive.{receive_of}
 use Rattle.node.specs.declared.Node.{Node}
@@ -111,10 +112,10 @@ module _ (v : ServiceName) (i : ℕ) (d : List ℕ) (ps : List (List ℕ)) where
       → ((outcome_of n x).given.number ≡ 27) ⊎ (((outcome_of n x).given.number ≡ r) × ((r ≡ 4) ⊎ ((r ≡ 6) ⊎ ((r ≡ 7) ⊎ (r ≡ 11)))))
 
 -- the bytes that are delivered: of the datagram, or of the memory afterwards
-abbrev pub bytes_by : Received → List ℕ → List ℕ → List ℕ
-bytes_by (Delivered offset size) d memory = part offset size d
-bytes_by (Joined offset size) d memory = part offset size memory
-bytes_by (Refused r) d memory = []
+abbrev pub bytes_by : Result Received Refusal → List ℕ → List ℕ → List ℕ
+bytes_by (Ok (Delivered offset size)) d memory = part offset size d
+bytes_by (Ok (Joined offset size)) d memory = part offset size memory
+bytes_by (Err r) d memory = []
 
 -- the number that the call for it gives, on the node n through the service v
 abbrev pub number_by : ServiceName → Node → List ℕ → ℕ → ℕ → List ℕ → ℕ

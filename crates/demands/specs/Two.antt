@@ -242,7 +242,7 @@ module _ (n : Node) (w : ServiceName) where
   pub record Absent : Type 0 where
     pub gives_part : (d : List ℕ) (interface : ℕ) → part_in n w d interface ≡ []
     pub receives : (d : List ℕ) (interface time : ℕ) (memory : List ℕ)
-        → (receive_of n w d interface time memory ≡ record { answer = received.Refused refusal.NoLocator; node = raised_to n time })
+        → (receive_of n w d interface time memory ≡ record { answer = Err refusal.NoLocator; node = raised_to n time })
         × (receive_memory n w d interface time memory ≡ memory)
     pub sends : (packet hop : List ℕ) (k time : ℕ) (out : List ℕ)
         → (send_of n w packet hop k time (length out) ≡ record { answer = sent.Refused refusal.NoLocator; node = raised_to n time })

@@ -26,17 +26,22 @@ fn small(n: usize) -> u16 {
 }
 
 // What is joined stands in the memory that was lent.
-pub(crate) fn receive(answer: Received, memory: &[u8], at: usize, text: &mut Text) -> usize {
+pub(crate) fn receive(
+    answer: Result<Received, Refusal>,
+    memory: &[u8],
+    at: usize,
+    text: &mut Text,
+) -> usize {
     match answer {
-        Received::Delivered { offset, length } => {
+        Ok(Received::Delivered { offset, length }) => {
             numbers(b"receive deliver", offset, length, at, text)
         }
-        Received::Joined { offset, length } => {
+        Ok(Received::Joined { offset, length }) => {
             let joined = section::front(fields::tail(memory, offset), length);
             let end = numbers(b"receive joined", offset, length, at, text);
             line::digest(digests::digest(joined), end, text)
         }
-        Received::Refused(refusal) => refused(b"receive refuse", refusal, at, text),
+        Err(refusal) => refused(b"receive refuse", refusal, at, text),
     }
 }
 
