@@ -1,11 +1,11 @@
 -- When an advertisement is written, and how long it is. Assumes nothing.
 use Rattle.std.specs.Prelude.{Result, Ok, Err}
-use Prim.Native.Nat.{ℕ, ◌+◌, ◌*◌, ◌≤◌, ◌<◌}
+use Prim.Native.Nat.{ℕ, ◌+◌, ◌*◌, ◌≤◌}
 use mathlib.Core.Path.{◌≡◌, refl, ap}
 use mathlib.Core.Bool.{Bool, true, false, cond, ◌||◌}
 use mathlib.Core.List.{List, [], ◌∷◌}
 use native.Mathlib.Omega.{arith}
-use borrow.Author.Tests.{lt-ltb, le-ltb, ltb-false}
+use borrow.Author.Tests.{ltb-false}
 use lib.ListN.{length, length-take}
 use lib.Dec.{ltb}
 use lib.Seq.{length-take-le}
@@ -20,18 +20,6 @@ use Rattle.header.specs.Wrap.{writer_answer}
 use Rattle.advertisements.proofs.UnitLaws.{units_between}
 
 module _ (a : Advertisement) (room : ℕ) where
-  pub options_stop : are_options_bad a ≡ true → advertisement_check a room ≡ Err OptionsBad
-  unfolding advertisement_check
-  options_stop h = rw h
-
-  pub room_stop : are_options_bad a ≡ false → room < advertisement_length a → advertisement_check a room ≡ Err OutputShort
-  unfolding advertisement_check
-  room_stop h k = rw (h, lt-ltb _ _ k)
-
-  pub both_pass : are_options_bad a ≡ false → advertisement_length a ≤ room → advertisement_check a room ≡ Ok tt
-  unfolding advertisement_check
-  both_pass h k = rw (h, le-ltb _ _ k)
-
   -- what an answer says of the check behind it
   pub answer_refused : (r : Refusal) → advertisement_answer a room ≡ Err r → advertisement_check a room ≡ Err r
   unfolding advertisement_answer

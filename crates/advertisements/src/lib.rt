@@ -71,6 +71,7 @@ impl Advertisement {
         (MOST < self.prefix_count) | ((MOST < self.route_count) | (prefix | route))
     }
 
+    #[tactic(auto, unfolding(crate::specs::Advertisement::advertisement_length))]
     fn length(&self) -> usize
         ensures { result ≡ advertisement_length self.now }
     {
@@ -79,6 +80,7 @@ impl Advertisement {
     }
 
     // The length where there is so much room, or the refusal.
+    #[tactic(auto, unfolding(crate::specs::Advertisement::advertisement_answer, crate::specs::Advertisement::advertisement_check))]
     fn checked(&self, room: usize) -> Result<usize, Refusal>
         ensures { result ≡ advertisement_answer self.now room }
     {

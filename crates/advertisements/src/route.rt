@@ -38,6 +38,7 @@ pub struct Route {
 pub const ROUTE_OPTION: usize = 24;
 
 // The shortest length of the option for a prefix of that many bits, in units of 8 bytes.
+#[tactic(auto, unfolding(crate::specs::Options::route_units))]
 fn route_units(length: u8) -> u8
     ensures { result ≡ route_units length }
 {

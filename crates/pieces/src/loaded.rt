@@ -36,6 +36,7 @@ impl<'a> Loaded<'a> {
     }
 
     // Number 30.
+    #[tactic(auto, unfolding(crate::specs::Places::unfit))]
     pub(crate) fn is_unfit(&self) -> bool
         ensures { result ≡ is_unfit (part_of self.now.piece self.now.payload.now) }
     {

@@ -38,12 +38,14 @@ impl Place {
         }
     }
 
+    #[tactic(auto, unfolding(crate::specs::Places::is_live))]
     pub(crate) fn live(self, time: u32) -> bool
         ensures { result ≡ is_live time self }
     {
         (self.used != 0) & ((time as u64) < (self.first as u64) + LIFETIME)
     }
 
+    #[tactic(auto, unfolding(crate::specs::Places::is_free))]
     pub(crate) fn free(self, time: u32) -> bool
         ensures { result ≡ is_free time self }
     {
@@ -58,6 +60,7 @@ impl Place {
     }
 
     // Whether a piece disagrees about the end.
+    #[tactic(auto, unfolding(crate::specs::Places::ends_apart))]
     pub(crate) fn ends_apart(self, loaded: &Loaded) -> bool
         ensures { result ≡ is_apart (part_of loaded.now.piece loaded.now.payload.now) self }
     {
