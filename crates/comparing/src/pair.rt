@@ -17,6 +17,7 @@ pub(crate) struct Pair<'a> {
 pub(crate) const RUN: usize = 6;
 
 // Writes a run to the six bytes from `at` on: datagram, offset and length, two bytes each.
+#[tactic(auto, unfolding(lent::specs::Written::written_at))]
 fn write_run(number: usize, offset: usize, size: usize, out: &mut [u8], at: usize)
     requires { at + 6 ≤ length out.old }
     ensures { out.new ≡ written_at at (run_bytes (number, record { offset = offset; length = size })) out.old }
@@ -24,7 +25,7 @@ fn write_run(number: usize, offset: usize, size: usize, out: &mut [u8], at: usiz
     let [a, b] = fields::word_bytes((number % 65536) as u16);
     let [c, d] = fields::word_bytes((offset % 65536) as u16);
     let [e, f] = fields::word_bytes((size % 65536) as u16);
-    lent::write_at(&[a, b, c, d, e, f], out, at);
+    out[at..at + RUN].copy_from_slice(&[a, b, c, d, e, f]);
 }
 
 impl<'a> Pair<'a> {
