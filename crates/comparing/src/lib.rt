@@ -72,6 +72,7 @@ fn write(masked: bool, first: &[u8], second: &[u8], out: &mut [u8], size: usize)
 {
     let mut a = recording::first(first);
     let mut b = recording::first(second);
+    // As many turns as the report has room for, and not as there are datagrams.
     let mut at: usize = 0;
     let mut number: usize = 1;
     while at < size {

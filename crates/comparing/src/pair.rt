@@ -3,8 +3,6 @@ ghost use Rattle.std.specs.Prelude.{◌≡◌, ◌+◌, ◌*◌, ◌≤◌, ◌<
 ghost use Rattle.lent.specs.Written.{written_at};
 ghost use Rattle.comparing.specs.Runs.{runs, numbered, run_bytes, runs_bytes};
 
-use header::fields;
-
 // Two datagrams beside each other. Where `masked`, identification, TTL and checksum count as equal, where both have the byte.
 #[derive(Clone, Copy)]
 pub(crate) struct Pair<'a> {
@@ -16,16 +14,18 @@ pub(crate) struct Pair<'a> {
 // The bytes of a run in the report: datagram, offset and length.
 pub(crate) const RUN: usize = 6;
 
-// Writes a run to the six bytes from `at` on: datagram, offset and length, two bytes each.
-#[tactic(auto, unfolding(lent::specs::Written::written_at))]
+// Writes a run to the six bytes from `at` on: datagram, offset and length, two bytes each. Made by `to_be_bytes` and copied, a run takes seven
+// instructions more, where every other byte differs 7 in 100.
 fn write_run(number: usize, offset: usize, size: usize, out: &mut [u8], at: usize)
     requires { at + 6 ≤ length out.old }
     ensures { out.new ≡ written_at at (run_bytes (number, record { offset = offset; length = size })) out.old }
 {
-    let [a, b] = fields::word_bytes((number % 65536) as u16);
-    let [c, d] = fields::word_bytes((offset % 65536) as u16);
-    let [e, f] = fields::word_bytes((size % 65536) as u16);
-    out[at..at + RUN].copy_from_slice(&[a, b, c, d, e, f]);
+    out[at] = (number % 65536 / 256) as u8;
+    out[at + 1] = (number % 65536 % 256) as u8;
+    out[at + 2] = (offset % 65536 / 256) as u8;
+    out[at + 3] = (offset % 65536 % 256) as u8;
+    out[at + 4] = (size % 65536 / 256) as u8;
+    out[at + 5] = (size % 65536 % 256) as u8;
 }
 
 impl<'a> Pair<'a> {

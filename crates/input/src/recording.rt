@@ -2,18 +2,11 @@
 // length and the bytes. The functions on one datagram take the bytes from its start on.
 ghost use Rattle.std.specs.Prelude.{◌≡◌, ◌≤◌};
 ghost use Rattle.header.specs.Fields.{word_at};
-ghost use Rattle.input.specs.Section.{count_of};
 ghost use Rattle.input.specs.Recording.{datagram_bytes, is_there, interface_of, bytes_of, behind_datagram, first_datagram, is_recording};
 
 use crate::section;
+pub use crate::section::count;
 use header::fields;
-
-// How many datagrams the section says to have.
-pub fn count(r: &[u8]) -> usize
-    ensures { result ≡ count_of r.now }
-{
-    section::count(r)
-}
 
 // The bytes from the first datagram on.
 pub fn first(r: &[u8]) -> &[u8]
@@ -69,12 +62,12 @@ pub fn next(d: &[u8]) -> &[u8]
 pub fn well_formed(r: &[u8]) -> bool
     ensures { result ≡ is_recording r.now }
 {
-    let n = section::count(r);
+    let n = count(r);
     let mut rest = first(r);
     let mut good = 2 <= r.len();
     for _i in 0..n {
         good = good & there(rest);
         rest = next(rest);
     }
-    good & (rest.len() == 0)
+    good & rest.is_empty()
 }

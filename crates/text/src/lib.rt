@@ -28,7 +28,7 @@ pub fn put(word: &[u8], out: &mut [u8], at: usize) -> usize
     end
 }
 
-// The last bytes of twenty, from the index start on.
+// The last bytes of twenty, from the index start on: no heap here, and no number has more digits.
 #[derive(Clone, Copy)]
 struct Digits {
     bytes: [u8; 20],
@@ -39,6 +39,7 @@ struct Digits {
 fn decimal_digits(n: u64) -> Digits
     ensures { (drop result.start result.bytes ≡ decimal n) × (result.start < 20) × (length result.bytes ≡ 20) }
 {
+    // The number is what is counted down: a loop over the places would have to be left as well.
     let mut bytes = [0u8; 20];
     let mut start: usize = 19;
     let mut rest = n;

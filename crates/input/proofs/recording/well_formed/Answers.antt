@@ -16,4 +16,4 @@ loop-i-preserved c = rw (c.there-good.ensures, c.next-rest.ensures) (there_turn 
 
 pub returns : goal.returns
 returns c = let e : c.count-n.result - c.loop-i._i ≡ 0 = omega arith in
-    rw e at c.loop-i.invariant
+    rw c.is_empty.ensures (rw e at c.loop-i.invariant)
