@@ -265,9 +265,9 @@ pub extern "C" fn bogtrumpet_report(node: &mut Node, message: &[u8], time: u32) 
     let reading = reading::read(message);
     let look = report_look(node, reading, time);
     if look.accepted {
-        rows::push_number(&mut node.paths.neighbours, look.answer.neighbour, look.row);
-        rows::push_size(&mut node.paths.sizes, look.answer.size, look.row);
-        rows::push_number(&mut node.paths.times, look.latest, look.row);
+        rows::push(&mut node.paths.neighbours, look.answer.neighbour, look.row);
+        rows::push(&mut node.paths.sizes, look.answer.size, look.row);
+        rows::push(&mut node.paths.times, look.latest, look.row);
         node.paths.count = look.count;
     }
     node.latest = look.latest;

@@ -1,33 +1,44 @@
--- What the loops of the code ask: one more turn of a search, and one more turn of the shift.
-use Rattle.std.specs.Prelude.{Some}
+-- What the searches of the code ask: one more turn, or what the library finds.
+use Rattle.std.specs.Prelude.{Option, Some, None, find, unwrap_or}
+use Rattle.std.specs.List.{position_or_len}
 use mathlib.Core.Path.{◌≡◌, refl, sym, ap, ◌∙◌}
-use mathlib.Core.Bool.{Bool, true, false, ◌||◌, or_assoc, or-false, false≢true}
+use mathlib.Core.Bool.{Bool, true, false, cond, ◌||◌, or_assoc, or-false, false≢true}
 use mathlib.Core.Logic.{⊎_elim}
 use mathlib.Core.List.{List, [], ◌∷◌, ◌++◌}
 use Prim.Native.Nat.{ℕ, zero, suc, ◌+◌, ◌-◌, ◌≤◌, ◌<◌, min}
 use native.Mathlib.Numerals.{add-one}
 use native.Mathlib.Nat.{zero-add}
 use native.Mathlib.Omega.{arith}
-use borrow.Author.Tests.{eq-eqb, ne_eqb, lt-ltb, le-ltb}
-use lib.Dec.{eqb}
-use lib.ListN.{length, take, drop, get_or, set, length-append, length-drop, take-append-drop, drop_of_length-le, get_or-append}
-use lib.Seq.{drop-cons, drop-drop, take-add, take-suc, set_at, drop_at, get_or-take, append_snoc, length-take-le}
+use borrow.Author.Tests.{ltb-false}
+use lib.Dec.{eqb, ltb}
+use lib.ListN.{length, take, drop, get_or, length-drop, take-append-drop, drop_of_length-le}
+use lib.Seq.{drop-cons, drop-drop, take-add, length-take-le}
 use Rattle.lists.proofs.Tests.{tested, or_left, or_right}
 use Rattle.paths.specs.Search.{is_among, Passed, Within}
-use Rattle.paths.specs.Table.{row_of, cut, pushed}
+use Rattle.paths.specs.Table.{row_of}
 use Rattle.paths.specs.Candidate.{first_below}
 
 -- ---- the search for a neighbour
 
 module _ (v : ℕ) (xs : List ℕ) (i : ℕ) where
-  pub row_hit : i < length xs → get_or xs i 0 ≡ v → row_of v (drop i xs) ≡ 0
-  row_hit inside h = rw (drop-cons xs i 0 inside) (rw (eq-eqb _ _ h))
-
-  pub row_miss : i < length xs → (get_or xs i 0 ≡ v → ⊥) → row_of v (drop i xs) ≡ suc (row_of v (drop (i + 1) xs))
-  row_miss inside h = rw (add-one i, drop-cons xs i 0 inside) (rw (ne_eqb _ _ h))
-
   pub row-end : length xs ≤ i → row_of v (drop i xs) ≡ 0
   row-end l = rw (drop_of_length-le xs l)
+
+-- the place that the library finds, or their number
+row-position : (v : ℕ) (xs : List ℕ) → position_or_len (λ a. eqb a v) xs ≡ row_of v xs
+row-position v [] = refl
+row-position v (x ∷ xs) = ⊎_elim (λ e. rw e) (λ e. rw e (omega (arith, row-position v xs))) (tested (eqb x v))
+
+row-most : (v : ℕ) (xs : List ℕ) → row_of v xs ≤ length xs
+row-most v [] = omega arith
+row-most v (x ∷ xs) = ⊎_elim (λ e. rw e (omega arith)) (λ e. rw e (omega (arith, row-most v xs))) (tested (eqb x v))
+
+pub row-found : (v : ℕ) (xs : List ℕ) (o : Option ℕ)
+    → o ≡ cond (ltb (position_or_len (λ a. eqb a v) xs) (length xs)) (Some (position_or_len (λ a. eqb a v) xs)) None → unwrap_or o (length xs) ≡ row_of v xs
+row-found v xs o h = rw h (rw (row-position v xs) (go (row_of v xs) (row-most v xs)))
+  where
+    go : (k : ℕ) → k ≤ length xs → unwrap_or (cond (ltb k (length xs)) (Some k) None) (length xs) ≡ k
+    go k most = ⊎_elim (λ e. rw e) (λ e. rw e (omega (arith, ltb-false k (length xs) e))) (tested (ltb k (length xs)))
 
 -- of the first n the place of v is that among all, where there is one
 pub row-take : (v n : ℕ) (xs : List ℕ) → row_of v (take n xs) ≡ min (row_of v xs) n
@@ -93,48 +104,6 @@ row_left v xs i (suc (suc w)) before l = absurd (omega arith)
 
 -- ---- the search for a plateau
 
-module _ (n : ℕ) (xs : List ℕ) (i : ℕ) (inside : i < length xs) where
-  pub below_hit : get_or xs i 0 < n → first_below n (drop i xs) ≡ Some (get_or xs i 0)
-  below_hit h = rw (drop-cons xs i 0 inside) (rw (lt-ltb _ _ h))
-
-  pub below_miss : n ≤ get_or xs i 0 → first_below n (drop i xs) ≡ first_below n (drop (i + 1) xs)
-  below_miss h = rw (add-one i, drop-cons xs i 0 inside) (rw (le-ltb _ _ h))
-
--- ---- the shift: the elements before p move by one, the last of them first. Before the turn at i those from i on have moved
-
-abbrev pub moved : List ℕ → ℕ → ℕ → List ℕ
-moved xs p i = take (suc i) xs ++ drop i (cut p xs)
-
-module _ (xs : List ℕ) (p : ℕ) (inside : p < length xs) where
-  -- at first none has
-  pub move_none : xs ≡ moved xs p p
-  move_none = sym (ap (λ (l : List ℕ). take (suc p) xs ++ l) (drop_at (take p xs) (drop (suc p) xs) p (length-take-le p xs (omega arith))) ∙ take-append-drop (suc p) xs)
-
-  module _ (j : ℕ) (before : j < p) where
-    -- the element that moves
-    mover : get_or (moved xs p (suc j)) j 0 ≡ get_or (cut p xs) j 0
-    mover =
-        let l : length (take (suc (suc j)) xs) ≡ suc (suc j) = length-take-le (suc (suc j)) xs (omega arith) in
-        let m : length (take p xs) ≡ p = length-take-le p xs (omega arith) in
-        get_or-append (take (suc (suc j)) xs) (drop (suc j) (cut p xs)) 0 j (omega arith) ∙ get_or-take (suc (suc j)) xs j 0 (omega arith)
-        ∙ sym (get_or-append (take p xs) (drop (suc p) xs) 0 j (omega arith) ∙ get_or-take p xs j 0 before)
-
-    moved_more : set (moved xs p (suc j)) (suc j) (get_or (moved xs p (suc j)) j 0) ≡ moved xs p j
-    moved_more =
-        let m : length (take p xs) ≡ p = length-take-le p xs (omega arith) in
-        let rest : List ℕ = drop (suc j) (cut p xs) in
-        rw mover
-        (ap (λ (l : List ℕ). set (l ++ rest) (suc j) (get_or (cut p xs) j 0)) (take-suc xs (suc j) 0 (omega arith))
-        ∙ ap (λ (l : List ℕ). set l (suc j) (get_or (cut p xs) j 0)) (append_snoc (take (suc j) xs) (get_or xs (suc j) 0) rest)
-        ∙ set_at (take (suc j) xs) (get_or xs (suc j) 0) rest (get_or (cut p xs) j 0) (suc j) (length-take-le (suc j) xs (omega arith))
-        ∙ ap (λ (l : List ℕ). take (suc j) xs ++ l) (sym (drop-cons (cut p xs) j 0 (omega (arith, length-append (take p xs) (drop (suc p) xs))))))
-
-  pub move_turn : (i : ℕ) → 0 < i → i ≤ p → set (moved xs p i) i (get_or (moved xs p i) (i - 1) 0) ≡ moved xs p (i - 1)
-  move_turn zero some l = absurd (omega arith)
-  move_turn (suc j) some l = let e : suc j - 1 ≡ j = omega arith in rw e (moved_more j (omega arith))
-
-  -- at last all have, and the first place is free
-  pub move_all : (x i : ℕ) → i ≤ 0 → set (moved xs p i) 0 x ≡ pushed x p xs
-  move_all x i l =
-      let e : i ≡ 0 = omega arith in
-      rw e (ap (λ (front : List ℕ). set (front ++ cut p xs) 0 x) (take-suc xs 0 0 (omega arith)))
+pub below-found : (n : ℕ) (ps : List ℕ) → find (λ p. ltb p n) ps ≡ first_below n ps
+below-found n [] = refl
+below-found n (p ∷ ps) = ap (λ (o : Option ℕ). cond (ltb p n) (Some p) o) (below-found n ps)

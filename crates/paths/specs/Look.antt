@@ -21,5 +21,5 @@ look_among link neighbours sizes times n v now = record {
 }
 
 -- x in front, and the element at p gone, where there is one
-abbrev pub pushed_in : ℕ → ℕ → List ℕ → List ℕ
+abbrev pub pushed_in : {A : Type 0} → A → ℕ → List A → List A
 pushed_in x p xs = cond (ltb p (length xs)) (pushed x p xs) xs

@@ -10,7 +10,7 @@ ghost use Rattle.paths.specs.Kept.{while_young, in_force};
 ghost use Rattle.paths.specs.Look.{look_among};
 ghost use Rattle.paths.specs.Table.{no_reports, kept_among, kept_in, table_after};
 
-use rows::{push_number, push_size, row_in_lent, row_of};
+use rows::{push, row_in_lent, row_of};
 
 // How many neighbours are kept.
 const NEIGHBOURS: usize = 64;
@@ -60,7 +60,7 @@ impl PathTable {
         if self.count == 0 {
             return None;
         }
-        let count = lists::least(self.count, NEIGHBOURS);
+        let count = self.count.min(NEIGHBOURS);
         let neighbours = self.neighbours;
         let p = row_of(&neighbours, count, neighbour);
         if p < count {
@@ -79,33 +79,25 @@ impl PathTable {
         let mut neighbours = self.neighbours;
         let mut sizes = self.sizes;
         let mut times = self.times;
-        let used = lists::least(self.count, NEIGHBOURS);
-        let last = lists::least(row_of(&neighbours, used, neighbour), LAST_ROW);
-        push_number(&mut neighbours, neighbour, last);
-        push_size(&mut sizes, size, last);
-        push_number(&mut times, now, last);
+        let used = self.count.min(NEIGHBOURS);
+        let last = row_of(&neighbours, used, neighbour).min(LAST_ROW);
+        push(&mut neighbours, neighbour, last);
+        push(&mut sizes, size, last);
+        push(&mut times, now, last);
         self.neighbours = neighbours;
         self.sizes = sizes;
         self.times = times;
-        self.count = most(used, last + 1);
+        self.count = used.max(last + 1);
         self
     }
 }
 
 // The size in force over a link: the smaller of the link's and the kept one, otherwise the link's.
+#[tactic(auto, unfolding(crate::specs::Kept::in_force))]
 pub fn in_force(link: u16, kept: Option<u16>) -> u16
     ensures { result ≡ in_force link kept }
 {
-    match kept {
-        Some(size) => smaller(link, size),
-        None => link,
-    }
-}
-
-fn smaller(a: u16, b: u16) -> u16
-    ensures { result ≡ min a b }
-{
-    if a < b { a } else { b }
+    kept.map_or(link, |size| link.min(size))
 }
 
 // The size in force over a link toward a neighbour at a time, of a table whose rows are lent: all of them are searched, where any is in
@@ -125,7 +117,7 @@ pub fn size_among<'a>(
         return link;
     }
     let p = row_in_lent(neighbours, neighbour);
-    let rows = lists::least(lists::least(neighbours.len(), sizes.len()), times.len());
+    let rows = neighbours.len().min(sizes.len()).min(times.len());
     size_at(link, sizes, times, count, rows, p, time)
 }
 
@@ -142,14 +134,14 @@ pub fn look_among<'a>(
     ensures { result ≡ look_among link neighbours.now sizes.now times.now count neighbour time }
 {
     let p = row_in_lent(neighbours, neighbour);
-    let rows = lists::least(lists::least(neighbours.len(), sizes.len()), times.len());
+    let rows = neighbours.len().min(sizes.len()).min(times.len());
     let in_force = size_at(link, sizes, times, count, rows, p, time);
-    let used = lists::least(count, rows);
-    let row = lists::least(lists::least(p, used), LAST_ROW);
+    let used = count.min(rows);
+    let row = p.min(used).min(LAST_ROW);
     Look {
         in_force,
         row,
-        count: most(used, row + 1),
+        count: used.max(row + 1),
     }
 }
 
@@ -177,18 +169,9 @@ fn size_at<'a>(
 }
 
 // A report's size while that is under 600 s old.
+#[tactic(auto, unfolding(crate::specs::Kept::while_young))]
 fn while_young(size: u16, time: u32, now: u32) -> Option<u16>
     ensures { result ≡ while_young size time now }
 {
-    if (now as u64) < (time as u64) + LIFETIME {
-        Some(size)
-    } else {
-        None
-    }
-}
-
-fn most(a: usize, b: usize) -> usize
-    ensures { result ≡ max a b }
-{
-    if a < b { b } else { a }
+    (u64::from(now) < u64::from(time) + LIFETIME).then_some(size)
 }

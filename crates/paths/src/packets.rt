@@ -12,19 +12,15 @@ const OUTER_HEADER: u16 = header::OUTER_HEADER as u16;
 fn without_header(path: u16) -> u16
     ensures { result ≡ path - outer_header }
 {
-    if path < OUTER_HEADER {
-        0
-    } else {
-        path - OUTER_HEADER
-    }
+    path.saturating_sub(OUTER_HEADER)
 }
 
 // M: the largest packet that is wrapped.
+#[tactic(auto, unfolding(crate::specs::Packets::largest_packet))]
 pub fn largest_packet(path: u16) -> u16
     ensures { result ≡ largest_packet path }
 {
-    let room = without_header(path);
-    if room < LEAST_MTU { LEAST_MTU } else { room }
+    without_header(path).max(LEAST_MTU)
 }
 
 // Whether the outer header says "don't fragment".

@@ -2,7 +2,6 @@
 ghost use Rattle.std.specs.Prelude.{◌≡◌};
 ghost use Rattle.paths.specs.Candidate.{plateau_below, candidate_of, is_below};
 
-
 // The least size that is usable.
 const LEAST_SIZE: u16 = 68;
 
@@ -15,28 +14,18 @@ const PLATEAUS: [u16; 11] = [
 fn plateau_below(n: u16) -> Option<u16>
     ensures { result ≡ plateau_below n }
 {
-    let mut i: usize = 0;
-    while i < PLATEAUS.len() {
-        let p = PLATEAUS[i];
-        if p < n {
-            return Some(p);
-        }
-        i = i + 1;
-    }
-    None
+    PLATEAUS.iter().copied().find(|plateau| *plateau < n)
 }
 
 // The reported size, or for 0 the largest plateau below the quoted total length.
+#[tactic(auto, unfolding(crate::specs::Candidate::candidate_of))]
 pub fn candidate(reported: u16, total: u16) -> Option<u16>
     ensures { result ≡ candidate_of reported total }
 {
     if reported == 0 {
         return plateau_below(total);
     }
-    if reported < LEAST_SIZE {
-        return None;
-    }
-    Some(reported)
+    (LEAST_SIZE <= reported).then_some(reported)
 }
 
 // Whether a candidate is accepted at a size in force.

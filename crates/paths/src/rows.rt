@@ -9,10 +9,8 @@ fn among(numbers: &[u32], neighbour: u32) -> bool
     ensures { result ≡ is_among neighbour numbers.now }
 {
     let mut found = false;
-    let mut i: usize = 0;
-    while i < numbers.len() {
-        found = found | (numbers[i] == neighbour);
-        i = i + 1;
+    for number in numbers {
+        found = found | (*number == neighbour);
     }
     found
 }
@@ -52,7 +50,7 @@ pub(crate) fn row_in_lent(rows: &[u32], neighbour: u32) -> usize
     let quarter = rows.len() - rows.len() / 4 * 3;
     let mut i: usize = 0;
     while i < rows.len() {
-        let width = lists::least(quarter, rows.len() - i);
+        let width = quarter.min(rows.len() - i);
         if among(&rows[i..i + width], neighbour) {
             return row_within(rows, i, width, neighbour);
         }
@@ -65,14 +63,9 @@ pub(crate) fn row_in_lent(rows: &[u32], neighbour: u32) -> usize
 fn row_in_turn(used: &[u32], neighbour: u32) -> usize
     ensures { result ≡ row_of neighbour used.now }
 {
-    let mut i: usize = 0;
-    while i < used.len() {
-        if used[i] == neighbour {
-            return i;
-        }
-        i = i + 1;
-    }
-    i
+    used.iter()
+        .position(|number| *number == neighbour)
+        .unwrap_or(used.len())
 }
 
 // The row of a neighbour among the first `count`, or `count`. For a row of its own: the compiler, which knows that all of it may be
@@ -84,31 +77,12 @@ pub(crate) fn row_of(neighbours: &[u32], count: usize, neighbour: u32) -> usize
     row_in_turn(&neighbours[..count], neighbour)
 }
 
-// A row of numbers with one more in front, and the one at `last` gone, where there is one. Those before it move by one, the last of them
-// first: the compiler makes one move of the loop.
-pub fn push_number(row: &mut [u32], first: u32, last: usize)
+// A row with one more element in front, and the one at `last` gone, where there is one: those before it move by one.
+pub fn push<T: Copy>(row: &mut [T], first: T, last: usize)
     ensures { row.new ≡ pushed_in first last row.old }
 {
     if last < row.len() {
-        let mut i = last;
-        while 0 < i {
-            row[i] = row[i - 1];
-            i = i - 1;
-        }
-        row[0] = first;
-    }
-}
-
-// A row of sizes likewise.
-pub fn push_size(row: &mut [u16], first: u16, last: usize)
-    ensures { row.new ≡ pushed_in first last row.old }
-{
-    if last < row.len() {
-        let mut i = last;
-        while 0 < i {
-            row[i] = row[i - 1];
-            i = i - 1;
-        }
+        row.copy_within(..last, 1);
         row[0] = first;
     }
 }

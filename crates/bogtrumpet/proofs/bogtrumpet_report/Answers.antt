@@ -22,7 +22,7 @@ returns c =
     let s = look_same h c.args.message.now c.args.time full in
     let left : c.if-look.node ≡ with_paths h (table_left h.paths look) =
     elim c.if-look.branch [
-      | then-look w ↦ rw (w.node-is, w.if-look.true, w.push_number.ensures, w.push_size.ensures, w.push_number-then-look.ensures)
+      | then-look w ↦ rw (w.node-is, w.if-look.true, w.push.ensures, w.push-then-look.ensures, w.push-then-look-2.ensures)
       | else-look w ↦ rw (w.node-is, w.if-look.false)
     ] in
     let s' = rw (← e) at s in

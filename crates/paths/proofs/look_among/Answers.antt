@@ -10,11 +10,11 @@ use Rattle.paths.proofs.look_among.Goals as goal
 pub returns : goal.returns
 returns c = let a = c.args in
     let r : ℕ = c.row_in_lent-p.result in
-    let m : ℕ = c.least-rows.result in
-    let q : ℕ = c.least-row.result in
+    let m : ℕ = c.min-rows.result in
+    let q : ℕ = c.min-row.result in
     looked-at
-    (scanned_all a.neighbours.now a.sizes.now a.times.now a.count a.neighbour r m c.row_in_lent-p.ensures (c.least-rows.ensures ∙ ap (λ (k : ℕ). min k (length a.times.now)) c.least.ensures))
-    a.time a.link q c.most.result c.size_at-in_force.result
+    (scanned_all a.neighbours.now a.sizes.now a.times.now a.count a.neighbour r m c.row_in_lent-p.ensures (c.min-rows.ensures ∙ ap (λ (k : ℕ). min k (length a.times.now)) c.min.ensures))
+    a.time a.link q c.max.result c.size_at-in_force.result
     (c.size_at-in_force.ensures ∙ read_in_use (λ p. in_force a.link (while_young (get_or a.sizes.now p 0) (get_or a.times.now p 0) a.time)) r (min a.count m) a.link)
-    (c.least-row.ensures ∙ ap (λ (k : ℕ). min k last_row) (c.least-2.ensures ∙ ap (min r) c.least-used.ensures))
-    (rw (← add-one q) (c.most.ensures ∙ ap (λ (k : ℕ). max k (q + 1)) c.least-used.ensures))
+    (c.min-row.ensures ∙ ap (λ (k : ℕ). min k last_row) (c.min-2.ensures ∙ ap (min r) c.min-used.ensures))
+    (rw (← add-one q) (c.max.ensures ∙ ap (λ (k : ℕ). max k (q + 1)) c.min-used.ensures))

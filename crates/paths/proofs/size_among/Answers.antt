@@ -14,7 +14,7 @@ returns-then-count-eq0 c = rw c.if-count-eq0.true
 pub returns : goal.returns
 returns c = let a = c.args in
     let r = c.row_in_lent-p.result in
-    let m = c.least-rows.result in
+    let m = c.min-rows.result in
     c.size_at.ensures
     ∙ read_in_use (λ p. in_force a.link (while_young (get_or a.sizes.now p 0) (get_or a.times.now p 0) a.time)) r (min a.count m) a.link
     ∙ size-at (scanned_all a.neighbours.now a.sizes.now a.times.now a.count a.neighbour r m c.row_in_lent-p.ensures (omega arith)) a.time a.link

@@ -21,7 +21,7 @@ returns-then-p-count c =
     let neighbours : length t.neighbours ≡ most_neighbours = search rules in
     let sizes : length t.sizes ≡ most_neighbours = search rules in
     let times : length t.times ≡ most_neighbours = search rules in
-    let scanned : Scanned t.neighbours t.sizes t.times t.count c.args.neighbour c.least-count.result c.row_of-p.result = record { used = omega arith; row = c.row_of-p.ensures } in
+    let scanned : Scanned t.neighbours t.sizes t.times t.count c.args.neighbour c.min-count.result c.row_of-p.result = record { used = omega arith; row = c.row_of-p.ensures } in
     rw (kept_at scanned c.args.now, lt-ltb _ _ c.if-p-count.true) c.while_young.ensures
 
 pub returns-else-p-count : goal.returns-else-p-count
@@ -31,5 +31,5 @@ returns-else-p-count c =
     let neighbours : length t.neighbours ≡ most_neighbours = search rules in
     let sizes : length t.sizes ≡ most_neighbours = search rules in
     let times : length t.times ≡ most_neighbours = search rules in
-    let scanned : Scanned t.neighbours t.sizes t.times t.count c.args.neighbour c.least-count.result c.row_of-p.result = record { used = omega arith; row = c.row_of-p.ensures } in
+    let scanned : Scanned t.neighbours t.sizes t.times t.count c.args.neighbour c.min-count.result c.row_of-p.result = record { used = omega arith; row = c.row_of-p.ensures } in
     rw (kept_at scanned c.args.now, le-ltb _ _ c.if-p-count.false)

@@ -1,20 +1,18 @@
-use mathlib.Core.Path.{refl, sym, ap, ◌∙◌}
-use native.Mathlib.Omega.{arith}
-use lib.ListN.{drop_of_length-le}
-use Rattle.paths.specs.Candidate.{plateaus, first_below, plateau_below}
-use Rattle.paths.proofs.Scan.{below_hit, below_miss}
+use mathlib.Core.Path.{◌∙◌, sym}
+use lib.Dec.{ltb}
+use borrow.Author.Tests.{tests}
+use Rattle.std.proofs.Common.{rules}
+use Rattle.std.proofs.lemmas.Iterator.{YieldsList-from_slice}
+use Rattle.std.proofs.lemmas.Iterator.Consumers.{YieldsList-from_copied}
+use Rattle.std.proofs.lemmas.Iterator.Search.{find_from_yields_List}
+use Rattle.std.proofs.lemmas.Iterator.Adapters.{option_map_id}
+use Rattle.paths.specs.Candidate.{plateaus, plateau_below}
+use Rattle.paths.proofs.Scan.{below-found}
 use Rattle.paths.proofs.reported.plateau_below.Goals as goal
-
-pub loop-i-init : goal.loop-i-init
-loop-i-init c = (omega arith, refl)
-
-pub returns-then-p-n : goal.returns-then-p-n
-unfolding plateau_below
-returns-then-p-n c = sym (c.loop-i.invariant.1 ∙ below_hit c.args.n plateaus c.loop-i.i (omega arith) (omega arith))
-
-pub loop-i-preserved : goal.loop-i-preserved
-loop-i-preserved c = (omega arith, c.loop-i.invariant.1 ∙ below_miss c.args.n plateaus c.loop-i.i (omega arith) (omega arith))
 
 pub returns : goal.returns
 unfolding plateau_below
-returns c = sym (c.loop-i.invariant.1 ∙ ap (first_below c.args.n) (drop_of_length-le plateaus {i = c.loop-i.i} (omega arith)))
+returns c = let n = c.args.n in
+    sym (option_map_id c.find.result)
+    ∙ find_from_yields_List (λ p. ltb p n) c.find.new.self _ c.find.result c.find.ensures.ran (YieldsList-from_copied (YieldsList-from_slice plateaus cc)) (λ x b q k. search (rules, tests))
+    ∙ below-found n plateaus

@@ -9,7 +9,7 @@ use Rattle.paths.proofs.rows.row_in_lent.Goals as goal
 
 pub row_within-requires : goal.row_within-requires
 row_within-requires c = let a = c.args in
-    let w = c.least-width.result in
+    let w = c.min-width.result in
     let e : c.loop-i.i + w - c.loop-i.i ≡ w = omega arith in
     let there : is_among a.neighbour (take (c.loop-i.i + w - c.loop-i.i) (drop c.loop-i.i a.rows.now)) ≡ true = sym c.among.ensures ∙ c.if-among.true in
     record { passed = c.loop-i.invariant; inside = omega arith; there = rw e at there }
@@ -19,7 +19,7 @@ returns-then-among c = c.row_within.ensures
 
 pub loop-i-preserved : goal.loop-i-preserved
 loop-i-preserved c = let a = c.args in
-    let w = c.least-width.result in
+    let w = c.min-width.result in
     let e : c.loop-i.i + w - c.loop-i.i ≡ w = omega arith in
     let none : is_among a.neighbour (take (c.loop-i.i + w - c.loop-i.i) (drop c.loop-i.i a.rows.now)) ≡ false = sym c.among.ensures ∙ c.if-among.false in
     block-passed a.neighbour a.rows.now c.loop-i.i w c.loop-i.invariant (omega arith) (rw e at none)

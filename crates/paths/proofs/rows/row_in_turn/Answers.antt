@@ -1,15 +1,14 @@
-use native.Mathlib.Omega.{arith}
-use Rattle.paths.proofs.Scan.{row_hit, row_miss, row-end}
+use Prim.Native.Nat.{ℕ}
+use mathlib.Core.Path.{◌∙◌}
+use lib.Dec.{eqb}
+use borrow.Author.Tests.{tests}
+use Rattle.std.proofs.Common.{rules}
+use Rattle.std.proofs.lemmas.Iterator.{YieldsList-from_slice}
+use Rattle.std.proofs.lemmas.Iterator.Search.{position_from_yields_List}
+use Rattle.paths.proofs.Scan.{row-found}
 use Rattle.paths.proofs.rows.row_in_turn.Goals as goal
-
-pub returns-then-used-i : goal.returns-then-used-i
-returns-then-used-i c = let a = c.args in
-    omega (arith, row_hit a.neighbour a.used.now c.loop-i.i (omega arith) c.if-used-i.true)
-
-pub loop-i-preserved : goal.loop-i-preserved
-loop-i-preserved c = let a = c.args in
-    omega (arith, row_miss a.neighbour a.used.now c.loop-i.i (omega arith) c.if-used-i.false)
 
 pub returns : goal.returns
 returns c = let a = c.args in
-    omega (arith, row-end a.neighbour a.used.now c.loop-i.i (omega arith))
+    c.unwrap_or.ensures ∙ row-found a.neighbour a.used.now c.position.result
+    (position_from_yields_List (λ (b : ℕ). eqb b a.neighbour) _ _ c.position.result c.position.ensures.ran (YieldsList-from_slice a.used.now cc) (λ x b q k. search (rules, tests)))
