@@ -59,7 +59,16 @@ pub fn on_link<A: Ipv6>(prefixes: [[u8; 8]; 8], count: usize, a: A) -> bool
     ensures { result ≡ is_on_link prefixes count (A.bytes a) }
 {
     let q = a.quads();
-    link_local_prefixed(q) || prefixes[..count.min(8)].iter().any(|p| under(q, *p))
+    if link_local_prefixed(q) {
+        return true;
+    }
+    // With `any` this makes a copy of the prefixes before it reads the first.
+    for p in &prefixes[..count.min(8)] {
+        if under(q, *p) {
+            return true;
+        }
+    }
+    false
 }
 
 // Whether an ISATAP identifier stands behind the prefix.

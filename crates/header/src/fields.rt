@@ -6,10 +6,11 @@ ghost use Rattle.header.specs.Wrap.{be16, be32};
 
 use address::quads::Quads;
 
+// By `get` and `unwrap_or`, four such reads in a row take some instructions more.
 pub fn byte(d: &[u8], i: usize) -> u8
     ensures { result ≡ get_or d.now i 0 }
 {
-    d.get(i).copied().unwrap_or(0)
+    if i < d.len() { d[i] } else { 0 }
 }
 
 // The high byte of a 16-bit number.
@@ -82,12 +83,12 @@ pub(crate) fn quad_in(d: &[u8], i: usize) -> u32
     address::quad(d[i], d[i + 1], d[i + 2], d[i + 3])
 }
 
-// The same, last byte first: one load and nothing else.
+// The same, last byte first: one load and nothing else. By from_le_bytes a header's sum takes one instruction more.
 pub(crate) fn reversed_in(d: &[u8], i: usize) -> u32
     requires { i + 4 ≤ length d.now }
     ensures { result ≡ reversed_at d.now i }
 {
-    u32::from_le_bytes([d[i], d[i + 1], d[i + 2], d[i + 3]])
+    address::quad(d[i + 3], d[i + 2], d[i + 1], d[i])
 }
 
 // The 16 bytes at k, as four numbers.

@@ -1,8 +1,7 @@
 -- `header::fields::reversed_in` meets its contract.
-use borrow.Author.Rules.{rules}
 use Rattle.header.specs.Fields.{reversed_at}
 use Rattle.header.proofs.fields.reversed_in.Goals as goal
 
 pub returns : goal.returns
 unfolding reversed_at
-returns c = search rules
+returns c = c.quad.ensures
