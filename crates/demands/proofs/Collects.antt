@@ -52,7 +52,7 @@ leaves_all c s t e = record { collected = λ h. ap (λ (x : State). x.collection
 leaves_none : (s t : State) → Leaves memory_too s t
 leaves_none s t = record { collected = λ h. absurd (not-nothing memory_too (λ z. omega arith) h); memory = λ h. absurd (h refl) }
 
-waits_number : (q r : Refusal) → Err {A = taken.Joined} q ≡ Err r → q ≡ r
+waits_number : (q r : Refusal) → ◌≡◌ {A = Result taken.Joined Refusal} (Err q) (Err r) → q ≡ r
 waits_number q r h = cc
 
 module _ (s : State) (x : Step) where
