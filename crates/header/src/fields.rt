@@ -6,11 +6,10 @@ ghost use Rattle.header.specs.Wrap.{be16, be32};
 
 use address::quads::Quads;
 
-// By `get` and `unwrap_or`, four such reads in a row take some instructions more.
 pub fn byte(d: &[u8], i: usize) -> u8
     ensures { result ≡ get_or d.now i 0 }
 {
-    if i < d.len() { d[i] } else { 0 }
+    d.get(i).copied().unwrap_or(0)
 }
 
 // The high byte of a 16-bit number.

@@ -64,7 +64,8 @@ pub fn malformed(n: usize, o: Outer) -> bool
     (o.version != 4) | (o.header < OUTER_HEADER) | (o.total < o.header) | (n < o.total)
 }
 
-// The same where the first byte is at hand, which has the version and the header's words: both are asked of it at once.
+// The same where the first byte is at hand, which has the version and the header's words: both are asked of it at once. By `malformed` each
+// receiving takes three instructions more.
 fn malformed_by(n: usize, first: u8, o: Outer) -> bool
     requires { (o.version ≡ first / 16) × (o.header ≡ first % 16 * 4) }
     ensures { result ≡ is_outer_malformed n o }
