@@ -1,6 +1,5 @@
 -- How the code adds words up, block by block. Only functions of the crate's own cite this.
-use Rattle.std.specs.Prelude.{◌≡◌, ℕ, ◌+◌, ◌*◌, ◌%◌, ◌^◌, ◌≤◌, List, length, drop}
-use Rattle.checksum.specs.Folding.{word_sum, chunk}
+use Rattle.std.specs.Prelude.{◌≡◌, ℕ, ◌+◌, ◌*◌, ◌%◌, ◌^◌, ◌≤◌, List, length}
 
 -- fewer bytes are added up without runs
 abbrev pub few_bytes : ℕ
@@ -10,13 +9,9 @@ few_bytes = 128
 abbrev pub run_words : ℕ
 run_words = 256
 
--- of at most a chunk, the words before a place have this exact sum, at most 65535 each, so that 32 bits hold it
-abbrev pub Summed : List ℕ → ℕ → ℕ → Type 0
-Summed s sum at = (length s ≤ chunk) × (at ≤ length s) × (sum + word_sum (drop at s) ≡ word_sum s) × (2 * sum ≤ 65535 * at)
-
--- the n words from a place on have this exact sum: they take so much off the sum of what is left
-abbrev pub BlockSum : List ℕ → ℕ → ℕ → ℕ → Type 0
-BlockSum s at n sum = (word_sum (drop at s) ≡ sum + word_sum (drop (at + 2 * n) s)) × (sum ≤ 65535 * n)
+-- whole words, not more than a run has
+abbrev pub IsBlock : List ℕ → Type 0
+IsBlock s = (length s ≤ 2 * run_words) × (length s % 2 ≡ 0)
 
 -- a number that halving brings to 1
 abbrev pub PowerOfTwo : ℕ → Type 0

@@ -9,7 +9,7 @@
 
 mod words;
 
-ghost use Rattle.std.specs.Prelude.{◌≡◌, ◌+◌, ◌/◌, ◌%◌, ◌≤◌, min, [], length, take, drop};
+ghost use Rattle.std.specs.Prelude.{◌≡◌, ◌+◌, ◌/◌, ◌%◌, ◌≤◌, [], length, take, drop};
 ghost use Rattle.checksum.specs.Sum.{ones_sum_from, ones_complement, is_right, is_right_from};
 ghost use Rattle.checksum.specs.Folding.{word_sum, folded, chunk, final_input};
 
@@ -18,7 +18,7 @@ const CHUNK: usize = 65536;
 // What a carry out of 16 bits stands for.
 const CARRY: u64 = 65536;
 // Sixteen one bits.
-const ALL_ONES: u16 = 65535;
+const ALL_ONES: u16 = u16::MAX;
 
 // The one's complement sum of the words of s, continued from a start value: the sum of what stands before s, or any words that belong to
 // it.
@@ -44,6 +44,7 @@ fn final_input(start: u32, s: &[u8]) -> u64
 // The loop: words are added up, and the carries wait until a chunk is full. What stands behind the last full chunk, even nothing, is for
 // the last fold.
 //   "it may be more efficient to defer adding end-around carries until the main summation loop is finished" (RFC 1071, 2)
+// It counts the place, which fold_input is given: what a fold is given is a contract, and says where the folds are.
 fn chunk_by_chunk(start: u32, s: &[u8]) -> u64
     ensures { result ≡ final_input start s.now }
 {
@@ -59,26 +60,14 @@ fn chunk_by_chunk(start: u32, s: &[u8]) -> u64
     }
 }
 
-// The end of the chunk that starts at a place.
-fn chunk_end(at: usize, length: usize) -> usize
-    requires { at ≤ length }
-    ensures { result ≡ min (at + chunk) length }
-{
-    if CHUNK < length - at {
-        at + CHUNK
-    } else {
-        length
-    }
-}
-
 // What a fold is given: the result of the one before and the exact sum of the words since. These are the words of the chunk that starts at a
 // place, or of what is left.
 fn fold_input(res: u32, s: &[u8], at: usize) -> u64
     requires { (at ≤ length s.now) × (at % chunk ≡ 0) }
     ensures { result ≡ res + word_sum (take chunk (drop at s.now)) }
 {
-    let end = chunk_end(at, s.len());
-    res as u64 + words::many(&s[at..end]) as u64
+    let left = &s[at..];
+    res as u64 + words::many(&left[..left.len().min(CHUNK)]) as u64
 }
 
 // The fold: carries are brought back in until none is left.
@@ -112,7 +101,7 @@ pub fn sum_of_words(words: u32) -> u16
 pub fn complement(x: u16) -> u16
     ensures { result ≡ ones_complement x }
 {
-    ALL_ONES - x
+    !x
 }
 
 // The end of reading: whether the checksum that s holds is right.
@@ -129,8 +118,7 @@ pub fn right(s: &[u8]) -> bool
 pub fn right_words(words: u32) -> bool
     ensures { result ≡ is_right_from words [] }
 {
-    let exchanged = words % 65536 * 65536 + words / 65536;
-    let sum = words.wrapping_add(exchanged);
+    let sum = words.wrapping_add(words.rotate_left(16));
     sum / 65536 == 65535
 }
 

@@ -2,7 +2,7 @@
 // side.
 ghost use Rattle.std.specs.Prelude.{◌≡◌, ◌+◌, ◌*◌, ◌/◌, ◌%◌, ◌<◌, ◌≤◌, length, drop};
 ghost use Rattle.checksum.specs.Folding.{word_sum, chunk};
-ghost use Rattle.checksum.specs.Words.{few_bytes, run_words, Summed, BlockSum, PowerOfTwo, high_sum};
+ghost use Rattle.checksum.specs.Words.{few_bytes, run_words, IsBlock, PowerOfTwo, high_sum};
 
 // Fewer bytes are added up without a loop over runs.
 pub(crate) const FEW: usize = 128;
@@ -11,19 +11,12 @@ const RUN: usize = 256;
 // From so many words on, a run is quicker than one word after another.
 const RUN_FROM: usize = 32;
 
-// How far the words are added up: the exact sum of those before a place, which is between two words.
-#[derive(Clone, Copy)]
-struct Part {
-    sum: u32,
-    at: usize,
-}
-
 // The exact sum of the words of few bytes: FEW bytes are two blocks of FEW / 4 words.
 pub(crate) fn few(s: &[u8]) -> u32
     requires { length s.now < few_bytes }
     ensures { result ≡ word_sum s.now }
 {
-    odd_byte(s, halving(s, Part { sum: 0, at: 0 }, FEW / 4))
+    halving(s, FEW / 4)
 }
 
 // The exact sum of the words of a chunk, or of what is left behind the last one; 32 bits hold it. What is left behind full runs is shorter
@@ -32,108 +25,95 @@ pub(crate) fn many(s: &[u8]) -> u32
     requires { length s.now ≤ chunk }
     ensures { result ≡ word_sum s.now }
 {
-    odd_byte(s, halving(s, full_runs(s), RUN / 2))
-}
-
-// The words of full runs.
-fn full_runs(s: &[u8]) -> Part
-    requires { length s.now ≤ chunk }
-    ensures { Summed s.now result.sum result.at × (length s.now < result.at + 2 * run_words) }
-{
-    let mut sum: u32 = 0;
-    let mut at = 0;
-    while at + 2 * RUN <= s.len() {
-        sum += run(s, at, RUN);
-        at += 2 * RUN;
+    let runs = s.chunks_exact(2 * RUN);
+    let rest = runs.remainder();
+    let mut sum = 0;
+    for words in runs {
+        sum += run(words);
     }
-    Part { sum: sum, at: at }
+    sum + halving(rest, RUN / 2)
 }
 
-// The words behind a part, where fewer than twice as many as most are left: a block of most words if it fits, one of half as many, and so
-// down to one word. The compiler makes straight code of it.
-fn halving(s: &[u8], p: Part, most: usize) -> Part
-    requires { Summed s.now p.sum p.at × (length s.now < p.at + 4 * most) × PowerOfTwo most × (most ≤ run_words) }
-    ensures { Summed s.now result.sum result.at × (length s.now < result.at + 2) }
+// The exact sum of the words of fewer bytes than two blocks of most words have: a block of most words if it fits, one of half as many, and so
+// down to one word, and an odd last byte. The compiler makes straight code of it.
+fn halving(s: &[u8], most: usize) -> u32
+    requires { (length s.now < 4 * most) × PowerOfTwo most × (most ≤ run_words) }
+    ensures { result ≡ word_sum s.now }
 {
-    let mut part = p;
+    let mut sum = 0;
+    let mut rest = s;
     let mut n = most;
     while 0 < n {
-        part = with_block(s, part, n);
-        n = n / 2;
-    }
-    part
-}
-
-// A block of n words more, if it fits.
-fn with_block(s: &[u8], p: Part, n: usize) -> Part
-    requires { Summed s.now p.sum p.at × (length s.now < p.at + 4 * n) × (n ≤ run_words) }
-    ensures { Summed s.now result.sum result.at × (length s.now < result.at + 2 * n) }
-{
-    let at = p.at;
-    if at + 2 * n <= s.len() {
-        Part {
-            sum: p.sum + block(s, at, n),
-            at: at + 2 * n,
+        if 2 * n <= rest.len() {
+            let (words, behind) = rest.split_at(2 * n);
+            sum += block(words);
+            rest = behind;
         }
-    } else {
-        p
+        n /= 2;
     }
+    sum + odd_byte(rest)
 }
 
 // An odd last byte is paired with a zero byte.
 //   "Add left-over byte, if any" (RFC 1071, 4.1)
-fn odd_byte(s: &[u8], p: Part) -> u32
-    requires { Summed s.now p.sum p.at × (length s.now < p.at + 2) }
+fn odd_byte(s: &[u8]) -> u32
+    requires { length s.now < 2 }
     ensures { result ≡ word_sum s.now }
 {
-    let at = p.at;
-    if at < s.len() {
-        p.sum + word(s[at], 0)
-    } else {
-        p.sum
+    match s {
+        [last] => u16::from_be_bytes([*last, 0]) as u32,
+        _ => 0,
     }
 }
 
-// The exact sum of the n words from a place on.
-fn block(s: &[u8], at: usize, n: usize) -> u32
-    requires { (at + 2 * n ≤ length s.now) × (n ≤ run_words) }
-    ensures { BlockSum s.now at n result }
+// The exact sum of a block's words.
+fn block(s: &[u8]) -> u32
+    requires { IsBlock s.now }
+    ensures { result ≡ word_sum s.now }
 {
-    if n < RUN_FROM {
-        one_by_one(s, at, n)
+    if s.len() < 2 * RUN_FROM {
+        one_by_one(s)
     } else {
-        run(s, at, n)
+        run(s)
     }
 }
 
-// The exact sum of the n words from a place on, word by word. Each is read as the machine does and then exchanged, since that is one load.
+// The exact sum of a block's words, word by word. Each is read as the machine does and then exchanged, since that is one load.
 //   "This is the inner loop" (RFC 1071, 4.1)
-fn one_by_one(s: &[u8], at: usize, n: usize) -> u32
-    requires { (at + 2 * n ≤ length s.now) × (n ≤ run_words) }
-    ensures { BlockSum s.now at n result }
+fn one_by_one(s: &[u8]) -> u32
+    requires { IsBlock s.now }
+    ensures { result ≡ word_sum s.now }
 {
-    let mut sum: u32 = 0;
-    for k in 0..n {
-        sum += exchange(pair(s, at + 2 * k)) as u32;
+    let mut sum = 0;
+    for k in 0..s.len() / 2 {
+        sum += pair(s, 2 * k).swap_bytes() as u32;
     }
     sum
 }
 
-// The exact sum of the n words from a place on, without exchanging the bytes of each: as the machine reads it, a word is
-// high + 256 * low. The sum of these is kept modulo 65536, that of the low bytes exactly, and the sum of the high bytes, which has 16
-// bits, follows from the two.
-fn run(s: &[u8], at: usize, n: usize) -> u32
-    requires { (at + 2 * n ≤ length s.now) × (n ≤ run_words) }
-    ensures { BlockSum s.now at n result }
+// The exact sum of a block's words, without exchanging the bytes of each: as the machine reads it, a word is high + 256 * low. The sum of
+// these is kept modulo 65536, that of the low bytes exactly, and the sum of the high bytes, which has 16 bits, follows from the two.
+fn run(s: &[u8]) -> u32
+    requires { IsBlock s.now }
+    ensures { result ≡ word_sum s.now }
 {
     let mut exchanged: u16 = 0;
     let mut low: u16 = 0;
-    for k in 0..n {
-        let x = pair(s, at + 2 * k);
-        exchanged = ((exchanged as u32 + x as u32) % 65536) as u16;
+    for k in 0..s.len() / 2 {
+        let x = pair(s, 2 * k);
+        exchanged = exchanged.wrapping_add(x);
         low += x / 256;
     }
     high_sum(exchanged, low) * 256 + low as u32
+}
+
+// The two bytes from i on as the machine reads a word, the first the low-order one: the compiler makes one load of it. It doesn't where the
+// loops go over chunks of two bytes, which are slower by a quarter.
+fn pair(s: &[u8], i: usize) -> u16
+    requires { i + 1 < length s.now }
+    ensures { word_sum (drop i s.now) ≡ result % 256 * 256 + result / 256 + word_sum (drop (i + 2) s.now) }
+{
+    u16::from_le_bytes([s[i], s[i + 1]])
 }
 
 // The sum of the high bytes: that of the exchanged words less 256 times that of the low bytes, modulo 65536, where 65280 is -256.
@@ -141,33 +121,4 @@ fn high_sum(exchanged: u16, low: u16) -> u32
     ensures { result ≡ high_sum exchanged low }
 {
     (exchanged as u32 + 65280 * low as u32) % 65536
-}
-
-// The two bytes from i on as the machine reads a word, the first the low-order one: the compiler makes one load of it.
-fn pair(s: &[u8], i: usize) -> u16
-    requires { i + 1 < length s.now }
-    ensures { word_sum (drop i s.now) ≡ result % 256 * 256 + result / 256 + word_sum (drop (i + 2) s.now) }
-{
-    exchanged_word(s[i], s[i + 1])
-}
-
-// A word with its bytes exchanged.
-fn exchange(x: u16) -> u16
-    ensures { result ≡ x % 256 * 256 + x / 256 }
-{
-    x % 256 * 256 + x / 256
-}
-
-// A word with its bytes exchanged, from its bytes.
-fn exchanged_word(high: u8, low: u8) -> u16
-    ensures { (result % 256 ≡ high) × (result / 256 ≡ low) }
-{
-    high as u16 + low as u16 * 256
-}
-
-// A word from its bytes.
-fn word(high: u8, low: u8) -> u32
-    ensures { (result ≡ high * 256 + low) × (result ≤ 65535) }
-{
-    high as u32 * 256 + low as u32
 }

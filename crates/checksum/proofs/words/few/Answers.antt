@@ -3,4 +3,4 @@ use Rattle.std.proofs.Common.{refl, arith}
 use Rattle.checksum.proofs.words.few.Goals as goal
 
 pub halving-requires : goal.halving-requires
-halving-requires c = (omega arith, omega arith, (5, refl), omega arith)
+halving-requires c = (omega arith, (5, refl), omega arith)

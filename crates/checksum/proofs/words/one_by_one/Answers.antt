@@ -1,17 +1,15 @@
--- `checksum::words::one_by_one` meets its contract: the invariant says what is left to add, and a turn takes two bytes off it.
-use Rattle.std.proofs.Common.{arith}
-use Rattle.checksum.proofs.Blocks.{block_none, block_more, block-all}
+-- `checksum::words::one_by_one` meets its contract: a turn takes two bytes off what is left.
+use Rattle.std.proofs.Common.{◌*◌, drop, arith, length-drop}
+use Rattle.checksum.proofs.Blocks.{next_pair, words-none, words_fit, bytes_in}
 use Rattle.checksum.proofs.words.one_by_one.Goals as goal
 
-pub loop-k-init : goal.loop-k-init
-loop-k-init c = let a = c.args in (omega arith, block_none a.s.now a.at)
+pub overflow_add-sum : goal.overflow_add-sum
+overflow_add-sum c = omega (arith, words_fit c.args.s.now (bytes_in _ c.type_inv.s))
 
 pub loop-k-preserved : goal.loop-k-preserved
-loop-k-preserved c = let a = c.args in (
-  omega arith,
-  block_more a.s.now a.at c.loop-k.k c.loop-k.sum c.exchange.result c.loop-k.invariant.1 (omega arith) (omega arith),
-)
+loop-k-preserved c = omega (arith, next_pair c.args.s.now c.loop-k.k)
 
 pub returns : goal.returns
-returns c = let a = c.args in
-    block-all a.s.now a.at c.loop-k.k a.n c.loop-k.sum (omega arith) c.loop-k.invariant.1
+returns c =
+    let s = c.args.s.now in
+    omega (arith, words-none (drop (2 * c.loop-k.k) s) (omega (arith, length-drop (2 * c.loop-k.k) s)))
