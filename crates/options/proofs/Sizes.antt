@@ -2,14 +2,17 @@
 -- Assumes nothing.
 use mathlib.Core.Path.{◌≡◌, refl, sym}
 use mathlib.Core.List.{List, [], ◌∷◌}
-use mathlib.Core.Bool.{Bool, true, false, cond}
+use mathlib.Core.Bool.{Bool, true, false, not, cond, ◌&&◌}
 use Prim.Native.Nat.{ℕ, zero, suc, ◌*◌, ◌<◌, ◌≤◌, pred}
 use native.Mathlib.Nat.{le_of_suc-le-suc, not-suc-le-zero}
 use native.Mathlib.Omega.{arith}
 use lib.ListN.{length, get_or, take, drop}
-use lib.Dec.{leb}
+use lib.Dec.{eqb, leb}
+use Rattle.std.specs.Prelude.{Option, Some, None, is_some}
+use Rattle.std.specs.Bool.{then_some}
 use borrow.Author.Tests.{eq-eqb, ne_eqb, leb-true}
 use Rattle.options.specs.Options.{unit_bytes, option_size, options_from, options_of}
+use Rattle.options.specs.SoFar.{some_size}
 
 -- an option is within the bytes
 pub size_fits : (bs : List ℕ) → option_size bs ≤ length bs
@@ -31,6 +34,35 @@ size-units bs = go (leb (get_or bs 1 0 * unit_bytes) (length bs))
 
 pub size-least : (bs : List ℕ) → (option_size bs ≡ 0 → ⊥) → unit_bytes ≤ option_size bs
 size-least bs h = omega (arith, h, size-units bs h)
+
+-- a size that is told, and that none is
+pub told : (n k : ℕ) → some_size n ≡ Some k → (n ≡ k) × (n ≡ 0 → ⊥)
+told zero k e = let no : ◌≡◌ {A = ℕ} 0 1 = cc in absurd (omega arith)
+told (suc n) k e = let same = rw (ne_eqb (suc n) 0 (λ z. omega arith)) at e in (cc, λ z. omega arith)
+
+pub not_told : (n : ℕ) → is_some (some_size n) ≡ false → n ≡ 0
+not_told zero e = refl
+not_told (suc n) e =
+    let other = rw (ne_eqb (suc n) 0 (λ z. omega arith)) at e in
+    let no : ◌≡◌ {A = ℕ} 0 1 = cc in
+    absurd (omega arith)
+
+pub is_told : (n : ℕ) → is_some (some_size n) ≡ true → n ≡ 0 → ⊥
+is_told zero e z = let no : ◌≡◌ {A = ℕ} 0 1 = cc in omega arith
+is_told (suc n) e z = omega arith
+
+-- it is told where it is not 0 and lies within the bytes
+pub sized : (n : ℕ) (t : Bool) → then_some (not (eqb n 0) && t) n ≡ some_size (cond t n 0)
+sized n false = go (not (eqb n 0))
+  where
+    go : (u : Bool) → then_some (u && false) n ≡ None
+    go true = refl
+    go false = refl
+sized n true = go (eqb n 0)
+  where
+    go : (u : Bool) → then_some (not u && true) n ≡ cond u None (Some n)
+    go true = refl
+    go false = refl
 
 -- an option that has no length byte
 pub size-short : (bs : List ℕ) → length bs < 2 → 0 ≡ option_size bs

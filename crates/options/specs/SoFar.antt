@@ -1,11 +1,15 @@
 -- What a walk over the options has found so far. Only functions of the crate's own cite this.
-use Rattle.std.specs.Prelude.{ℕ, List, [], ◌∷◌, ◌++◌, map, ◌||◌, Option, Some, None}
+use Rattle.std.specs.Prelude.{ℕ, List, [], ◌∷◌, ◌++◌, map, ◌||◌, cond, eqb, Option, Some, None}
 use Rattle.lists.specs.Walks.{walked}
 use Rattle.options.specs.declared.Options.{Options}
 use Rattle.options.specs.declared.Found.{Found}
 use Rattle.options.specs.declared.Walked.{Walked}
 use Rattle.options.specs.Options.{is_source_link_layer, option_size, options_of, are_options_whole, has_source_link_layer}
 use Rattle.options.specs.Lifetimes.{lifetime_of, counted, smallest_of}
+
+-- the size of an option, where none is said by None
+abbrev pub some_size : ℕ → Option ℕ
+some_size n = cond (eqb n 0) None (Some n)
 
 -- a smallest lifetime as a list
 abbrev pub so_far : Option ℕ → List ℕ

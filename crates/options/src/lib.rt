@@ -5,7 +5,7 @@
 ghost use Rattle.std.specs.Prelude.{◌≡◌, ◌||◌, ◌≤◌, max, min, length};
 ghost use Rattle.options.specs.Options.{option_size, are_options_whole};
 ghost use Rattle.options.specs.Lifetimes.{is_prefix, is_route, lifetime_of, is_counted, options_read_of, delay_of, due_after};
-ghost use Rattle.options.specs.SoFar.{shorter_of, found_with, walked_of, read_of};
+ghost use Rattle.options.specs.SoFar.{some_size, shorter_of, found_with, walked_of, read_of};
 
 // An option's length counts units of 8 bytes (RFC 4861, 4.6).
 pub const UNIT: usize = 8;
@@ -49,15 +49,15 @@ fn has_lifetime(kind: u8, units: u8) -> bool
         | ((kind == ROUTE) & (1 <= units) & (units <= ROUTE_UNITS))
 }
 
-// The bytes that the first option takes, and 0 if it has length 0 or runs past the end.
-fn option_size(rest: &[u8]) -> usize
-    ensures { result ≡ option_size rest.now }
+// The bytes that the first option takes, if it has a length and does not run past the end.
+fn option_size(rest: &[u8]) -> Option<usize>
+    ensures { result ≡ some_size (option_size rest.now) }
 {
     if rest.len() < 2 {
-        return 0;
+        return None;
     }
-    let size = (rest[1] as usize) * UNIT;
-    if size <= rest.len() { size } else { 0 }
+    let size = usize::from(rest[1]) * UNIT;
+    ((size != 0) & (size <= rest.len())).then_some(size)
 }
 
 // The lifetime of the first option, 0 if it has none.
@@ -78,27 +78,12 @@ fn counts(lifetime: u32) -> bool
     (lifetime != 0) & (lifetime != INFINITE)
 }
 
-fn smaller(a: u32, b: u32) -> u32
-    ensures { result ≡ min a b }
-{
-    if a < b { a } else { b }
-}
-
-fn larger(a: u32, b: u32) -> u32
-    ensures { result ≡ max a b }
-{
-    if a < b { b } else { a }
-}
-
 // The smallest lifetime once another one is known.
 fn shorter(smallest: Option<u32>, lifetime: u32) -> Option<u32>
     ensures { result ≡ shorter_of smallest lifetime }
 {
     if counts(lifetime) {
-        match smallest {
-            Some(seconds) => Some(smaller(seconds, lifetime)),
-            None => Some(lifetime),
-        }
+        Some(smallest.map_or(lifetime, |seconds| seconds.min(lifetime)))
     } else {
         smallest
     }
@@ -130,25 +115,20 @@ struct Walked {
     found: Found,
 }
 
-// At most so many options of the rest of the message: a call for each option.
+// At most so many options of the rest of the message. The rules want a call for each option (R21.7).
 fn walk(rest: &[u8], most: usize, found: Found) -> Walked
     ensures { result ≡ walked_of most rest.now found }
 {
-    if most == 0 {
-        return Walked {
-            left: rest.len(),
-            found,
-        };
+    if 0 < most {
+        if let Some(size) = option_size(rest) {
+            let next = with_option(found, rest);
+            return walk(&rest[size..], most - 1, next);
+        }
     }
-    let size = option_size(rest);
-    if size == 0 {
-        return Walked {
-            left: rest.len(),
-            found,
-        };
+    Walked {
+        left: rest.len(),
+        found,
     }
-    let next = with_option(found, rest);
-    walk(&rest[size..], most - 1, next)
 }
 
 // All options, with what is found before them: walk after walk, while there is an option at `at`.
@@ -157,12 +137,12 @@ fn read(options: &[u8], before: Found) -> Options
 {
     let mut found = before;
     let mut at = 0;
-    let mut size = option_size(options);
-    while 0 < size {
+    let mut more = option_size(options).is_some();
+    while more {
         let walked = walk(&options[at..], MOST, found);
         at = options.len() - walked.left;
         found = walked.found;
-        size = option_size(&options[at..]);
+        more = option_size(&options[at..]).is_some();
     }
     let smallest = found.smallest;
     Options {
@@ -180,8 +160,7 @@ pub fn options_whole(options: &[u8]) -> bool
         smallest: None,
         source_link_layer: false,
     };
-    let all = read(options, before);
-    all.whole
+    read(options, before).whole
 }
 
 // What the options say, the router's own lifetime being one of the lifetimes.
@@ -189,25 +168,26 @@ pub fn options_read(router: u16, options: &[u8]) -> Options
     ensures { result ≡ options_read_of router options.now }
 {
     let before = Found {
-        smallest: shorter(None, router as u32),
+        smallest: shorter(None, u32::from(router)),
         source_link_layer: false,
     };
     read(options, before)
 }
 
 // For how many seconds the router is not asked again.
+#[tactic(auto, unfolding(crate::specs::Lifetimes::delay_of))]
 fn delay(interval: u16, smallest: Option<u32>) -> u32
     ensures { result ≡ delay_of interval smallest }
 {
-    match smallest {
-        Some(seconds) => larger(interval as u32, seconds / 2),
-        None => WITHOUT_LIFETIME,
-    }
+    smallest.map_or(
+        WITHOUT_LIFETIME,
+        |seconds| u32::from(interval).max(seconds / 2),
+    )
 }
 
 // When the router is due again.
 pub fn due_after(now: u32, interval: u16, smallest: Option<u32>) -> u64
     ensures { result ≡ due_after now interval smallest }
 {
-    now as u64 + delay(interval, smallest) as u64
+    u64::from(now) + u64::from(delay(interval, smallest))
 }

@@ -1,27 +1,21 @@
 -- `options::option_size`: by its tests.
-use borrow.Author.Tests.{le-leb, lt-leb}
+use mathlib.Core.Path.{◌∙◌}
 use native.Mathlib.Omega.{arith}
 use Prim.Native.Nat.{◌*◌}
+use lib.Dec.{leb}
 use lib.ListN.{length, get_or}
 use Rattle.options.specs.Options.{unit_bytes, option_size}
-use Rattle.options.proofs.Sizes.{size-short}
+use Rattle.options.proofs.Sizes.{size-short, sized}
 use Rattle.options.proofs.option_size.Goals as goal
 
 pub returns-then-rest-lt2 : goal.returns-then-rest-lt2
-returns-then-rest-lt2 c = size-short _ c.if-rest-lt2.true
-
-pub overflow_cast-size : goal.overflow_cast-size
-overflow_cast-size c = omega (arith, c.type_inv.rest 1)
+returns-then-rest-lt2 c = rw (← size-short _ c.if-rest-lt2.true)
 
 pub overflow_mul-size : goal.overflow_mul-size
-overflow_mul-size c = omega (arith, c.type_inv.rest 1)
+overflow_mul-size c = omega (arith, c.from-size.ensures, c.type_inv.rest 1)
 
-pub returns-then-size-rest : goal.returns-then-size-rest
+pub returns : goal.returns
 unfolding option_size
-returns-then-size-rest c = let bs = c.args.rest.now in
-    rw (le-leb (get_or bs 1 0 * unit_bytes) (length bs) c.if-size-rest.true)
-
-pub returns-else-size-rest : goal.returns-else-size-rest
-unfolding option_size
-returns-else-size-rest c = let bs = c.args.rest.now in
-    rw (lt-leb (get_or bs 1 0 * unit_bytes) (length bs) c.if-size-rest.false)
+returns c = let bs = c.args.rest.now in
+    let n = get_or bs 1 0 * unit_bytes in
+    c.then_some.ensures ∙ rw c.from-size.ensures (sized n (leb n (length bs)))

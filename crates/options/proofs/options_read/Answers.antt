@@ -10,4 +10,4 @@ use Rattle.options.proofs.options_read.Goals as goal
 pub returns : goal.returns
 returns c = let a = c.args in
     c.read.ensures
-    ∙ rw (c.shorter.ensures, shorter-counted None a.router (map lifetime_of (options_of a.options.now)))
+    ∙ rw (c.shorter.ensures, c.from.ensures, shorter-counted None a.router (map lifetime_of (options_of a.options.now)))
