@@ -210,12 +210,10 @@ pub fn heard(
     let latest = latest.max(time);
     let there = numbered::there(both, service);
     let judged = hear::judged_by(there, named, latest, packet);
-    let given = judged.answer;
-    let due = judged.due;
     RouterStep {
-        answer: answers::plain_heard(given),
+        answer: answers::plain_heard(judged.map(|router| router.address)),
         latest,
-        rescheduled: given.ok().map(|address| Router { address, due }),
+        rescheduled: judged.ok(),
     }
 }
 

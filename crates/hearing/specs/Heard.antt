@@ -12,11 +12,11 @@ use Rattle.messages.specs.Icmp.{advertisement_type}
 use Rattle.options.specs.Lifetimes.{options_read_of, due_after}
 use Rattle.options.specs.declared.Options.{Options}
 use Rattle.routers.specs.Routers.{live, listed, rescheduled_of}
+use Rattle.routers.specs.declared.Router.{Router}
 use Rattle.routers.specs.declared.RouterList.{RouterList}
 use Rattle.settings.specs.Settings.{embedded_to}
 use Rattle.settings.specs.declared.Settings.{Settings}
 use Rattle.hearing.specs.Message.{message_of, is_sum_right, has_fields, is_valid_message}
-use Rattle.hearing.specs.declared.Judged.{Judged}
 use Rattle.hearing.specs.declared.Heard.{Heard}
 
 -- ICMPv6 length at least 16: the options start there (RFC 4861, 4.2)
@@ -44,13 +44,10 @@ abbrev pub heard_as : Result ℕ Refusal → ℕ → RouterList → Heard
 heard_as (Ok a) due routers = record { answer = Ok a; routers = rescheduled_of a due routers }
 heard_as (Err refusal) due routers = refused_by refusal routers
 
--- what was judged of a packet, and the router list after it
-abbrev pub heard_with : Judged → RouterList → Heard
-heard_with j routers = heard_as j.answer j.due routers
-
--- what is judged of a packet that is refused
-abbrev pub judged_by : Refusal → Judged
-judged_by refusal = record { answer = Err refusal; due = 0 }
+-- what was judged of a packet, and the router list after it: the router whose advertisement is accepted is due then
+abbrev pub heard_with : Result Router Refusal → RouterList → Heard
+heard_with (Ok router) routers = heard_as (Ok router.address) router.due routers
+heard_with (Err refusal) routers = refused_by refusal routers
 
 -- 21: the source embeds no listed router; else the answer is that router, and its due time is set
 abbrev pub heard_of_router : Option ℕ → RouterList → ℕ → Heard

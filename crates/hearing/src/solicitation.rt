@@ -1,10 +1,9 @@
 // Router solicitations.
-ghost use Rattle.std.specs.Prelude.{◌≡◌, ◌≤◌, length};
+ghost use Rattle.std.specs.Prelude.{◌≡◌};
 ghost use Rattle.hearing.specs.Solicitation.{are_options_allowed, is_valid_solicitation, is_solicitation};
 
-use super::message;
-use header::inner::Inner;
-use header::{INNER_HEADER, fields, inner};
+use super::message::Packet;
+use header::{INNER_HEADER, fields};
 use messages::ROUTER_SOLICITATION;
 
 // Where the options of a solicitation start (RFC 4861, 4.1).
@@ -20,16 +19,13 @@ fn options_allowed(source: [u8; 16], p: &[u8]) -> bool
     read.whole & !(address::unspecified(source) & read.source_link_layer)
 }
 
-// Whether a packet with the header i is a valid router solicitation. The checksum and the options, which take a pass over all bytes each,
-// are asked last.
-fn valid_solicitation(i: Inner, p: &[u8]) -> bool
-    requires { (40 ≤ length p.now) × (length p.now ≤ 65575) }
-    ensures { result ≡ is_valid_solicitation i p.now }
+// Whether a packet is a valid router solicitation. The checksum and the options, which take a pass over all bytes each, are asked last.
+fn valid_solicitation(p: Packet) -> bool
+    ensures { result ≡ is_valid_solicitation p.entry.header p.entry.bytes.now }
 {
-    let source = i.source;
-    if message::fields_right(ROUTER_SOLICITATION, OPTIONS, i, p) {
-        if message::sum_right(p) {
-            return options_allowed(source, p);
+    if p.fields_right(ROUTER_SOLICITATION, OPTIONS) {
+        if p.sum_right() {
+            return options_allowed(p.header.source, p.bytes);
         }
     }
     false
@@ -39,10 +35,8 @@ fn valid_solicitation(i: Inner, p: &[u8]) -> bool
 pub fn solicitation(packet: &[u8]) -> bool
     ensures { result ≡ is_solicitation packet.now }
 {
-    let i = inner::inner_header(packet);
-    if inner::inner_malformed(packet.len(), i) {
-        return false;
+    match Packet::of(packet) {
+        Some(p) => valid_solicitation(p),
+        None => false,
     }
-    let end = i.length;
-    valid_solicitation(i, &packet[..end])
 }

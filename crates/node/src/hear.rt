@@ -4,8 +4,8 @@ ghost use Rattle.hearing.specs.Heard.{heard_with};
 ghost use Rattle.node.specs.Hear.{heard_by, hear_of};
 
 use super::{Node, Service, ServiceName};
-use hearing::Judged;
 use refusals::Refusal;
+use routers::Router;
 
 #[derive(Clone, Copy)]
 pub struct Heard {
@@ -15,7 +15,7 @@ pub struct Heard {
 
 // What a service judges of it at the latest time, of which the router list afterwards follows; 11 where the node has none such.
 #[tactic(auto, unfolding(crate::specs::Hear::heard_by))]
-pub fn judged_by(there: bool, service: Service, latest: u32, packet: &[u8]) -> Judged
+pub fn judged_by(there: bool, service: Service, latest: u32, packet: &[u8]) -> Result<Router, Refusal>
     ensures { heard_with result service.routers ≡ heard_by there service latest packet.now }
 {
     if there {
@@ -23,10 +23,7 @@ pub fn judged_by(there: bool, service: Service, latest: u32, packet: &[u8]) -> J
         let routers = service.routers;
         hearing::judge(settings, routers, latest, packet)
     } else {
-        Judged {
-            answer: Err(Refusal::NoLocator),
-            due: 0,
-        }
+        Err(Refusal::NoLocator)
     }
 }
 

@@ -21,17 +21,17 @@ other i p n = rw (ne_eqb i.next icmpv6 n) (go (is_link_local i.source) (is_sum_r
     go true s = refl
     go false s = refl
 
-pub returns-then-i-ne-ICMPV6 : goal.returns-then-i-ne-ICMPV6
-returns-then-i-ne-ICMPV6 c = let a = c.args in other a.i a.p.now c.if-i-ne-ICMPV6.true
+pub returns-then-p-ne-ICMPV6 : goal.returns-then-p-ne-ICMPV6
+returns-then-p-ne-ICMPV6 c = let a = c.args in other a.p.header a.p.bytes.now c.if-p-ne-ICMPV6.true
 
 pub returns-then-link_local_prefixed-fields_right : goal.returns-then-link_local_prefixed-fields_right
 unfolding is_advertisement
 returns-then-link_local_prefixed-fields_right c = let tested : (let a = c.args in
-    (c.link_local_prefixed.result && c.fields_right.result) ≡ (is_link_local a.i.source && has_fields advertisement_type options_start a.i a.p.now)) = (rw (c.fields_right.ensures, c.link_local_prefixed.ensures)) in
+    (c.link_local_prefixed.result && c.fields_right.result) ≡ (is_link_local a.p.header.source && has_fields advertisement_type options_start a.p.header a.p.bytes.now)) = (rw (c.fields_right.ensures, c.link_local_prefixed.ensures)) in
     rw (sym tested ∙ c.if-link_local_prefixed-fields_right.true) c.sum_right.ensures
 
 pub returns-else-link_local_prefixed-fields_right : goal.returns-else-link_local_prefixed-fields_right
 unfolding is_advertisement
 returns-else-link_local_prefixed-fields_right c = let tested : (let a = c.args in
-    (c.link_local_prefixed.result && c.fields_right.result) ≡ (is_link_local a.i.source && has_fields advertisement_type options_start a.i a.p.now)) = (rw (c.fields_right.ensures, c.link_local_prefixed.ensures)) in
+    (c.link_local_prefixed.result && c.fields_right.result) ≡ (is_link_local a.p.header.source && has_fields advertisement_type options_start a.p.header a.p.bytes.now)) = (rw (c.fields_right.ensures, c.link_local_prefixed.ensures)) in
     rw (sym tested ∙ c.if-link_local_prefixed-fields_right.false)

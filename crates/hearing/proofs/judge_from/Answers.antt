@@ -1,19 +1,17 @@
--- `hearing::judge_from` meets its contract: by cases on what the source embeds, and on whether that is listed.
-use mathlib.Core.Path.{sym, ◌∙◌}
+-- `hearing::judge_from` meets its contract: what the source embeds, and whether that is listed.
+use Rattle.std.proofs.Common.{rules}
 use Rattle.settings.specs.Settings.{embedded_to}
 use Rattle.hearing.specs.Heard.{heard_from}
 use Rattle.hearing.proofs.judge_from.Goals as goal
 
-pub returns-then-lists : goal.returns-then-lists
+pub returns-in_err-address : goal.returns-in_err-address
 unfolding heard_from embedded_to
-returns-then-lists c = let in_list = sym c.lists.ensures ∙ c.if-lists.true in
-    rw (← c.rows.ensures, ← c.isatap-found.ensures, c.in-Some.is, in_list, c.due_after-due.ensures)
+returns-in_err-address c = search rules
 
-pub returns-else-lists : goal.returns-else-lists
+pub returns-then-not-lists : goal.returns-then-not-lists
 unfolding heard_from embedded_to
-returns-else-lists c = let out = sym c.lists.ensures ∙ c.if-lists.false in
-    rw (← c.rows.ensures, ← c.isatap-found.ensures, c.in-Some.is, out, c.refused.ensures)
+returns-then-not-lists c = search rules
 
-pub returns-in-None : goal.returns-in-None
+pub returns : goal.returns
 unfolding heard_from embedded_to
-returns-in-None c = rw (← c.rows.ensures, ← c.isatap-found.ensures, c.in-None.is, c.refused-in-None.ensures)
+returns c = search rules

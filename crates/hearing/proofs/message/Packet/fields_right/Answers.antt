@@ -1,6 +1,6 @@
--- `hearing::message::fields_right` meets its contract.
+-- `hearing::message::Packet::fields_right` meets its contract.
 use Rattle.hearing.specs.Message.{has_fields}
-use Rattle.hearing.proofs.message.fields_right.Goals as goal
+use Rattle.hearing.proofs.message.Packet.fields_right.Goals as goal
 
 pub returns : goal.returns
 unfolding has_fields
