@@ -1,5 +1,6 @@
 // Text written into a lent slice: each function writes from the index at on and gives the index behind what it wrote;
-// where it does not fit, nothing is written and at is given back.
+// where it does not fit, nothing is written and at is given back. Slice and index are no struct with methods: tried, and its clauses did
+// not tie what a method wrote to the slice that was lent.
 #![tactic(auto)]
 
 pub mod digests;
