@@ -45,11 +45,11 @@ fn decimal_digits(n: u64) -> Digits
     let mut start: usize = 19;
     let mut rest = n;
     while 10 <= rest {
-        bytes[start] = 48 + (rest % 10) as u8;
+        bytes[start] = b'0' + (rest % 10) as u8;
         rest = rest / 10;
         start -= 1;
     }
-    bytes[start] = 48 + rest as u8;
+    bytes[start] = b'0' + rest as u8;
     Digits { bytes, start }
 }
 
@@ -58,9 +58,7 @@ pub fn put_decimal(n: u64, out: &mut [u8], at: usize) -> usize
     ensures value { result ≡ behind at (decimal n) out.old }
     ensures out_after { out.new ≡ written_at at (decimal n) out.old }
 {
-    let d = decimal_digits(n);
-    let bytes = d.bytes;
-    let start = d.start;
+    let Digits { bytes, start } = decimal_digits(n);
     put(&bytes[start..], out, at)
 }
 
@@ -69,7 +67,11 @@ fn hex_digit(n: u32) -> u8
     ensures { result ≡ hex_digit n }
 {
     let digit = (n % 16) as u8;
-    if digit < 10 { 48 + digit } else { 87 + digit }
+    if digit < 10 {
+        b'0' + digit
+    } else {
+        b'a' - 10 + digit
+    }
 }
 
 // The eight hexadecimal digits of a number.
