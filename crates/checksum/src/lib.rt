@@ -123,6 +123,7 @@ pub fn right_words(words: u32) -> bool
 }
 
 // Whether the checksum that s holds is right, the sum continued from a start value.
+#[tactic(auto, unfolding(crate::specs::Sum::is_right_from))]
 pub fn right_from(start: u32, s: &[u8]) -> bool
     ensures { result ≡ is_right_from start s.now }
 {

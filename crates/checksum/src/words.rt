@@ -117,6 +117,7 @@ fn pair(s: &[u8], i: usize) -> u16
 }
 
 // The sum of the high bytes: that of the exchanged words less 256 times that of the low bytes, modulo 65536, where 65280 is -256.
+#[tactic(auto, unfolding(crate::specs::Words::high_sum))]
 fn high_sum(exchanged: u16, low: u16) -> u32
     ensures { result ≡ high_sum exchanged low }
 {
