@@ -18,7 +18,7 @@ fn row(flat: [u8; 64], k: usize) -> [u8; 8]
     ]
 }
 
-// The 64 bytes as eight prefixes of eight.
+// The 64 bytes as eight prefixes of eight, written out: so no more rows are made than are asked for.
 pub fn rows(flat: [u8; 64]) -> [[u8; 8]; 8]
     ensures { result ≡ rows_of flat }
 {

@@ -6,7 +6,7 @@ ghost use Rattle.header.specs.Walks.{passed_length, some_length, walked_of};
 
 use crate::{ICMPV6, fields};
 
-// The extension headers that are followed.
+// The extension headers that are followed. They are bytes of a packet, and stay so: an enum would be made of one only to be asked for its number.
 const HOP_BY_HOP: u8 = 0;
 
 const ROUTING: u8 = 43;

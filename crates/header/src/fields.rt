@@ -90,7 +90,7 @@ pub(crate) fn reversed_in(d: &[u8], i: usize) -> u32
     address::quad(d[i + 3], d[i + 2], d[i + 1], d[i])
 }
 
-// The 16 bytes at k, as four numbers.
+// The 16 bytes at k, as four numbers: made of the bytes of `address` they take a fifth more instructions to be asked.
 pub fn quads(d: &[u8], k: usize) -> Quads
     ensures value { result ≡ quads_of (address_at d.now k) }
     ensures result_value { bytes_in result ≡ address_at d.now k }

@@ -10,18 +10,6 @@ returns-then-not-packet_fits c = let a = c.args in
     let m = a.m in
     sym (enclosed-not m.hop m.from m.to m.kind m.four a.n a.out.now (sym c.packet_fits.ensures ∙ c.if-not-packet_fits.true))
 
-pub overflow_sub-n : goal.overflow_sub-n
-overflow_sub-n c = let f = fits c.args.n (length c.args.out.now) c.packet_fits.ensures c.if-not-packet_fits.false in omega arith
-
-pub overflow_cast-n : goal.overflow_cast-n
-overflow_cast-n c = let f = fits c.args.n (length c.args.out.now) c.packet_fits.ensures c.if-not-packet_fits.false in omega arith
-
-pub write_ipv6_header-requires : goal.write_ipv6_header-requires
-write_ipv6_header-requires c = let f = fits c.args.n (length c.args.out.now) c.packet_fits.ensures c.if-not-packet_fits.false in omega arith
-
-pub seal-requires : goal.seal-requires
-seal-requires c = let f = fits c.args.n (length c.args.out.now) c.packet_fits.ensures c.if-not-packet_fits.false in (omega arith, omega arith, omega arith)
-
 pub returns : goal.returns
 returns c = let a = c.args in
     let m = a.m in

@@ -5,7 +5,7 @@ use Rattle.messages.specs.Sealed.{sealed}
 use Rattle.messages.proofs.SealedLaws.{one_pass}
 use Prim.Native.Nat.{ℕ}
 use mathlib.Core.Path.{◌≡◌, sym, ap, ◌∙◌}
-use mathlib.Core.List.{[], ◌∷◌, ◌++◌}
+use mathlib.Core.List.{◌++◌}
 use lib.ListN.{length, take, drop, take-append-drop}
 use lib.Seq.{length-take-le}
 use Rattle.checksum.proofs.Bytes.{bytes_of}

@@ -28,9 +28,6 @@ returns-then-out-quoted c = let stop = too_big_short (length c.args.packet.now) 
   out_after = rw stop;
 }
 
-pub slice_bounds-write_at-end : goal.slice_bounds-write_at-end
-slice_bounds-write_at-end c = simp length-take (omega arith)
-
 pub returns : goal.returns
 unfolding too_big_answer too_big_output too_big_of
 returns c = let a = c.args in

@@ -29,9 +29,6 @@ module _ (most at next : ℕ) (bs : List ℕ) (r : Walked) (is : r ≡ walked_of
   on : at ≤ length bs → chain_may_draw next (drop at bs) ≡ chain_may_draw r.next (drop (length bs - r.left) bs)
   on within = turn_on passed_length next_in passed-fits chain_may_draw passed_on most at bs next within (r.next, r.left) came
 
-pub loop-more-init : goal.loop-more-init
-loop-more-init c = (omega arith, rw (c.is_some-more.ensures, c.passed_length.ensures), cc)
-
 pub overflow_sub-at : goal.overflow_sub-at
 overflow_sub-at c = let bs = c.args.payload.now in
     let few = left _ c.loop-more.at c.loop-more.next bs c.walk-walked.result c.walk-walked.ensures in

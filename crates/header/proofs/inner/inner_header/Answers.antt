@@ -8,6 +8,3 @@ use Rattle.header.proofs.inner.inner_header.Goals as goal
 pub returns-then-p-lt-INNER_HEADER : goal.returns-then-p-lt-INNER_HEADER
 unfolding inner_of word_at address_at
 returns-then-p-lt-INNER_HEADER c = c.full_header.ensures ∙ rw c.padded.ensures (simp get_or-drop)
-
-pub returns-else-p-lt-INNER_HEADER : goal.returns-else-p-lt-INNER_HEADER
-returns-else-p-lt-INNER_HEADER c = c.full_header-else-p-lt-INNER_HEADER.ensures

@@ -7,6 +7,3 @@ use Rattle.header.proofs.outer.outer_header.Goals as goal
 pub returns-then-d-lt-OUTER_HEADER : goal.returns-then-d-lt-OUTER_HEADER
 unfolding outer_of word_at quad_at
 returns-then-d-lt-OUTER_HEADER c = c.full_header.ensures ∙ rw c.padded.ensures
-
-pub returns-else-d-lt-OUTER_HEADER : goal.returns-else-d-lt-OUTER_HEADER
-returns-else-d-lt-OUTER_HEADER c = c.full_header-else-d-lt-OUTER_HEADER.ensures

@@ -8,9 +8,6 @@ pub returns-then-d-lt-OUTER_HEADER : goal.returns-then-d-lt-OUTER_HEADER
 unfolding header_read_of header_check is_outer_malformed
 returns-then-d-lt-OUTER_HEADER c = simp (lt-ltb _ _ c.if-d-lt-OUTER_HEADER.true)
 
-pub check_read-requires : goal.check_read-requires
-check_read-requires c = c.full_header-o.ensures
-
 pub returns-in_err-check_read : goal.returns-in_err-check_read
 unfolding header_read_of
 returns-in_err-check_read c = let given = err_from_is_err_and c.from_residual.result c.from_residual.ensures.1 in

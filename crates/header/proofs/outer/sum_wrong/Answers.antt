@@ -14,10 +14,6 @@ use Rattle.header.specs.Numbers.{outer_header}
 use Rattle.header.specs.Outer.{is_sum_wrong}
 use Rattle.header.proofs.outer.sum_wrong.Goals as goal
 
-pub ten_words-requires : goal.ten_words-requires
-ten_words-requires c = let a = c.args in
-    leb-true _ _ (and_right (eqb a.o.header outer_header) (leb outer_header (length a.d.now)) c.if-o-d.true)
-
 pub returns-then-o-d : goal.returns-then-o-d
 unfolding is_sum_wrong
 returns-then-o-d c = let a = c.args in
