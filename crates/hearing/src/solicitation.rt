@@ -23,12 +23,9 @@ fn options_allowed(source: [u8; 16], p: &[u8]) -> bool
 fn valid_solicitation(p: Packet) -> bool
     ensures { result ≡ is_valid_solicitation p.entry.header p.entry.bytes.now }
 {
-    if p.fields_right(ROUTER_SOLICITATION, OPTIONS) {
-        if p.sum_right() {
-            return options_allowed(p.header.source, p.bytes);
-        }
-    }
-    false
+    p.fields_right(ROUTER_SOLICITATION, OPTIONS)
+        && p.sum_right()
+        && options_allowed(p.header.source, p.bytes)
 }
 
 // Whether the inner packet at the start of the bytes is a valid router solicitation; bytes behind it are passed over.
