@@ -125,18 +125,16 @@ pub fn advertisement_from(a: Advertisement) -> advertisements::Advertisement
 {
     let given_prefixes = a.prefixes;
     let given_routes = a.routes;
-    let p = lists::least(a.prefix_count, MOST);
-    let n = p + lists::least(a.route_count, MOST);
+    let p = a.prefix_count.min(MOST);
+    let n = p + a.route_count.min(MOST);
     let mut prefixes = [no_prefix(); MOST];
     let mut routes = [no_route(); MOST];
-    let mut i: usize = 0;
-    while i < n {
+    for i in 0..n {
         if i < p {
             prefixes[i] = prefix_from(given_prefixes[i]);
         } else {
             routes[i - p] = route_from(given_routes[i - p]);
         }
-        i += 1;
     }
     advertisements::Advertisement {
         managed: 0 < a.managed,

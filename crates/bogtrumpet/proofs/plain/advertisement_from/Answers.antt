@@ -8,14 +8,14 @@ use Rattle.bogtrumpet.proofs.plain.advertisement_from.Goals.{then-i-p, else-i-p}
 pub loop-i-init : goal.loop-i-init
 loop-i-init c = (
   omega arith,
-  firsts_start prefix_from no_prefix c.args.a.prefixes c.no_prefix-prefixes.result (min 0 c.least-p.result) c.no_prefix-prefixes.ensures (omega arith),
-  firsts_start route_from no_route c.args.a.routes c.no_route-routes.result (0 - c.least-p.result) c.no_route-routes.ensures (omega arith),
+  firsts_start prefix_from no_prefix c.args.a.prefixes c.no_prefix-prefixes.result (min 0 c.min-p.result) c.no_prefix-prefixes.ensures (omega arith),
+  firsts_start route_from no_route c.args.a.routes c.no_route-routes.result (0 - c.min-p.result) c.no_route-routes.ensures (omega arith),
 )
 
 pub loop-i-preserved : goal.loop-i-preserved
 loop-i-preserved c =
     let a = c.args.a in
-    let p = c.least-p.result in
+    let p = c.min-p.result in
     let l = c.loop-i in
     let all_prefixes : length a.prefixes ≡ 8 = search rules in
     let all_routes : length a.routes ≡ 8 = search rules in
@@ -38,7 +38,7 @@ pub returns : goal.returns
 unfolding advertisement_from
 returns c =
     let a = c.args.a in
-    let p = c.least-p.result in
+    let p = c.min-p.result in
     let l = c.loop-i in
     let all_prefixes : length a.prefixes ≡ 8 = search rules in
     let all_routes : length a.routes ≡ 8 = search rules in

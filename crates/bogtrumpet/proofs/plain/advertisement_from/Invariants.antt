@@ -9,6 +9,3 @@ invariant-loop-i l =
     (l.i ≤ l.n)
     × Firsts prefix_from no_prefix l.given_prefixes (min l.i l.p) l.prefixes
     × Firsts route_from no_route l.given_routes (l.i - l.p) l.routes
-
-abbrev pub decreases-loop-i : goal.decreases-loop-i
-decreases-loop-i l = l.n - l.i
