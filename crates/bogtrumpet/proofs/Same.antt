@@ -4,7 +4,7 @@
 --     gathered-same, absent-same     what receiving gathers changes one place, or none.        received-same     with the latest time it is the node's
 --     sent-same        a sending over a path of the size toward the tunnel end is the node's
 --     asked-same, heard-same, replaced-same     these change the router list of their service and the latest time alone.        advertised-same     advertising
-use Rattle.std.specs.Prelude.{Result, Ok, Err, None, IfSome}
+use Rattle.std.specs.Prelude.{Result, Ok, Err, Option, Some, None, IfSome}
 use mathlib.Core.Path.{◌≡◌, refl, ap, ◌∙◌}
 use Prim.Native.Nat.{ℕ, max, ◌<◌}
 use mathlib.Core.Bool.{Bool, true, false, cond}
@@ -30,6 +30,7 @@ use Rattle.pieces.specs.declared.Place.{Place}
 use Rattle.receiving.specs.Collect.{Collected, collected_of}
 use Rattle.receiving.specs.Stages.{judged_of, judged_or, judged_with}
 use Rattle.receiving.specs.declared.collect.Gathered.{Gathered}
+use Rattle.receiving.specs.declared.judging.Opening.{Opening}
 use Rattle.receiving.specs.declared.judging.Stage.{Stage}
 use Rattle.node.specs.Advertise.{advertised_by, advertised_through, advertise_of, advertise_output}
 use Rattle.node.specs.Ask.{asked_by, asked_through, ask_of, ask_output}
@@ -44,7 +45,7 @@ use Rattle.node.specs.declared.Service.{Service}
 use Rattle.node.specs.declared.ServiceName.{ServiceName}
 use Rattle.node.specs.declared.ServiceName.TheVariants.{First, Second}
 use Rattle.bogtrumpet.specs.Answers.{plain_received, plain_sized, plain_sent, plain_asked, plain_heard, plain_advertised}
-use Rattle.bogtrumpet.specs.Gathered.{plain_stage, plain_judged, judged_step, gathered_after, GatheredAs}
+use Rattle.bogtrumpet.specs.Gathered.{plain_open, plain_stage, plain_judged, judged_step, gathered_after, GatheredAs}
 use Rattle.bogtrumpet.specs.Numbered.{by_number, name_of, is_there}
 use Rattle.bogtrumpet.specs.Steps.{sent_step, sent_after, sized_step, replaced_step, list_after, AskedAs, HeardAs}
 use Rattle.bogtrumpet.specs.declared.answers.Asked.{Asked}
@@ -99,7 +100,12 @@ module _ (h : Node) (k : ℕ) (p hop : List ℕ) (locator t : ℕ) (out : List �
 
 -- what is read comes to the same with a refusal's number for it
 plain_judged_lem : (s : Settings) (routers : List Router) (x : Result Stage Refusal) → plain_judged s routers (plain_stage x) ≡ plain_received (judged_or s routers x)
-plain_judged_lem s routers (Ok x) = refl
+unfolding judged_of
+plain_judged_lem s routers (Ok x) = go x.open
+  where
+    go : (o : Option Opening) → plain_judged s routers (plain_open x.received o) ≡ plain_received (judged_of s routers (record { received = x.received; «open» = o }))
+    go (Some y) = refl
+    go None = refl
 plain_judged_lem s routers (Err r) = refl
 
 -- what is gathered, with one place changed or none, says all that is asked of receiving

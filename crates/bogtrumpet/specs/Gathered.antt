@@ -7,22 +7,32 @@ use Rattle.routers.specs.declared.Router.{Router}
 use Rattle.settings.specs.declared.Settings.{Settings}
 use Rattle.pieces.specs.Places.{places}
 use Rattle.receiving.specs.Stages.{judged_of, collected_after}
+use Rattle.receiving.specs.declared.Received as receiving
+use Rattle.receiving.specs.declared.judging.Opening.{Opening}
 use Rattle.receiving.specs.declared.judging.Stage.{Stage}
 use Rattle.node.specs.Receive.{with_pieces, collected_by}
 use Rattle.node.specs.declared.Service.{Service}
 use Rattle.bogtrumpet.specs.Answers.{plain_received}
 use Rattle.bogtrumpet.specs.declared.answers.Received.{Received}
 use Rattle.bogtrumpet.specs.declared.steps.GatheredStep.{GatheredStep}
+use Rattle.bogtrumpet.specs.declared.steps.PlainStage.{PlainStage}
+use Rattle.bogtrumpet.specs.declared.steps.PlainStage.TheVariants.{Open, Passed, Refused}
+
+-- what is to be judged, if anything is, before it is said where the packet stands
+abbrev pub plain_open : receiving.Received → Option Opening → PlainStage
+plain_open p (Some x) = Open p x
+plain_open p None = Passed p
 
 -- what is read, with its number for a refusal
-abbrev pub plain_stage : Result Stage Refusal → Result Stage ℕ
-plain_stage (Ok x) = Ok x
-plain_stage (Err r) = Err (number_of r)
+abbrev pub plain_stage : Result Stage Refusal → PlainStage
+plain_stage (Ok x) = plain_open x.received x.open
+plain_stage (Err r) = Refused (number_of r)
 
 -- the plain answer to what is read, by settings and routers
-abbrev pub plain_judged : Settings → List Router → Result Stage ℕ → Received
-plain_judged s routers (Ok x) = plain_received (judged_of s routers x)
-plain_judged s routers (Err n) = record { number = n; joined = false; offset = 0; length = 0 }
+abbrev pub plain_judged : Settings → List Router → PlainStage → Received
+plain_judged s routers (Open p x) = plain_received (judged_of s routers (record { received = p; «open» = Some x }))
+plain_judged s routers (Passed p) = plain_received (Ok p)
+plain_judged s routers (Refused n) = record { number = n; joined = false; offset = 0; length = 0 }
 
 -- the same of a step, by the settings and the router list of a service
 unfoldable pub judged_step : Service → GatheredStep → Received
