@@ -7,7 +7,7 @@ mod lines;
 
 use given::{Input, Space};
 use input::section;
-use streams::waiting;
+use std::io;
 
 fn main(rt: HostRuntime) {
     let mut bytes = [0; given::LIMIT + 1];
@@ -17,30 +17,27 @@ fn main(rt: HostRuntime) {
 
 // Here the two are so many bytes, whatever they hold: to a proof about main they are a list of them all.
 fn run(rt: &HostRuntime, bytes: &mut Input, space: &mut Space) {
-    let read = streams::read_all(&mut rt.stdin(), bytes);
-    if read.failed {
+    let Ok(count) = streams::read_all(&mut rt.stdin(), bytes) else {
         let _ = eprintln!(rt; "recordings: standard input could not be read");
         return;
+    };
+    if answer(rt, section::front(bytes, count), space).is_err() {
+        let _ = eprintln!(rt; "recordings: standard output could not be written");
     }
-    answer(rt, section::front(bytes, read.count), space);
 }
 
 // Compares the recordings of an input, with as much of the space for an output as it says.
-fn answer(rt: &HostRuntime, input: &[u8], space: &mut [u8]) {
+fn answer(rt: &HostRuntime, input: &[u8], space: &mut [u8]) -> io::Result<()> {
     if !given::good(input) {
-        waiting::write(rt, "recordings", b"bad input\n");
-        return;
+        return rt.write_all(b"bad input\n");
     }
-    let room = lists::least(given::room(input), space.len());
-    compare(rt, input, &mut space[..room]);
-}
-
-fn compare(rt: &HostRuntime, input: &[u8], out: &mut [u8]) {
+    let room = given::room(input).min(space.len());
+    let out = &mut space[..room];
     let answer = comparing::compare(
         given::masked(input),
         given::first(input),
         given::second(input),
         out,
     );
-    lines::write(rt, answer, out);
+    lines::write(rt, answer, out)
 }

@@ -1,13 +1,14 @@
 // The call that answers a solicitation. Its lists may be longer than what is held of the input, so each is read at its own place.
-ghost use Rattle.std.specs.Prelude.{◌≤◌};
+ghost use Rattle.std.specs.Prelude.{◌≤◌, ◌<◌, IfOk};
 
-use crate::spool;
-use crate::spool::{Spool, above};
-use crate::window::{Held, Window};
+use crate::spool::LIMIT;
+use crate::stop::Stop;
+use crate::window::Window;
 use advertisements::Advertisement;
 use advertisements::prefix::Prefix;
 use advertisements::route::{Preference, Route};
 use header::fields;
+use std::array;
 
 // The bytes of a prefix: length, flags, valid and preferred lifetime, and the prefix itself.
 const PREFIX: usize = 26;
@@ -21,181 +22,87 @@ const PREFIXES: usize = 8;
 // The most bytes that are read of a list: its count and eight prefixes.
 const LIST: usize = 210;
 
-// The index of each list and of the packet's length, and what is held of the input once they are known.
+// The index of each list and of the packet's length, and how many entries the lists say to have.
 #[derive(Clone, Copy)]
 struct Places {
     prefixes: usize,
-    routes: usize,
-    packet: usize,
-    held: Held,
-}
-
-// Whether the preferences are ones that there are.
-#[derive(Clone, Copy)]
-struct Seen {
-    known: bool,
-    held: Held,
-}
-
-// The bytes of a call, 0 where a preference is unknown.
-#[derive(Clone, Copy)]
-pub(crate) struct Sized {
-    pub(crate) size: usize,
-    pub(crate) held: Held,
-}
-
-// The numbers that stand first.
-#[derive(Clone, Copy)]
-struct Numbers {
-    service: u8,
-    locator: usize,
-    room: usize,
-    managed: bool,
-    other: bool,
-    lifetime: u16,
-}
-
-// The first entries of each list, and how many it says to have.
-#[derive(Clone, Copy)]
-struct Lists {
-    prefixes: [Prefix; 8],
     prefix_count: usize,
-    routes: [Route; 8],
+    routes: usize,
     route_count: usize,
-    held: Held,
+    packet: usize,
 }
 
 #[derive(Clone, Copy)]
 pub(crate) struct Answering {
-    pub(crate) service: u8,
     pub(crate) locator: usize,
     pub(crate) room: usize,
     pub(crate) advertisement: Advertisement,
-    // The index of the packet's length, and what is held of the input, the packet whole.
+    // The index of the packet's length.
     pub(crate) packet: usize,
-    pub(crate) held: Held,
 }
 
 // The places of the call at an index.
-fn places_of(start: Held, at: usize, spool: &Spool, window: &mut Window) -> Places
-    ensures { result.packet ≤ 4194304 }
+fn places_of(at: usize, window: &mut Window) -> Result<Places, Stop>
+    ensures { IfOk result (λ p. (p.routes ≤ 4194304) × (p.route_count ≤ 65535) × (p.packet ≤ 8388608)) }
 {
-    let prefixes = spool::inside(at) + PREFIXES;
-    let first = start.reaching(prefixes, 2, spool, window);
-    let count = fields::word(first.bytes(prefixes, window), 0);
-    let routes = prefixes + 2 + count as usize * PREFIX;
-    let held = first.reaching(routes, 2, spool, window);
-    let more = fields::word(held.bytes(routes, window), 0);
-    Places {
-        prefixes,
-        routes,
-        packet: routes + 2 + more as usize * ROUTE,
-        held,
-    }
-}
-
-// The bytes of the call at an index.
-pub(crate) fn size_at(start: Held, at: usize, spool: &Spool, window: &mut Window) -> Sized {
-    let places = places_of(start, at, spool, window);
-    let packet = places.packet;
-    let found = places.held;
-    let seen = preferences(found, places.routes, packet, spool, window);
-    let read = seen.held;
-    let held = read.reaching(packet, 2, spool, window);
-    let length = fields::word(held.bytes(packet, window), 0);
-    let size = if seen.known {
-        above(packet, at) + 2 + length as usize
-    } else {
-        0
-    };
-    Sized { size, held }
-}
-
-// Reads the preferences of the routes of the list at an index, behind which the packet's length stands.
-fn preferences(
-    start: Held,
-    routes: usize,
-    packet: usize,
-    spool: &Spool,
-    window: &mut Window,
-) -> Seen
-    requires { packet ≤ 4194304 }
-{
-    let mut held = start;
-    let mut at = spool::inside(routes) + 2;
-    while at < packet {
-        held = held.reaching(at, 2, spool, window);
-        if held.failed | (2 < fields::byte(held.bytes(at, window), 1)) {
-            return Seen { known: false, held };
-        }
-        at += ROUTE;
-    }
-    Seen { known: true, held }
-}
-
-// The call at an index, whose numbers are held, and all of which is there.
-pub(crate) fn read(start: Held, at: usize, spool: &Spool, window: &mut Window) -> Answering {
-    let numbers = numbers_of(start.bytes(at, window));
-    let places = places_of(start, at, spool, window);
-    let lists = lists_at(places, spool, window);
-    let packet = places.packet;
-    let listed = lists.held;
-    let held = listed.reaching_all(packet, spool, window);
-    let advertisement = advertisement(numbers, lists);
-    Answering {
-        service: numbers.service,
-        locator: numbers.locator,
-        room: numbers.room,
-        advertisement,
-        packet,
-        held,
-    }
-}
-
-fn numbers_of(head: &[u8]) -> Numbers {
-    let flags = fields::byte(head, 5);
-    Numbers {
-        service: fields::byte(head, 1),
-        locator: fields::byte(head, 2) as usize,
-        room: fields::word(head, 3) as usize,
-        managed: first_flag(flags),
-        other: second_flag(flags),
-        lifetime: fields::word(head, 6),
-    }
-}
-
-// The lists at their places.
-fn lists_at(places: Places, spool: &Spool, window: &mut Window) -> Lists {
-    let start = places.held;
-    let first = start.reaching(places.prefixes, LIST, spool, window);
-    let prefix_count = fields::word(first.bytes(places.prefixes, window), 0) as usize;
-    let prefixes = first_prefixes(first.bytes(places.prefixes, window));
-    let held = first.reaching(places.routes, LIST, spool, window);
-    let route_count = fields::word(held.bytes(places.routes, window), 0) as usize;
-    let routes = first_routes(held.bytes(places.routes, window));
-    Lists {
+    let prefixes = at.min(LIMIT + 1) + PREFIXES;
+    window.reach(prefixes, 2)?;
+    let prefix_count = window.word(prefixes);
+    let routes = prefixes + 2 + prefix_count * PREFIX;
+    window.reach(routes, 2)?;
+    let route_count = window.word(routes);
+    Ok(Places {
         prefixes,
         prefix_count,
         routes,
         route_count,
-        held,
-    }
+        packet: routes + 2 + route_count * ROUTE,
+    })
 }
 
-// What the operator sets. A count is handed over as it stands. Entries behind it are read from whatever follows: the node does not look
-// at them.
-fn advertisement(numbers: Numbers, lists: Lists) -> Advertisement {
-    let prefixes = lists.prefixes;
-    let routes = lists.routes;
-    Advertisement {
-        managed: numbers.managed,
-        other: numbers.other,
-        lifetime: numbers.lifetime,
-        prefixes,
-        prefix_count: lists.prefix_count,
-        routes,
-        route_count: lists.route_count,
+// The bytes of the call at an index, whose preferences are ones that there are.
+pub(crate) fn size_at(at: usize, window: &mut Window) -> Result<usize, Stop>
+    ensures { IfOk result (λ size. 0 < size) }
+{
+    let places = places_of(at, window)?;
+    for i in 0..places.route_count {
+        let route = places.routes + 2 + i * ROUTE;
+        window.reach(route, 2)?;
+        preference(fields::byte(window.bytes(route), 1))?;
     }
+    window.reach(places.packet, 2)?;
+    Ok(places.packet.saturating_sub(at) + 2 + window.word(places.packet))
+}
+
+// The call at an index, all of which is there.
+pub(crate) fn read(at: usize, window: &mut Window) -> Result<Answering, Stop> {
+    let places = places_of(at, window)?;
+    window.reach(at, PREFIXES)?;
+    let numbers = window.bytes(at);
+    let flags = fields::byte(numbers, 5);
+    let locator = fields::byte(numbers, 2) as usize;
+    let room = fields::word(numbers, 3) as usize;
+    let lifetime = fields::word(numbers, 6);
+    window.reach(places.prefixes, LIST)?;
+    let prefixes = first_prefixes(window.bytes(places.prefixes));
+    window.reach(places.routes, LIST)?;
+    let routes = first_routes(window.bytes(places.routes));
+    window.reach_all(places.packet)?;
+    let advertisement = Advertisement {
+        managed: first_flag(flags),
+        other: second_flag(flags),
+        lifetime,
+        prefixes,
+        prefix_count: places.prefix_count,
+        routes,
+        route_count: places.route_count,
+    };
+    Ok(Answering {
+        locator,
+        room,
+        advertisement,
+        packet: places.packet,
+    })
 }
 
 fn first_flag(flags: u8) -> bool {
@@ -206,22 +113,12 @@ fn second_flag(flags: u8) -> bool {
     64 <= flags % 128
 }
 
-// The first eight prefixes of a list.
-fn first_prefixes(s: &[u8]) -> [Prefix; 8] {
-    [
-        prefix(s, 0),
-        prefix(s, 1),
-        prefix(s, 2),
-        prefix(s, 3),
-        prefix(s, 4),
-        prefix(s, 5),
-        prefix(s, 6),
-        prefix(s, 7),
-    ]
+// The first eight prefixes of a list. Entries behind its count are read from whatever follows: the node does not look at them.
+fn first_prefixes(list: &[u8]) -> [Prefix; 8] {
+    array::from_fn(|i| prefix(fields::tail(list, 2 + i * PREFIX)))
 }
 
-fn prefix(s: &[u8], i: u8) -> Prefix {
-    let r = fields::tail(s, 2 + i as usize * PREFIX);
+fn prefix(r: &[u8]) -> Prefix {
     let flags = fields::byte(r, 1);
     Prefix {
         bytes: fields::address(r, 10),
@@ -233,35 +130,25 @@ fn prefix(s: &[u8], i: u8) -> Prefix {
     }
 }
 
-// The first eight routes of a list.
-fn first_routes(s: &[u8]) -> [Route; 8] {
-    [
-        route(s, 0),
-        route(s, 1),
-        route(s, 2),
-        route(s, 3),
-        route(s, 4),
-        route(s, 5),
-        route(s, 6),
-        route(s, 7),
-    ]
+// The first eight routes of a list, as with prefixes.
+fn first_routes(list: &[u8]) -> [Route; 8] {
+    array::from_fn(|i| route(fields::tail(list, 2 + i * ROUTE)))
 }
 
-fn route(s: &[u8], i: u8) -> Route {
-    let r = fields::tail(s, 2 + i as usize * ROUTE);
+fn route(r: &[u8]) -> Route {
     Route {
         bytes: fields::address(r, 6),
         lifetime: fields::quad(r, 2),
         length: fields::byte(r, 0),
-        preference: preference(fields::byte(r, 1)),
+        preference: preference(fields::byte(r, 1)).unwrap_or(Preference::Low),
     }
 }
 
-// Any other number than these is bad input.
-fn preference(n: u8) -> Preference {
-    match n {
-        0 => Preference::Medium,
-        1 => Preference::High,
-        _ => Preference::Low,
+fn preference(number: u8) -> Result<Preference, Stop> {
+    match number {
+        0 => Ok(Preference::Medium),
+        1 => Ok(Preference::High),
+        2 => Ok(Preference::Low),
+        _ => Err(Stop::BadInput),
     }
 }

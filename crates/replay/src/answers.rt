@@ -1,155 +1,121 @@
-// The line of each answer, written from an index on; each function gives the index behind it.
+// The line of each answer, but for the line feed that ends it.
 use crate::line;
-use crate::lines::Text;
 use header::fields;
 use input::section;
 use receiving::Received;
 use refusals::Refusal;
 use reports::Report;
 use sending::SendAnswer;
-use text::digests;
+use streams::waiting::Lines;
 
 // Words, and the number of a refusal.
-fn refused(words: &[u8], refusal: Refusal, at: usize, text: &mut Text) -> usize {
-    line::refusal(refusal, line::words(words, at, text), text)
+fn refused(words: &[u8], refusal: Refusal, lines: &mut Lines) {
+    lines.put(words);
+    line::refusal(refusal, lines);
+}
+
+// Words, and a number.
+fn number(words: &[u8], n: usize, lines: &mut Lines) {
+    lines.put(words);
+    line::number(n as u64, lines);
 }
 
 // Words, and two numbers.
-fn numbers(words: &[u8], a: usize, b: usize, at: usize, text: &mut Text) -> usize {
-    let first = line::number(small(a), line::words(words, at, text), text);
-    line::number(small(b), first, text)
+fn numbers(words: &[u8], a: usize, b: usize, lines: &mut Lines) {
+    number(words, a, lines);
+    line::number(b as u64, lines);
 }
 
-// What is counted of a call fits two bytes.
-fn small(n: usize) -> u16 {
-    (n % 65536) as u16
+// Words, and an address.
+fn address(words: &[u8], a: u32, lines: &mut Lines) {
+    lines.put(words);
+    line::address(a, lines);
 }
 
 // What is joined stands in the memory that was lent.
-pub(crate) fn receive(
-    answer: Result<Received, Refusal>,
-    memory: &[u8],
-    at: usize,
-    text: &mut Text,
-) -> usize {
+pub(crate) fn receive(answer: Result<Received, Refusal>, memory: &[u8], lines: &mut Lines) {
     match answer {
         Ok(Received::Delivered { offset, length }) => {
-            numbers(b"receive deliver", offset, length, at, text)
+            numbers(b"receive deliver", offset, length, lines);
         }
         Ok(Received::Joined { offset, length }) => {
-            let joined = section::front(fields::tail(memory, offset), length);
-            let end = numbers(b"receive joined", offset, length, at, text);
-            line::digest(digests::digest(joined), end, text)
+            numbers(b"receive joined", offset, length, lines);
+            line::digest(section::front(fields::tail(memory, offset), length), lines);
         }
-        Err(refusal) => refused(b"receive refuse", refusal, at, text),
+        Err(refusal) => refused(b"receive refuse", refusal, lines),
     }
 }
 
-pub(crate) fn memory(memory: &[u8], at: usize, text: &mut Text) -> usize {
-    let end = line::words(b"memory", at, text);
-    line::digest(digests::digest(memory), end, text)
+pub(crate) fn memory(memory: &[u8], lines: &mut Lines) {
+    lines.put(b"memory");
+    line::digest(memory, lines);
 }
 
-pub(crate) fn part(part: &[u8], at: usize, text: &mut Text) -> usize {
-    let end = line::number(small(part.len()), line::words(b"part", at, text), text);
-    line::digest(digests::digest(part), end, text)
+pub(crate) fn part(part: &[u8], lines: &mut Lines) {
+    number(b"part", part.len(), lines);
+    line::digest(part, lines);
 }
 
-pub(crate) fn send(answer: SendAnswer, out: &[u8], at: usize, text: &mut Text) -> usize {
-    let end = sent(answer, at, text);
-    line::digest(digests::digest(out), end, text)
-}
-
-// Up to the digest.
-fn sent(answer: SendAnswer, at: usize, text: &mut Text) -> usize {
+pub(crate) fn send(answer: SendAnswer, out: &[u8], lines: &mut Lines) {
     match answer {
-        SendAnswer::Wrapped(length) => {
-            line::number(small(length), line::words(b"send wrapped", at, text), text)
-        }
+        SendAnswer::Wrapped(length) => number(b"send wrapped", length, lines),
         SendAnswer::TooBig { size, written } => {
-            numbers(b"send too-big", size as usize, written, at, text)
+            numbers(b"send too-big", size as usize, written, lines);
         }
-        SendAnswer::Refused(refusal) => refused(b"send refuse", refusal, at, text),
+        SendAnswer::Refused(refusal) => refused(b"send refuse", refusal, lines),
     }
+    line::digest(out, lines);
 }
 
-pub(crate) fn report(answer: Result<Report, Refusal>, at: usize, text: &mut Text) -> usize {
+pub(crate) fn report(answer: Result<Report, Refusal>, lines: &mut Lines) {
     match answer {
         Ok(report) => {
-            let end = line::address(
-                report.neighbour,
-                line::words(b"report accepted", at, text),
-                text,
-            );
-            line::number(report.size, end, text)
+            address(b"report accepted", report.neighbour, lines);
+            line::number(report.size as u64, lines);
         }
-        Err(refusal) => refused(b"report refuse", refusal, at, text),
+        Err(refusal) => refused(b"report refuse", refusal, lines),
     }
 }
 
 // The count is that of the new list.
-pub(crate) fn routers(answer: Result<(), Refusal>, count: usize, at: usize, text: &mut Text) -> usize {
+pub(crate) fn routers(answer: Result<(), Refusal>, count: usize, lines: &mut Lines) {
     match answer {
-        Ok(()) => {
-            line::number(
-                small(count),
-                line::words(b"routers accepted", at, text),
-                text,
-            )
-        }
-        Err(refusal) => refused(b"routers refuse", refusal, at, text),
+        Ok(()) => number(b"routers accepted", count, lines),
+        Err(refusal) => refused(b"routers refuse", refusal, lines),
     }
 }
 
-pub(crate) fn ask(answer: Result<u32, Refusal>, out: &[u8], at: usize, text: &mut Text) -> usize {
-    let end = asked(answer, at, text);
-    line::digest(digests::digest(out), end, text)
+pub(crate) fn ask(answer: Result<u32, Refusal>, out: &[u8], lines: &mut Lines) {
+    match answer {
+        Ok(router) => address(b"ask", router, lines),
+        Err(refusal) => refused(b"ask refuse", refusal, lines),
+    }
+    line::digest(out, lines);
 }
 
-// Up to the digest.
-fn asked(answer: Result<u32, Refusal>, at: usize, text: &mut Text) -> usize {
+pub(crate) fn advertisement(answer: Result<u32, Refusal>, lines: &mut Lines) {
     match answer {
-        Ok(router) => line::address(router, line::words(b"ask", at, text), text),
-        Err(refusal) => refused(b"ask refuse", refusal, at, text),
+        Ok(router) => address(b"advertisement", router, lines),
+        Err(refusal) => refused(b"advertisement refuse", refusal, lines),
     }
 }
 
-pub(crate) fn advertisement(answer: Result<u32, Refusal>, at: usize, text: &mut Text) -> usize {
+pub(crate) fn advertise(answer: Result<usize, Refusal>, out: &[u8], lines: &mut Lines) {
     match answer {
-        Ok(router) => {
-            line::address(router, line::words(b"advertisement", at, text), text)
-        }
-        Err(refusal) => refused(b"advertisement refuse", refusal, at, text),
+        Ok(length) => number(b"advertise written", length, lines),
+        Err(refusal) => refused(b"advertise refuse", refusal, lines),
     }
+    line::digest(out, lines);
 }
 
-pub(crate) fn advertise(answer: Result<usize, Refusal>, out: &[u8], at: usize, text: &mut Text) -> usize {
-    let end = advertised(answer, at, text);
-    line::digest(digests::digest(out), end, text)
-}
-
-// Up to the digest.
-fn advertised(answer: Result<usize, Refusal>, at: usize, text: &mut Text) -> usize {
+pub(crate) fn size(answer: Result<u16, Refusal>, lines: &mut Lines) {
     match answer {
-        Ok(length) => {
-            line::number(
-                small(length),
-                line::words(b"advertise written", at, text),
-                text,
-            )
-        }
-        Err(refusal) => refused(b"advertise refuse", refusal, at, text),
-    }
-}
-
-pub(crate) fn size(answer: Result<u16, Refusal>, at: usize, text: &mut Text) -> usize {
-    match answer {
-        Ok(size) => line::number(size, line::words(b"size", at, text), text),
-        Err(refusal) => refused(b"size refuse", refusal, at, text),
+        Ok(size) => number(b"size", size as usize, lines),
+        Err(refusal) => refused(b"size refuse", refusal, lines),
     }
 }
 
 // The line of refused settings.
-pub(crate) fn settings(refusal: Refusal, at: usize, text: &mut Text) -> usize {
-    refused(b"settings refuse", refusal, at, text)
+pub(crate) fn settings(refusal: Refusal, lines: &mut Lines) {
+    refused(b"settings refuse", refusal, lines);
 }

@@ -5,77 +5,59 @@
 mod answering;
 mod answers;
 mod calls;
+mod kind;
 mod line;
-mod lines;
-mod outputs;
 mod spool;
 mod start;
+mod stop;
 mod walk;
 mod window;
 
 use node::{Node, Setup};
-use refusals::Refusal;
-use spool::Spool;
 use start::Start;
-use walk::Task;
+use stop::Stop;
+use streams::waiting::Lines;
+use window::Window;
 
 fn main(rt: HostRuntime) {
-    if let Some(spool) = spool::input(&rt) {
-        let start = start::read(&spool);
-        if start.failed {
-            spool::unread(&rt);
-            return;
+    if let Err(stop) = answer(&rt) {
+        let _ = eprintln!(rt; "replay: {stop}");
+    }
+}
+
+// Bad input has an answer too.
+fn answer(rt: &HostRuntime) -> Result<(), Stop> {
+    match run(rt) {
+        Err(Stop::BadInput) => rt.write_all(b"bad input\n").map_err(|_| Stop::Output),
+        done => done,
+    }
+}
+
+// Reads all calls through, and then makes them.
+fn run(rt: &HostRuntime) -> Result<(), Stop> {
+    let spool = spool::input(rt)?;
+    if spool::LIMIT < spool.size {
+        return Err(Stop::BadInput);
+    }
+    let start = start::read(&spool)?;
+    let mut window = Window::new(&spool);
+    walk::check(start.calls, &mut window)?;
+    let setup = setup(start);
+    match setup.answer {
+        Ok(()) => walk::make(rt, setup.node, start.calls, &mut window),
+        Err(refusal) => {
+            let mut lines = Lines::new();
+            answers::settings(refusal, &mut lines);
+            lines.put(b"\n");
+            lines.write(rt).map_err(|_| Stop::Output)
         }
-        run(&rt, &spool, start);
     }
 }
 
 // The node of the start.
 fn setup(start: Start) -> Setup {
-    let first = start.first;
-    if start.two {
-        let second = start.second;
-        Node::new_pair(first, second)
-    } else {
-        Node::new(first)
+    match start.second {
+        Some(second) => Node::new_pair(start.first, second),
+        None => Node::new(start.first),
     }
-}
-
-// Reads all calls through, and then makes them.
-fn run(rt: &HostRuntime, spool: &Spool, start: Start) {
-    let setup = setup(start);
-    let mut window = [0; window::LENGTH];
-    let read = walk::checked(start.calls, spool, &mut window);
-    let held = read.held;
-    if held.failed {
-        spool::unread(rt);
-        return;
-    }
-    if !start.known | (spool::LIMIT < spool.size) | (read.next != spool.size) {
-        lines::write(rt, b"bad input\n");
-        return;
-    }
-    let answer = setup.answer;
-    match answer {
-        Ok(()) => {
-            let node = setup.node;
-            let task = Task {
-                node,
-                first: start.calls,
-                spool,
-            };
-            walk::make(rt, task, &mut window);
-        }
-        Err(refusal) => {
-            refused(rt, refusal);
-        }
-    }
-}
-
-// Says that the settings are refused.
-fn refused(rt: &HostRuntime, refusal: Refusal) {
-    let mut text = lines::room();
-    let end = answers::settings(refusal, 0, &mut text);
-    let n = line::end(end, &mut text);
-    lines::written(rt, n, &text);
 }

@@ -1,15 +1,15 @@
 // Standard input, kept in a file without a name: it is read twice, is longer than a small stack has room for, and may be a pipe.
-ghost use Rattle.std.specs.Prelude.{◌≤◌};
+ghost use Rattle.std.specs.Prelude.{◌≤◌, IfOk};
 ghost use Rattle.std.specs.Str.{IsUtf8};
 
+use crate::stop::Stop;
 use header::fields;
 use std::fs::{File, OpenOptions};
-use std::io::{ErrorKind, Write};
+use std::io::{ErrorKind, Read, Write};
 use std::os::fd::AsRawFd;
 use std::os::unix::fs::{FileExt, OpenOptionsExt};
 use std::random::RandomSource;
 use std::{fs, io};
-use streams::Reading;
 
 // The most bytes that are taken. One more is read, which shows that the input is longer.
 pub(crate) const LIMIT: usize = 1048576;
@@ -27,22 +27,13 @@ pub(crate) struct Spool {
     pub(crate) size: usize,
 }
 
-// All of standard input; none where something failed, which has been said.
-pub(crate) fn input(rt: &HostRuntime) -> Option<Spool> {
-    match unnamed(rt) {
-        Ok(file) => {
-            if file.as_raw_fd() < 2 {
-                // The file was given the number of a stream that is closed.
-                let _ = eprintln!(rt; "replay: standard input or output is closed");
-                return None;
-            }
-            copied(rt, file)
-        }
-        Err(_) => {
-            let _ = eprintln!(rt; "replay: no file could be made in /tmp");
-            None
-        }
+// All of standard input.
+pub(crate) fn input(rt: &HostRuntime) -> Result<Spool, Stop> {
+    let file = unnamed(rt).map_err(|_| Stop::NoFile)?;
+    if file.as_raw_fd() < 2 {
+        return Err(Stop::Closed);
     }
+    copied(rt, file)
 }
 
 // A file that is made anew, under a name that no file has.
@@ -84,83 +75,39 @@ fn name_of(number: u32) -> [u8; 20]
 }
 
 // Copies standard input, block by block.
-fn copied(rt: &HostRuntime, mut file: File) -> Option<Spool> {
+fn copied(rt: &HostRuntime, mut file: File) -> Result<Spool, Stop> {
     let mut size: usize = 0;
     while size <= LIMIT {
-        let block = copy_block(rt, &mut file);
-        if block.failed {
-            return None;
-        }
-        if block.count == 0 {
+        let count = copy_block(rt, &mut file)?;
+        if count == 0 {
             break;
         }
-        size += block.count;
+        size += count;
     }
-    Some(Spool { file, size })
+    Ok(Spool { file, size })
 }
 
-// Copies what one read gives: no bytes where the input ends, or where reading or writing fails, which is said.
-fn copy_block(rt: &HostRuntime, file: &mut File) -> Reading
-    ensures { result.count ≤ 65536 }
+// Copies what one read gives: no bytes where the input ends.
+fn copy_block(rt: &HostRuntime, file: &mut File) -> Result<usize, Stop>
+    ensures { IfOk result (λ n. n ≤ 65536) }
 {
     let mut bytes = [0u8; 65536];
-    let read = streams::read_some(&mut rt.stdin(), &mut bytes);
-    let n = read.count;
-    if read.failed {
-        let _ = eprintln!(rt; "replay: standard input could not be read");
-        return Reading {
-            count: 0,
-            failed: true,
-        };
-    }
-    if file.write_all(&bytes[..n]).is_err() {
-        let _ = eprintln!(rt; "replay: the file in /tmp could not be written");
-        return Reading {
-            count: 0,
-            failed: true,
-        };
-    }
-    Reading {
-        count: n,
-        failed: false,
-    }
-}
-
-// Says that the file could not be read.
-pub(crate) fn unread(rt: &HostRuntime) {
-    let _ = eprintln!(rt; "replay: the file in /tmp could not be read");
-}
-
-// How far a is above b.
-pub(crate) fn above(a: usize, b: usize) -> usize
-    ensures { result ≤ a }
-{
-    if b < a { a - b } else { 0 }
-}
-
-// An index, or one just past the longest input.
-pub(crate) fn inside(at: usize) -> usize
-    ensures { result ≤ 1048577 }
-{
-    if LIMIT < at {
-        return LIMIT + 1;
-    }
-    at
+    let count = rt.stdin().read(&mut bytes).map_err(|_| Stop::Input)?;
+    file.write_all(&bytes[..count])
+        .map_err(|_| Stop::FileUnwritten)?;
+    Ok(count)
 }
 
 impl Spool {
-    // The bytes from an index on, as many as fit or there are.
-    pub(crate) fn read(&self, at: usize, buf: &mut [u8]) -> Reading {
+    // Reads the bytes from an index on, as many as fit or there are, and counts them.
+    pub(crate) fn read(&self, at: usize, buf: &mut [u8]) -> Result<usize, Stop> {
         if LIMIT < at {
-            return Reading {
-                count: 0,
-                failed: false,
-            };
+            return Ok(0);
         }
         let count = self.file.read_at(buf, at as u64).unwrap_or(0);
-        Reading {
-            count,
-            failed: count < lists::least(buf.len(), above(self.size, at)),
+        if count < buf.len().min(self.size.saturating_sub(at)) {
+            return Err(Stop::FileUnread);
         }
+        Ok(count)
     }
 }

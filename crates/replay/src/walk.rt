@@ -1,206 +1,133 @@
 // The calls of the input, gone through once to see that they are whole, and once to make them.
-ghost use Rattle.std.specs.Prelude.{◌≡◌};
+ghost use Rattle.std.specs.Prelude.{◌<◌, IfOk};
 
-use crate::calls::{Memories, Space};
-use crate::lines::Text;
-use crate::spool::{Spool, above};
-use crate::window::{Held, Window};
-use crate::{answering, calls, line, lines, outputs, spool, window};
-use node::Node;
+use crate::kind::Kind;
+use crate::stop::Stop;
+use crate::window::Window;
+use crate::{answering, calls, kind};
+use header::fields;
+use node::{Node, ServiceName};
+use streams::waiting::Lines;
 
-// The calls of a spool from an index on, and the node that they are made on.
+// What a call says of itself, and the index behind it.
 #[derive(Clone, Copy)]
-pub(crate) struct Task<'a> {
-    pub(crate) node: Node,
-    pub(crate) first: usize,
-    pub(crate) spool: &'a Spool,
+struct Call {
+    kind: Kind,
+    // The first where it names none.
+    service: ServiceName,
+    next: usize,
 }
 
-#[derive(Clone, Copy)]
-pub(crate) struct Walk {
-    // The index of a call, and of what stands behind it: the same one where it is unknown or cut off, or a read or a write failed.
-    pub(crate) at: usize,
-    pub(crate) next: usize,
-    // What is held of the input.
-    pub(crate) held: Held,
-    // The index behind the lines that wait.
-    pub(crate) end: usize,
+// The call at an index, which is there as a whole.
+fn call_at(at: usize, window: &mut Window) -> Result<Call, Stop>
+    ensures { IfOk result (λ call. at < call.next) }
+{
+    window.reach(at, calls::HEAD)?;
+    let c = window.bytes(at);
+    let kind = Kind::try_from(fields::byte(c, 0))?;
+    let service = match kind {
+        Kind::Report => ServiceName::First,
+        _ => kind::service(fields::byte(c, 1))?,
+    };
+    let size = size_at(kind, at, window)?;
+    if window.end().saturating_sub(at) < size {
+        return Err(Stop::BadInput);
+    }
+    let next = at + size;
+    Ok(Call {
+        kind,
+        service,
+        next,
+    })
 }
 
-// Before the call at an index.
-fn start(at: usize) -> Walk {
-    let held = window::nothing();
-    Walk {
-        at,
-        next: at,
-        held,
-        end: 0,
+// The bytes of a call of this kind at an index, whose first bytes are held.
+fn size_at(kind: Kind, at: usize, window: &mut Window) -> Result<usize, Stop>
+    ensures { IfOk result (λ size. 0 < size) }
+{
+    let c = window.bytes(at);
+    match kind {
+        Kind::Receive => Ok(11 + fields::word(c, 9) as usize),
+        Kind::Send => Ok(27 + fields::word(c, 25) as usize),
+        Kind::Report => Ok(7 + fields::word(c, 5) as usize),
+        Kind::Routers => Ok(8 + 4 * fields::word(c, 6) as usize),
+        Kind::Ask => Ok(9),
+        Kind::Advertisement => Ok(8 + fields::word(c, 6) as usize),
+        Kind::Size => Ok(6),
+        Kind::Advertise => answering::size_at(at, window),
+        Kind::WholeMemory => Ok(2),
+        Kind::Part => Ok(5 + fields::word(c, 3) as usize),
     }
 }
 
-// Goes through the calls from an index on, to the end of the input, or to one that it cannot pass.
-pub(crate) fn checked(first: usize, spool: &Spool, window: &mut Window) -> Walk {
-    let mut walk = start(first).past(first, spool, window);
-    while (walk.at < walk.next) & (walk.at < spool.size) {
-        walk = walk.past(walk.next, spool, window);
+// Goes through the calls from an index on: each is whole, and nothing stands behind the last.
+pub(crate) fn check(first: usize, window: &mut Window) -> Result<(), Stop> {
+    let end = window.end();
+    let mut at = first;
+    while at < end {
+        at = call_at(at, window)?.next;
     }
-    walk
+    if at == end {
+        Ok(())
+    } else {
+        Err(Stop::BadInput)
+    }
 }
 
 // Makes the calls, which are whole, up to where a read or a write fails.
-pub(crate) fn make(rt: &HostRuntime, task: Task<'_>, window: &mut Window) {
+pub(crate) fn make(
+    rt: &HostRuntime,
+    node: Node,
+    first: usize,
+    window: &mut Window,
+) -> Result<(), Stop> {
     let mut out = [0u8; 65536];
-    let mut memory = [outputs::BLANK; calls::MEMORIES];
-    let mut text = lines::room();
-    made(rt, task, window, &mut out, &mut memory, &mut text);
+    let mut memories = [calls::BLANK; calls::MEMORIES];
+    let mut lines = Lines::new();
+    let made = made(rt, node, first, window, &mut out, &mut memories, &mut lines);
+    let written = lines.write(rt).map_err(|_| Stop::Output);
+    made.and(written)
 }
 
-// The node is lent to each call that changes it, which puts the next one in its place. A call that does not change it comes last, but for the
-// shortest.
+// The node is lent to each call that changes it, which puts the next one in its place.
 fn made(
     rt: &HostRuntime,
-    task: Task<'_>,
+    mut node: Node,
+    first: usize,
     window: &mut Window,
-    out: &mut Space,
-    memory: &mut Memories,
-    text: &mut Text,
-) {
-    let mut node = task.node;
-    let mut walk = start(task.first).on(rt, task.first, task.spool, window, text);
-    while (walk.at < walk.next) & (walk.at < task.spool.size) {
-        let next = walk.next;
-        let c = walk.call(window);
-        let kind = calls::kind(c);
-        if kind == calls::SIZE {
-            walk.end = calls::size(node, c, walk.end, text);
-        } else if kind == calls::RECEIVE {
-            walk.end = calls::receive(&mut node, c, memory, walk.end, text);
-        } else if kind == calls::SEND {
-            walk.end = calls::send(&mut node, c, out, walk.end, text);
-        } else if kind == calls::REPORT {
-            walk.end = calls::report(&mut node, c, walk.end, text);
-        } else if kind == calls::ROUTERS {
-            walk.end = calls::routers(&mut node, c, walk.end, text);
-        } else if kind == calls::ASK {
-            walk.end = calls::ask(&mut node, c, out, walk.end, text);
-        } else if kind == calls::ADVERTISEMENT {
-            walk.end = calls::advertisement(&mut node, c, walk.end, text);
-        } else {
-            walk = walk.told(node, task.spool, window, out, memory, text);
-        }
-        walk = walk.ended(text).on(rt, next, task.spool, window, text);
-    }
-    let held = walk.held;
-    if held.failed {
-        spool::unread(rt);
-    }
-    lines::written(rt, walk.end, text);
-}
-
-impl Walk {
-    // At the call at an index.
-    fn past(self, at: usize, spool: &Spool, window: &mut Window) -> Walk
-        ensures { result.at ≡ at }
-    {
-        let start = self.held;
-        let held = start.reaching(at, calls::HEAD, spool, window);
-        let c = held.bytes(at, window);
-        if calls::answers_another(c) {
-            let sized = answering::size_at(held, at, spool, window);
-            let read = sized.held;
-            return self.before(at, sized.size, read, spool.size);
-        }
-        self.before(at, calls::size_of(c), held, spool.size)
-    }
-
-    // At the call at an index, of so many bytes, in an input of so many.
-    fn before(self, at: usize, size: usize, held: Held, end: usize) -> Walk
-        ensures { result.at ≡ at }
-    {
-        let size = if held.failed { 0 } else { size };
-        Walk {
-            at,
-            next: calls::behind(size, at, end),
-            held,
-            end: self.end,
-        }
-    }
-
-    // At the call at an index, which is held, or as much of it as is read at once, with room for its line.
-    fn on(
-        self,
-        rt: &HostRuntime,
-        at: usize,
-        spool: &Spool,
-        window: &mut Window,
-        text: &Text,
-    ) -> Walk
-        ensures { result.at ≡ at }
-    {
-        let past = self.past(at, spool, window);
-        let start = past.held;
-        let size = lists::least(above(past.next, at), calls::LONGEST);
-        let held = start.reaching(at, size, spool, window);
-        let ready = lines::with_room(rt, self.end, text);
-        let whole = !held.failed & !ready.failed;
-        Walk {
-            at,
-            next: if whole { past.next } else { at },
-            held,
-            end: ready.end,
-        }
-    }
-
-    // Its line is ended. Where a read failed there is none.
-    fn ended(mut self, text: &mut Text) -> Walk {
-        let held = self.held;
-        if held.failed {
-            return self;
-        }
-        self.end = line::end(self.end, text);
-        self
-    }
-
-    // The call, as it is held.
-    fn call(self, window: &Window) -> &[u8] {
-        let held = self.held;
-        held.bytes(self.at, window)
-    }
-
-    // The call changes nothing, and its line is written, if all of it could be read.
-    fn told(
-        self,
-        node: Node,
-        spool: &Spool,
-        window: &mut Window,
-        out: &mut Space,
-        memory: &Memories,
-        text: &mut Text,
-    ) -> Walk {
-        let mut walk = self;
-        let c = self.call(window);
-        let kind = calls::kind(c);
-        if kind == calls::ADVERTISE {
-            let start = self.held;
-            let call = answering::read(start, self.at, spool, window);
-            let held = call.held;
-            walk.held = held;
-            if held.failed {
-                return walk;
+    out: &mut [u8],
+    memories: &mut [u8],
+    lines: &mut Lines,
+) -> Result<(), Stop> {
+    let end = window.end();
+    let mut at = first;
+    while at < end {
+        let Call {
+            kind,
+            service,
+            next,
+        } = call_at(at, window)?;
+        window.reach(at, (next - at).min(calls::LONGEST))?;
+        lines.make_room(rt).map_err(|_| Stop::Output)?;
+        let c = window.bytes(at);
+        match kind {
+            Kind::Size => calls::size(node, service, c, lines),
+            Kind::Receive => calls::receive(&mut node, service, c, memories, lines),
+            Kind::Send => calls::send(&mut node, service, c, out, lines),
+            Kind::Report => calls::report(&mut node, c, lines),
+            Kind::Routers => calls::routers(&mut node, service, c, lines),
+            Kind::Ask => calls::ask(&mut node, service, c, out, lines),
+            Kind::Advertisement => calls::advertisement(&mut node, service, c, lines),
+            Kind::Part => calls::part(node, service, c, lines),
+            Kind::WholeMemory => calls::whole_memory(service, memories, lines),
+            Kind::Advertise => {
+                let call = answering::read(at, window)?;
+                let packet = window.bytes(call.packet);
+                calls::advertise(node, service, call, packet, out, lines);
             }
-            walk.end = calls::advertise(
-                node,
-                call,
-                held.bytes(call.packet, window),
-                out,
-                self.end,
-                text,
-            );
-        } else if kind == calls::PART {
-            walk.end = calls::part(node, c, self.end, text);
-        } else {
-            walk.end = calls::whole_memory(c, memory, self.end, text);
         }
-        walk
+        lines.put(b"\n");
+        at = next;
     }
+    Ok(())
 }

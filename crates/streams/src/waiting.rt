@@ -1,48 +1,80 @@
-// Lines that wait to be written to standard output, many in one write. That a write failed is said on standard error, behind the program's name.
-ghost use Rattle.std.specs.Prelude.{◌≤◌};
+// Lines that wait to be written to standard output, many in one write.
+ghost use Rattle.std.specs.Prelude.{◌≡◌, List, ℕ, [], ◌+◌, ◌≤◌, length, take};
+ghost use Rattle.text.specs.Text.{decimal};
+ghost use Rattle.text.specs.Digest.{hexadecimal};
+ghost use Rattle.streams.specs.Waiting.{room, longest, with_word};
 
-// The index behind the lines that wait.
-#[derive(Clone, Copy)]
-pub struct Ready {
-    pub end: usize,
-    // Whether a write failed, which was said.
-    pub failed: bool,
+use std::io;
+use std::marker::Model;
+
+// The bytes that may wait.
+const ROOM: usize = 16384;
+
+// No line is longer, its line feed too.
+const LONGEST: usize = 64;
+
+#[derive(Drop)]
+pub struct Lines {
+    text: [u8; ROOM],
+    end: usize,
 }
 
-// With room for so many bytes behind an index: where there is none, the lines that wait are written.
-pub fn with_room(
-    rt: &(impl Print + Eprint),
-    program: &str,
-    longest: usize,
-    end: usize,
-    text: &[u8],
-) -> Ready
-    ensures { result.end ≤ end }
-{
-    if end <= text.len() {
-        if longest <= text.len() - end {
-            return Ready { end, failed: false };
+impl Model for Lines {
+    ghost Value = { List ℕ };
+
+    ghost view = { λ l. take l.end l.text };
+
+    ghost invariant = { λ l. l.end ≤ room };
+}
+
+impl Lines {
+    pub fn new() -> Self
+        ensures { result ≡ [] }
+    {
+        Lines {
+            text: [0; ROOM],
+            end: 0,
         }
     }
-    Ready {
-        end: 0,
-        failed: !written(rt, program, end, text),
-    }
-}
 
-// Writes the lines that wait, up to an index.
-pub fn written(rt: &(impl Print + Eprint), program: &str, end: usize, text: &[u8]) -> bool {
-    if end < text.len() {
-        return write(rt, program, &text[..end]);
+    // Puts a word behind the lines that wait.
+    pub fn put(&mut self, word: &[u8])
+        ensures { self.new ≡ with_word word.now self.old }
+    {
+        self.end = text::put(word, &mut self.text, self.end);
     }
-    write(rt, program, text)
-}
 
-// Writes to standard output.
-pub fn write(rt: &(impl Print + Eprint), program: &str, bytes: &[u8]) -> bool {
-    let done = rt.write_all(bytes).is_ok();
-    if !done {
-        let _ = eprintln!(rt; "{program}: standard output could not be written");
+    // Puts a number in decimal.
+    pub fn put_decimal(&mut self, n: u64)
+        ensures { self.new ≡ with_word (decimal n) self.old }
+    {
+        self.end = text::put_decimal(n, &mut self.text, self.end);
     }
-    done
+
+    // Puts a number in eight hexadecimal digits.
+    pub fn put_hexadecimal(&mut self, n: u32)
+        ensures { self.new ≡ with_word (hexadecimal n) self.old }
+    {
+        self.end = text::put_hexadecimal(n, &mut self.text, self.end);
+    }
+
+    // Makes room for one more line: where there may be none, the lines that wait are written.
+    pub fn make_room(&mut self, rt: &impl Print) -> io::Result<()>
+        ensures room { length self.new + longest ≤ room }
+        ensures fewer { length self.new ≤ length self.old }
+    {
+        if self.end <= ROOM - LONGEST {
+            return Ok(());
+        }
+        self.write(rt)
+    }
+
+    // Writes the lines that wait. None waits then, also where it fails.
+    pub fn write(&mut self, rt: &impl Print) -> io::Result<()>
+        ensures { self.new ≡ [] }
+    {
+        let end = self.end;
+        self.end = 0;
+        rt.write_all(&self.text[..end])
+    }
 }

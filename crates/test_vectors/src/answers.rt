@@ -1,18 +1,15 @@
 // How an answer is written.
 use std::io;
 
-// A number that stands for no answer.
-pub(crate) const NONE: u64 = 18446744073709551615;
-
 // A number in so many hexadecimal digits, or with 0 in decimal.
-pub(crate) fn number(rt: &impl Print, form: u8, n: u64) -> io::Result<()> {
-    if n == NONE {
-        print!(rt; " none")
-    } else if form == 0 {
-        print!(rt; " {n}")
-    } else {
-        let width = form.min(16) as usize;
-        print!(rt; " {n:0width$x}")
+pub(crate) fn number(rt: &impl Print, form: u8, n: Option<u64>) -> io::Result<()> {
+    match (n, form) {
+        (None, _) => print!(rt; " none"),
+        (Some(n), 0) => print!(rt; " {n}"),
+        (Some(n), _) => {
+            let width = form.min(16) as usize;
+            print!(rt; " {n:0width$x}")
+        }
     }
 }
 

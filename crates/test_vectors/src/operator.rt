@@ -4,6 +4,12 @@ use advertisements::Advertisement;
 use advertisements::prefix::Prefix;
 use advertisements::route::{Preference, Route};
 use header::fields;
+use std::array;
+
+// The bytes of a prefix, and of a route.
+const PREFIX: usize = 26;
+
+const ROUTE: usize = 22;
 
 pub(crate) fn advertisement(c: &[u8]) -> Advertisement {
     let p = fields::tail(c, 7);
@@ -13,34 +19,15 @@ pub(crate) fn advertisement(c: &[u8]) -> Advertisement {
         managed: 128 <= flags,
         other: 64 <= flags % 128,
         lifetime: fields::word(c, 1),
-        prefixes: [
-            prefix(p, 0),
-            prefix(p, 1),
-            prefix(p, 2),
-            prefix(p, 3),
-            prefix(p, 4),
-            prefix(p, 5),
-            prefix(p, 6),
-            prefix(p, 7),
-        ],
+        prefixes: array::from_fn(|i| prefix(fields::tail(p, i * PREFIX))),
         prefix_count: fields::word(c, 3) as usize,
-        routes: [
-            route(r, 0),
-            route(r, 1),
-            route(r, 2),
-            route(r, 3),
-            route(r, 4),
-            route(r, 5),
-            route(r, 6),
-            route(r, 7),
-        ],
+        routes: array::from_fn(|i| route(fields::tail(r, i * ROUTE))),
         route_count: fields::word(c, 5) as usize,
     }
 }
 
 // A prefix is its length 1, flags 1, valid and preferred lifetime, 4 each, and 16 bytes.
-fn prefix(all: &[u8], i: u8) -> Prefix {
-    let r = fields::tail(all, i as usize * 26);
+fn prefix(r: &[u8]) -> Prefix {
     let flags = fields::byte(r, 1);
     Prefix {
         bytes: fields::address(r, 10),
@@ -53,8 +40,7 @@ fn prefix(all: &[u8], i: u8) -> Prefix {
 }
 
 // A route is its length 1, preference 1, lifetime 4 and 16 bytes.
-fn route(all: &[u8], i: u8) -> Route {
-    let r = fields::tail(all, i as usize * 22);
+fn route(r: &[u8]) -> Route {
     Route {
         bytes: fields::address(r, 6),
         lifetime: fields::quad(r, 2),

@@ -1,5 +1,4 @@
 // Cases of the rules without state.
-use crate::answers::NONE;
 use crate::{answers, writers};
 use address::prefixes;
 use header::{fields, inner, outer};
@@ -12,12 +11,10 @@ pub(crate) fn answer(rt: &impl Print, kind: u8, c: &[u8]) -> io::Result<()> {
     let m = fields::word(c, 3);
     let x = fields::quad(c, 5);
     let d = fields::tail(c, 13);
-    if kind < 20 {
-        answers::truth(rt, test(kind, n, x, d))
-    } else if kind < 40 {
-        answers::number(rt, fields::byte(c, 0), number(kind, n, m, x, d))
-    } else {
-        writers::answer(rt, kind, c)
+    match kind {
+        0..=19 => answers::truth(rt, test(kind, n, x, d)),
+        20..=39 => answers::number(rt, fields::byte(c, 0), number(kind, n, m, x, d)),
+        _ => writers::answer(rt, kind, c),
     }
 }
 
@@ -36,56 +33,24 @@ fn test(kind: u8, n: u16, x: u32, d: &[u8]) -> bool {
     }
 }
 
-fn number(kind: u8, n: u16, m: u16, x: u32, d: &[u8]) -> u64 {
+fn number(kind: u8, n: u16, m: u16, x: u32, d: &[u8]) -> Option<u64> {
     match kind {
-        20 => checksum::sum_from(x, d) as u64,
-        21 => checksum::complement(n) as u64,
-        22 => refusals::number(outer::read_outer(d)) as u64,
-        23 | 24 | 25 | 26 => outer_field(kind, d),
-        27 => paths::packets::largest_packet(n) as u64,
-        28 => embedded(n, d),
-        29 => candidate(n, m),
-        30 => smallest(n, d),
-        _ => {
-            let read = options::options_read(n, d);
-            let smallest = read.smallest;
-            options::due_after(x, m, smallest)
-        }
+        20 => Some(checksum::sum_from(x, d) as u64),
+        21 => Some(checksum::complement(n) as u64),
+        22 => Some(refusals::number(outer::read_outer(d)) as u64),
+        23 => Some(outer::outer_header(d).header as u64),
+        24 => Some(outer::outer_header(d).total as u64),
+        25 => Some(outer::outer_header(d).source as u64),
+        26 => Some(outer::outer_header(d).destination as u64),
+        27 => Some(paths::packets::largest_packet(n) as u64),
+        28 => embedded(n, d).map(u64::from),
+        29 => paths::reported::candidate(n, m).map(u64::from),
+        30 => options::options_read(n, d).smallest.map(u64::from),
+        _ => Some(options::due_after(x, m, options::options_read(n, d).smallest)),
     }
 }
 
-fn outer_field(kind: u8, d: &[u8]) -> u64 {
-    let o = outer::outer_header(d);
-    match kind {
-        23 => o.header as u64,
-        24 => o.total as u64,
-        25 => o.source as u64,
-        _ => o.destination as u64,
-    }
-}
-
-fn embedded(n: u16, d: &[u8]) -> u64 {
+fn embedded(n: u16, d: &[u8]) -> Option<u32> {
     let prefixes = prefixes::rows(section::prefixes(fields::tail(d, 16)));
-    let answer = address::isatap(prefixes, n as usize, fields::address(d, 0));
-    match answer {
-        Some(x) => x as u64,
-        None => NONE,
-    }
-}
-
-fn candidate(n: u16, m: u16) -> u64 {
-    let answer = paths::reported::candidate(n, m);
-    match answer {
-        Some(size) => size as u64,
-        None => NONE,
-    }
-}
-
-fn smallest(n: u16, d: &[u8]) -> u64 {
-    let read = options::options_read(n, d);
-    let answer = read.smallest;
-    match answer {
-        Some(seconds) => seconds as u64,
-        None => NONE,
-    }
+    address::isatap(prefixes, n as usize, fields::address(d, 0))
 }

@@ -1,13 +1,12 @@
 // Cases of the bytes that the library hands over or writes.
 ghost use Rattle.std.specs.Prelude.{◌≡◌, length};
 
-use crate::answers::NONE;
 use crate::{answers, operator};
 use header::wrap::OuterFields;
 use header::{fields, inner, outer, wrap};
 use input::section;
-use std::io;
 use refusals::Refusal;
+use std::io;
 
 pub(crate) fn answer(rt: &impl Print, kind: u8, c: &[u8]) -> io::Result<()> {
     match kind {
@@ -39,17 +38,10 @@ fn written(rt: &impl Print, kind: u8, c: &[u8]) -> io::Result<()> {
 // The number given, the length written, and of the output y bytes from the index x on.
 fn written_into(rt: &impl Print, kind: u8, c: &[u8], out: &mut [u8]) -> io::Result<()> {
     let answer = write(kind, c, out);
-    answers::number(rt, 0, refusals::number(answer) as u64)?;
-    answers::number(rt, 0, length(answer))?;
+    answers::number(rt, 0, Some(refusals::number(answer) as u64))?;
+    answers::number(rt, 0, answer.ok().map(|n| n as u64))?;
     let from = fields::tail(out, fields::quad(c, 5) as usize);
     answers::bytes(rt, section::front(from, fields::quad(c, 9) as usize))
-}
-
-fn length(answer: Result<usize, Refusal>) -> u64 {
-    match answer {
-        Ok(n) => n as u64,
-        Err(_) => NONE,
-    }
 }
 
 fn write(kind: u8, c: &[u8], out: &mut [u8]) -> Result<usize, Refusal> {

@@ -4,12 +4,10 @@
 
 fn main(rt: HostRuntime) {
     let mut bytes = program::input_room();
-    let read = streams::read_all(&mut rt.stdin(), &mut bytes);
-    if read.failed {
+    let Ok(n) = streams::read_all(&mut rt.stdin(), &mut bytes) else {
         let _ = eprintln!(rt; "tunnel: standard input could not be read");
         return;
-    }
-    let n = read.count;
+    };
     let mut text = program::output_room();
     let k = program::output(&bytes[..n], &mut text);
     if rt.write_all(&text[..k]).is_err() {

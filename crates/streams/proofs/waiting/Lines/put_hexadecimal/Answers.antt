@@ -1,0 +1,16 @@
+-- `streams::waiting::Lines::put_hexadecimal` meets its contract.
+use Rattle.text.specs.Digest.{hexadecimal}
+use Rattle.streams.proofs.PutLaws.{put-within, put-word}
+use Rattle.streams.proofs.waiting.Lines.put_hexadecimal.Goals as goal
+
+pub invariant_of-self : goal.invariant_of-self
+invariant_of-self c =
+    let p = c.put_hexadecimal-self-inside.ensures in
+    let i = c.self.inside in
+    rw p.value (put-within i.end (hexadecimal c.args.n) i.text c.self.told c.self.invariant)
+
+pub returns : goal.returns
+returns c =
+    let p = c.put_hexadecimal-self-inside.ensures in
+    let i = c.self.inside in
+    rw (p.value, p.out_after, ← c.self.view_is) (put-word i.end (hexadecimal c.args.n) i.text c.self.told c.self.invariant)
