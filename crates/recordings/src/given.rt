@@ -1,6 +1,5 @@
 // The input: masked or not, the room of the output, the length of the first recording, and the two recordings.
 use header::fields;
-use input::section;
 
 // The most bytes that are taken, and the largest room.
 pub(crate) const LIMIT: usize = 1048576;
@@ -17,34 +16,36 @@ pub(crate) const BLANK: u8 = 165;
 // The bytes before the recordings.
 const HEAD: usize = 9;
 
-// Whether the input is neither cut off nor too long, and its numbers are such as may be given.
-pub(crate) fn good(input: &[u8]) -> bool {
-    let n = input.len();
-    (n <= LIMIT)
-        & (HEAD <= n)
-        & (fields::byte(input, 0) <= 1)
-        & (room(input) <= LIMIT)
-        & (behind_first(input) <= n)
+// What the input says.
+#[derive(Clone, Copy)]
+pub(crate) struct Given<'a> {
+    // Whether identification, TTL and checksum count as equal.
+    pub(crate) masked: bool,
+    pub(crate) room: usize,
+    pub(crate) first: &'a [u8],
+    pub(crate) second: &'a [u8],
 }
 
-// Whether identification, TTL and checksum count as equal.
-pub(crate) fn masked(input: &[u8]) -> bool {
-    fields::byte(input, 0) == 1
-}
-
-pub(crate) fn room(input: &[u8]) -> usize {
-    fields::quad(input, 1) as usize
-}
-
-// The index behind the first recording.
-fn behind_first(input: &[u8]) -> usize {
-    HEAD + fields::quad(input, 5) as usize
-}
-
-pub(crate) fn first(input: &[u8]) -> &[u8] {
-    fields::tail(section::front(input, behind_first(input)), HEAD)
-}
-
-pub(crate) fn second(input: &[u8]) -> &[u8] {
-    fields::tail(input, behind_first(input))
+// None where the input is cut off or too long, or its numbers are not such as may be given.
+pub(crate) fn read(input: &[u8]) -> Option<Given<'_>> {
+    if (input.len() < HEAD) | (LIMIT < input.len()) {
+        return None;
+    }
+    let masked = match fields::byte(input, 0) {
+        0 => false,
+        1 => true,
+        _ => return None,
+    };
+    let room = fields::quad(input, 1) as usize;
+    if LIMIT < room {
+        return None;
+    }
+    let recordings = fields::tail(input, HEAD);
+    let (first, second) = recordings.split_at_checked(fields::quad(input, 5) as usize)?;
+    Some(Given {
+        masked,
+        room,
+        first,
+        second,
+    })
 }

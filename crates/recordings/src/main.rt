@@ -28,16 +28,11 @@ fn run(rt: &HostRuntime, bytes: &mut Input, space: &mut Space) {
 
 // Compares the recordings of an input, with as much of the space for an output as it says.
 fn answer(rt: &HostRuntime, input: &[u8], space: &mut [u8]) -> io::Result<()> {
-    if !given::good(input) {
+    let Some(given) = given::read(input) else {
         return rt.write_all(b"bad input\n");
-    }
-    let room = given::room(input).min(space.len());
+    };
+    let room = given.room.min(space.len());
     let out = &mut space[..room];
-    let answer = comparing::compare(
-        given::masked(input),
-        given::first(input),
-        given::second(input),
-        out,
-    );
+    let answer = comparing::compare(given.masked, given.first, given.second, out);
     lines::write(rt, answer, out)
 }

@@ -40,7 +40,8 @@ fn run(rt: &HostRuntime) -> Result<(), Stop> {
         return Err(Stop::BadInput);
     }
     let start = start::read(&spool)?;
-    let mut window = Window::new(&spool);
+    let mut bytes = [0; window::LENGTH];
+    let mut window = Window::new(spool, &mut bytes);
     walk::check(start.calls, &mut window)?;
     let setup = setup(start);
     match setup.answer {

@@ -27,7 +27,8 @@ pub(crate) struct Spool {
     pub(crate) size: usize,
 }
 
-// All of standard input.
+// All of standard input. Never inlined: the block that is copied is off the stack before calls are made.
+#[inline(never)]
 pub(crate) fn input(rt: &HostRuntime) -> Result<Spool, Stop> {
     let file = unnamed(rt).map_err(|_| Stop::NoFile)?;
     if file.as_raw_fd() < 2 {

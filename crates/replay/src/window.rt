@@ -8,12 +8,13 @@ use header::fields;
 use input::section;
 
 // The longest call, and so much more that it is not read again for each short one.
-const LENGTH: usize = calls::LONGEST + 8192;
+pub(crate) const LENGTH: usize = calls::LONGEST + 8192;
 
 #[derive(Drop)]
 pub(crate) struct Window<'a> {
-    spool: &'a Spool,
-    bytes: [u8; LENGTH],
+    spool: Spool,
+    // Lent: in the window's own array it would be there twice, once where it is made.
+    bytes: &'a mut [u8],
     // The index of the first byte that is held, and how many are.
     from: usize,
     count: usize,
@@ -21,10 +22,10 @@ pub(crate) struct Window<'a> {
 
 impl<'a> Window<'a> {
     // Nothing is held yet.
-    pub(crate) fn new(spool: &'a Spool) -> Self {
+    pub(crate) fn new(spool: Spool, bytes: &'a mut [u8]) -> Self {
         Window {
             spool,
-            bytes: [0; LENGTH],
+            bytes,
             from: 0,
             count: 0,
         }
@@ -41,7 +42,7 @@ impl<'a> Window<'a> {
         if (n <= ahead) | (self.end().saturating_sub(at) <= ahead) {
             return Ok(());
         }
-        self.count = self.spool.read(at, &mut self.bytes)?;
+        self.count = self.spool.read(at, &mut *self.bytes)?;
         self.from = at;
         Ok(())
     }
@@ -60,7 +61,7 @@ impl<'a> Window<'a> {
 
     // What is held from an index on.
     pub(crate) fn bytes(&self, at: usize) -> &[u8] {
-        fields::tail(section::front(&self.bytes, self.count), self.place(at))
+        fields::tail(section::front(&*self.bytes, self.count), self.place(at))
     }
 
     // The two bytes at an index.
