@@ -99,6 +99,7 @@ fn judged_as(neighbour: u32, candidate: Option<u16>) -> Result<Report, Refusal>
 }
 
 // Numbers 16, 17 and 18 of an ICMPv4 message; else the neighbour and its candidate.
+#[tactic(auto, unfolding(crate::specs::Report::judged_of))]
 pub fn judge(settings: Settings, message: &[u8]) -> Result<Report, Refusal>
     ensures { result ≡ judged_of settings message.now }
 {
@@ -108,6 +109,7 @@ pub fn judge(settings: Settings, message: &[u8]) -> Result<Report, Refusal>
 }
 
 // Number 19, at the size in force toward the report's neighbour.
+#[tactic(auto, unfolding(crate::specs::Report::accepted_below))]
 pub fn answer(judged: Result<Report, Refusal>, in_force: u16) -> Result<Report, Refusal>
     ensures { result ≡ answer_at judged in_force }
 {

@@ -62,6 +62,7 @@ pub fn read(message: &[u8]) -> Result<Quote, Refusal>
     })
 }
 
+#[tactic(auto, unfolding(crate::specs::Reading::origin_of))]
 fn origin_of(first: Settings, second: Settings, two: bool, source: u32) -> Option<Origin>
     ensures { result ≡ origin_of first second two source }
 {
@@ -75,6 +76,7 @@ fn origin_of(first: Settings, second: Settings, two: bool, source: u32) -> Optio
 }
 
 // The rest of number 17, which is that the neighbour is our own, and number 18.
+#[tactic(auto, unfolding(crate::specs::Reading::over_link))]
 fn over_link(
     own: bool,
     link: u16,
@@ -111,6 +113,7 @@ fn quote_over(
 }
 
 // By the settings of the service that it belongs to; of the second ones only where there are two services.
+#[tactic(auto, unfolding(crate::specs::Reading::judged_over))]
 pub fn judge(
     first: Settings,
     second: Settings,

@@ -77,6 +77,7 @@ fn sized_plan(path_size: u16, packet: &[u8], source: u32) -> Plan
     }
 }
 
+#[tactic(auto, unfolding(crate::specs::Plan::plan_of, crate::specs::Plan::source_for))]
 pub(crate) fn send_plan(
     settings: Settings,
     path_size: u16,
