@@ -5,12 +5,13 @@ pub mod bits;
 pub mod prefix;
 pub mod route;
 
-ghost use Rattle.std.specs.Prelude.{◌≡◌, ◌+◌, ◌*◌, ◌≤◌, ◌<◌, length, take};
+ghost use Rattle.std.specs.Prelude.{◌≡◌, ◌||◌, ◌+◌, ◌*◌, ◌≤◌, ◌<◌, length, take};
 ghost use mathlib.Core.List.{map, flatten};
+ghost use Rattle.lists.specs.Any.{any_of};
 ghost use Rattle.lent.specs.Written.{written, written_at};
 ghost use Rattle.advertisements.specs.Options.{prefix_option, route_option};
 ghost use Rattle.header.specs.Wrap.{be32};
-ghost use Rattle.advertisements.specs.Advertisement.{are_options_bad, written_options, prefixes_of, routes_of, routes_length, advertisement_length, advertisement_answer, advertisement_output};
+ghost use Rattle.advertisements.specs.Advertisement.{is_prefix_too_long, is_route_too_long, are_options_bad, written_options, prefixes_of, routes_of, routes_length, advertisement_length, advertisement_answer, advertisement_output};
 
 use header::fields;
 use lent::write_at;
@@ -62,13 +63,21 @@ impl Advertisement {
         &self.routes[..self.route_count.min(MOST)]
     }
 
-    // Number 26.
-    fn options_bad(&self) -> bool
-        ensures { result ≡ are_options_bad self.now }
+    // Whether one of them has more than 128 bits.
+    fn some_too_long(&self) -> bool
+        ensures { result ≡ (any_of is_prefix_too_long (prefixes_of self.now) || any_of is_route_too_long (routes_of self.now)) }
     {
         let prefix = self.counted_prefixes().iter().any(|p| LONGEST < p.length);
         let route = self.counted_routes().iter().any(|r| LONGEST < r.length);
-        (MOST < self.prefix_count) | ((MOST < self.route_count) | (prefix | route))
+        prefix | route
+    }
+
+    // Number 26. What is asked of each prefix and route is not asked where they are too many.
+    #[tactic(auto, unfolding(crate::specs::Advertisement::are_options_bad))]
+    fn options_bad(&self) -> bool
+        ensures { result ≡ are_options_bad self.now }
+    {
+        MOST < self.prefix_count || MOST < self.route_count || self.some_too_long()
     }
 
     #[tactic(auto, unfolding(crate::specs::Advertisement::advertisement_length))]
