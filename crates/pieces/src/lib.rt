@@ -36,7 +36,8 @@ pub struct Key {
 }
 
 // A datagram that is collected: the latest time at its first piece, its end, 0 while that is not known, how far its pieces with
-// more-fragments set reach, and which of its units are held. `used` is 0 where there is none: a byte, for a C caller may hand in any.
+// more-fragments set reach, and which of its units are held. `used` is 0 where there is none: a byte, for a C caller may hand in any. No
+// Option for these two: the C header has the same layout.
 #[repr(C)]
 #[derive(Clone, Copy)]
 pub struct Place {
