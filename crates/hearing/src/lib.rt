@@ -44,6 +44,7 @@ fn advertisement(p: Packet) -> bool
 }
 
 // What is judged of a valid advertisement from a source, with its smallest lifetime: 21, or its router, by when it is then due.
+#[tactic(auto, unfolding(crate::specs::Heard::heard_from, settings::specs::Settings::embedded_to))]
 fn judge_from(
     settings: Settings,
     routers: RouterList,
