@@ -6,7 +6,7 @@ ghost use Rattle.std.specs.Prelude.{◌≡◌, ◌≤◌, length};
 ghost use Rattle.bench_loops.specs.Loops.{part_at, received_worth, sent_worth, sums_from, received_many, sent_many, sent_many_output, sizes_toward};
 
 use node::{Node, ServiceName};
-use paths::PathTable;
+use paths::{LentRows, PathTable};
 use receiving::Received;
 use refusals::Refusal;
 use sending::SendAnswer;
@@ -142,15 +142,13 @@ pub extern "C" fn bench_lookup(table: PathTable, link: u16, first: u32, count: u
     let mut sum: u64 = 0;
     for i in 0..count {
         let neighbour = first.wrapping_add(i);
-        let size = paths::size_among(
-            link,
-            &table.neighbours,
-            &table.sizes,
-            &table.times,
-            table.count,
-            neighbour,
-            now,
-        );
+        let rows = LentRows {
+            neighbours: &table.neighbours,
+            sizes: &table.sizes,
+            times: &table.times,
+            count: table.count,
+        };
+        let size = rows.size_toward(link, neighbour, now);
         sum = sum + wide(size);
     }
     sum

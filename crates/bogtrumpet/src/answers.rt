@@ -3,9 +3,9 @@
 ghost use Rattle.std.specs.Prelude.{◌≡◌};
 ghost use Rattle.bogtrumpet.specs.Answers.{plain_received, plain_sized, plain_sent, plain_reported, plain_asked, plain_heard, plain_advertised};
 
+use refusals::Refusal;
 use reports::Report;
 use sending::SendAnswer;
-use refusals::Refusal;
 
 // Where the inner packet stands: in the memory where it was joined of pieces, else in the datagram.
 #[repr(C)]

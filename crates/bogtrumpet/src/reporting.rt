@@ -4,7 +4,7 @@ ghost use Rattle.bogtrumpet.specs.Reporting.{refused_look, accepted_look, looked
 
 use super::answers;
 use super::answers::Reported;
-use paths::{Look, reported};
+use paths::{LentRows, Look, reported};
 use refusals::Refusal;
 use reports::reading::Quote;
 use reports::{Report, reading};
@@ -80,15 +80,13 @@ pub(crate) fn looked<'a>(
     match judged {
         Ok(over) => {
             let report = over.report;
-            let look = paths::look_among(
-                over.link,
+            let rows = LentRows {
                 neighbours,
                 sizes,
                 times,
                 count,
-                report.neighbour,
-                latest,
-            );
+            };
+            let look = rows.look(over.link, report.neighbour, latest);
             below(report, look, latest)
         }
         Err(refusal) => refused(refusal, latest),

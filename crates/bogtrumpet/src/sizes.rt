@@ -9,9 +9,10 @@ ghost use Rattle.bogtrumpet.specs.Steps.{sized_step};
 
 use super::answers::Sized;
 use super::{Address, answers, numbered, plain};
+use paths::LentRows;
 use refusals::Refusal;
 
-// Toward a neighbour, at the latest time: paths::size_among.
+// Toward a neighbour, at the latest time: paths::LentRows::size_toward.
 #[tactic(auto, unfolding(crate::specs::Steps::sized_step))]
 pub fn size_in_force<'a>(
     link: u16,
@@ -26,7 +27,13 @@ pub fn size_in_force<'a>(
 ) -> Sized
     ensures { result ≡ sized_step both service (in_force link (kept_among neighbours.now sizes.now times.now count neighbour latest)) }
 {
-    let size = paths::size_among(link, neighbours, sizes, times, count, neighbour, latest);
+    let rows = LentRows {
+        neighbours,
+        sizes,
+        times,
+        count,
+    };
+    let size = rows.size_toward(link, neighbour, latest);
     if numbered::there(both, service) {
         answers::plain_sized(Ok(size))
     } else {
@@ -55,5 +62,11 @@ pub fn size_toward<'a>(
     let d = next_hop.last;
     let tunnel_end = address::last_quad(plain::whole(a, b, c, d));
     let later = latest.max(time);
-    paths::size_among(link, neighbours, sizes, times, count, tunnel_end, later)
+    let rows = LentRows {
+        neighbours,
+        sizes,
+        times,
+        count,
+    };
+    rows.size_toward(link, tunnel_end, later)
 }

@@ -100,72 +100,67 @@ pub fn in_force(link: u16, kept: Option<u16>) -> u16
     kept.map_or(link, |size| link.min(size))
 }
 
-// The size in force over a link toward a neighbour at a time, of a table whose rows are lent: all of them are searched, where any is in
-// use, and nothing is copied.
-pub fn size_among<'a>(
-    link: u16,
-    neighbours: &'a [u32],
-    sizes: &'a [u16],
-    times: &'a [u32],
-    count: usize,
-    neighbour: u32,
-    time: u32,
-) -> u16
-    ensures { result ≡ in_force link (kept_among neighbours.now sizes.now times.now count neighbour time) }
-{
-    if count == 0 {
-        return link;
-    }
-    let p = row_in_lent(neighbours, neighbour);
-    let rows = neighbours.len().min(sizes.len()).min(times.len());
-    size_at(link, sizes, times, count, rows, p, time)
+// The rows of a path table, lent. The first `count` are in use.
+#[derive(Clone, Copy)]
+pub struct LentRows<'a> {
+    pub neighbours: &'a [u32],
+    pub sizes: &'a [u16],
+    pub times: &'a [u32],
+    pub count: usize,
 }
 
-// What lent rows say of a neighbour at a time: one search is for the size in force and for the row that makes room.
-pub fn look_among<'a>(
-    link: u16,
-    neighbours: &'a [u32],
-    sizes: &'a [u16],
-    times: &'a [u32],
-    count: usize,
-    neighbour: u32,
-    time: u32,
-) -> Look
-    ensures { result ≡ look_among link neighbours.now sizes.now times.now count neighbour time }
-{
-    let p = row_in_lent(neighbours, neighbour);
-    let rows = neighbours.len().min(sizes.len()).min(times.len());
-    let in_force = size_at(link, sizes, times, count, rows, p, time);
-    let used = count.min(rows);
-    let row = p.min(used).min(LAST_ROW);
-    Look {
-        in_force,
-        row,
-        count: used.max(row + 1),
+impl<'a> LentRows<'a> {
+    // How many rows there are.
+    fn most(self) -> usize
+        ensures { result ≡ min (min (length self.entry.neighbours.now) (length self.entry.sizes.now)) (length self.entry.times.now) }
+    {
+        self.neighbours
+            .len()
+            .min(self.sizes.len())
+            .min(self.times.len())
     }
-}
 
-// The size in force over a link by the report of a row, where that is one of the first `count` of `rows`. Two tests: that a row which was found is
-// one of the 64 the compiler knows.
-fn size_at<'a>(
-    link: u16,
-    sizes: &'a [u16],
-    times: &'a [u32],
-    count: usize,
-    rows: usize,
-    row: usize,
-    time: u32,
-) -> u16
-    requires { (rows ≤ length sizes.now) × (rows ≤ length times.now) }
-    ensures { result ≡ cond (ltb row (min count rows)) (in_force link (while_young (get_or sizes.now row 0) (get_or times.now row 0) time)) link }
-{
-    if count <= row {
-        return link;
+    // The size in force over a link toward a neighbour at a time: all rows are searched, where any is in use, and nothing is copied.
+    pub fn size_toward(self, link: u16, neighbour: u32, time: u32) -> u16
+        ensures { result ≡ in_force link (kept_among self.entry.neighbours.now self.entry.sizes.now self.entry.times.now self.entry.count neighbour time) }
+    {
+        if self.count == 0 {
+            return link;
+        }
+        let row = row_in_lent(self.neighbours, neighbour);
+        self.size_at(link, self.most(), row, time)
     }
-    if rows <= row {
-        return link;
+
+    // What the rows say of a neighbour at a time: one search is for the size in force and for the row that makes room.
+    pub fn look(self, link: u16, neighbour: u32, time: u32) -> Look
+        ensures { result ≡ look_among link self.entry.neighbours.now self.entry.sizes.now self.entry.times.now self.entry.count neighbour time }
+    {
+        let found = row_in_lent(self.neighbours, neighbour);
+        let rows = self.most();
+        let in_force = self.size_at(link, rows, found, time);
+        let used = self.count.min(rows);
+        let row = found.min(used).min(LAST_ROW);
+        Look {
+            in_force,
+            row,
+            count: used.max(row + 1),
+        }
     }
-    in_force(link, while_young(sizes[row], times[row], time))
+
+    // The size in force over a link by the report of a row, where that is one of the first `count` of `rows`. Two tests: that a row which was
+    // found is one of the 64 the compiler knows.
+    fn size_at(self, link: u16, rows: usize, row: usize, time: u32) -> u16
+        requires { (rows ≤ length self.sizes.now) × (rows ≤ length self.times.now) }
+        ensures { result ≡ cond (ltb row (min self.entry.count rows)) (in_force link (while_young (get_or self.entry.sizes.now row 0) (get_or self.entry.times.now row 0) time)) link }
+    {
+        if self.count <= row {
+            return link;
+        }
+        if rows <= row {
+            return link;
+        }
+        in_force(link, while_young(self.sizes[row], self.times[row], time))
+    }
 }
 
 // A report's size while that is under 600 s old.
