@@ -92,7 +92,8 @@ fn identification_after(answer: SendAnswer, identification: u16) -> u16
     }
 }
 
-// One sending over a path of that size: the answer and the next identification; out gets what is written.
+// One sending over a path of that size: the answer and the next identification; out gets what is written. Its arguments stand one by one: the
+// node alone makes this call, and a struct of them would be filled and taken apart once each.
 pub fn send(
     settings: Settings,
     identification: u16,
