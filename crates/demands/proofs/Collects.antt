@@ -99,10 +99,10 @@ inward_changes n source p =
     go false false true = refl
     go false false false = refl
 
-refused-same : (q r : Refusal) → Err {A = Received} q ≡ Err r → q ≡ r
+refused-same : (q r : Refusal) → ◌≡◌ {A = Result Received Refusal} (Err q) (Err r) → q ≡ r
 refused-same q r h = cc
 
-joined-refused : (o l : ℕ) (r : Refusal) → Ok (Joined o l) ≡ Err r → ⊥
+joined-refused : (o l : ℕ) (r : Refusal) → ◌≡◌ {A = Result Received Refusal} (Ok (Joined o l)) (Err r) → ⊥
 joined-refused o l r e = let z : ◌≡◌ {A = ℕ} 0 1 = ap tagged e in omega arith
   where
     tagged : Result Received Refusal → ℕ

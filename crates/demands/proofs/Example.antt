@@ -1,6 +1,6 @@
 -- The premises of the joining theorem can be met, through the one service of a node and through the second of two: a datagram of 60 bytes in two
 -- pieces, the last one first, with an asking between, at the last second. Assumes nothing.
-use Rattle.std.specs.Prelude.{None, Some}
+use Rattle.std.specs.Prelude.{None, Some as some}
 use Prim.Native.Nat.{ℕ, zero, suc, max}
 use mathlib.Core.Path.{◌≡◌, refl, sym, ap, subst, ◌∙◌}
 use mathlib.Core.Logic.{⊎_elim}
@@ -146,7 +146,7 @@ alone = record { first = settings; second = None }
 abbrev pub beside : Start
 beside = record {
   first = defaults_for (record { address = quad_of 10 0 0 3; interface = 0 } ∷ replicate 7 no_locator) 1 (replicate 64 0) 0 (replicate 16 0) 0;
-  second = Some settings;
+  second = some settings;
 }
 
 -- ---- the calls: the last piece, an asking through the first service, the first piece

@@ -43,7 +43,7 @@ abbrev away : Result Unit Refusal → Bool
 away (Ok tt) = false
 away (Err r) = is_turned_away (number_of r)
 
-pub pass_stop : (r : Refusal) → (Ok tt) ≡ Err r → ⊥
+pub pass_stop : (r : Refusal) → ◌≡◌ {A = Result Unit Refusal} (Ok tt) (Err r) → ⊥
 pass_stop r e = let z : ◌≡◌ {A = ℕ} 0 1 = ap marked e in omega arith
   where
     marked : Result Unit Refusal → ℕ

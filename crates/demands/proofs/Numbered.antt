@@ -3,7 +3,15 @@ use Rattle.std.specs.Prelude.{ℕ, ◌≡◌, refl, Result, Ok, Err}
 use mathlib.Core.Path.{ap, sym}
 use Rattle.refusals.specs.Given.{Given, refused, number_in}
 use Rattle.refusals.specs.declared.Refusal.{Refusal}
+use Rattle.header.specs.Outer.{outer_given}
+use Rattle.header.specs.Wrap.{written_given}
+use Rattle.reports.specs.Report.{report_given}
 use Rattle.receiving.specs.Receive.{received_given}
+use Rattle.asking.specs.Ask.{ask_given}
+use Rattle.hearing.specs.Heard.{heard_given}
+use Rattle.node.specs.Node.{setup_given}
+use Rattle.node.specs.RouterList.{list_given}
+use Rattle.node.specs.Size.{size_given}
 use Rattle.receiving.specs.declared.Received.{Received}
 use Rattle.receiving.specs.declared.Received.TheVariants.{Delivered, Joined}
 use Rattle.demands.specs.Numbered.{Numbered}
@@ -19,13 +27,13 @@ standing (Joined offset size) = refl
 
 pub numbered : Numbered
 numbered = record {
-  outer = numbered_by _ (λ x. refl) (λ r. refl);
-  written = numbered_by _ (λ x. refl) (λ r. refl);
-  received = numbered_by _ standing (λ r. refl);
-  report = numbered_by _ (λ x. refl) (λ r. refl);
-  asked = numbered_by _ (λ x. refl) (λ r. refl);
-  heard = numbered_by _ (λ x. refl) (λ r. refl);
-  setup = numbered_by _ (λ x. refl) (λ r. refl);
-  list = numbered_by _ (λ x. refl) (λ r. refl);
-  size = numbered_by _ (λ x. refl) (λ r. refl);
+  outer = numbered_by outer_given (λ x. refl) (λ r. refl);
+  written = numbered_by written_given (λ x. refl) (λ r. refl);
+  received = numbered_by received_given standing (λ r. refl);
+  report = numbered_by report_given (λ x. refl) (λ r. refl);
+  asked = numbered_by ask_given (λ x. refl) (λ r. refl);
+  heard = numbered_by heard_given (λ x. refl) (λ r. refl);
+  setup = numbered_by setup_given (λ x. refl) (λ r. refl);
+  list = numbered_by list_given (λ x. refl) (λ r. refl);
+  size = numbered_by size_given (λ x. refl) (λ r. refl);
 }

@@ -1,5 +1,5 @@
 -- What a node advertises, any node that lists it accepts. Assumes nothing.
-use Rattle.std.specs.Prelude.{Ok, Err}
+use Rattle.std.specs.Prelude.{Ok, Err, Result}
 use Prim.Native.Nat.{ℕ, zero, suc, ◌+◌, ◌*◌, ◌/◌, ◌%◌, ◌≤◌, ◌<◌, max}
 use mathlib.Core.Path.{◌≡◌, refl, sym, ap, subst, ◌∙◌}
 use mathlib.Core.Logic.{⊎_elim, inl, inr}
@@ -15,6 +15,7 @@ use Rattle.address.specs.Address.{link_local_of}
 use Rattle.address.specs.Facts.{formed}
 use Rattle.lent.specs.Written.{written}
 use Rattle.header.specs.Fields.{bytes_from, address_at}
+use Rattle.refusals.specs.declared.Refusal.{Refusal}
 use Rattle.refusals.specs.declared.Refusal.TheVariants.{NoLocator}
 use Rattle.messages.specs.Icmp.{icmp_message, icmp_packet}
 use Rattle.options.specs.Facts.{WholeOptions, IsLifetime, Counts, DueBy}
