@@ -22,7 +22,7 @@ const LAST_ROW: usize = NEIGHBOURS - 1;
 const LIFETIME: u64 = 600;
 
 // Accepted reports, the newest first, at most one of each neighbour: row by row whose it is, its size and its time.
-// The first `count` rows are in use.
+// The first `count` rows are in use. Arrays side by side, with a count: the layout is the C interface's.
 #[repr(C)]
 #[derive(Clone, Copy)]
 pub struct PathTable {
@@ -53,7 +53,7 @@ impl PathTable {
         }
     }
 
-    // The size kept toward a neighbour at a time. Of a table by value a row is copied where it is read; size_among copies none.
+    // The size kept toward a neighbour at a time. Of a table by value a row is copied where it is read; LentRows copies none.
     pub fn kept(self, neighbour: u32, now: u32) -> Option<u16>
         ensures { result ≡ kept_in self neighbour now }
     {

@@ -42,7 +42,7 @@ fn row_within(rows: &[u32], start: usize, most: usize, neighbour: u32) -> usize
     i
 }
 
-// The row of a neighbour in a lent row, or the number of rows: a quarter of them is compared at once. The loops have bounds by the length of
+// The row of a neighbour in a lent row, or the number of rows: a quarter of them is compared at once, so this loop goes in steps. The loops have bounds by the length of
 // the row, so that they are inlined as loops; of the 64 rows of a table nothing is left of them but straight code.
 pub(crate) fn row_in_lent(rows: &[u32], neighbour: u32) -> usize
     ensures { result ≡ row_of neighbour rows.now }

@@ -15,7 +15,7 @@ pub struct Router {
     pub due: u64,
 }
 
-// Place by place the address of a router and its due time.
+// Place by place the address of a router and its due time. Arrays side by side, with a count: the layout is the C interface's.
 #[repr(C)]
 #[derive(Clone, Copy)]
 pub struct RouterList {
