@@ -1,4 +1,5 @@
-// The call that answers a solicitation. Its lists may be longer than what is held of the input, so each is read at its own place.
+// The call that answers a solicitation. Its lists may be longer than what is held of the input, so each is read at its own place. `test_vectors`
+// reads such prefixes and routes too: a crate for both would be longer than what they share.
 ghost use Rattle.std.specs.Prelude.{◌≤◌, ◌<◌, IfOk};
 
 use crate::spool::LIMIT;

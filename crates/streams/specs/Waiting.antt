@@ -1,4 +1,4 @@
--- Lines that wait to be written.
+-- Lines that wait to be written. No contract of node, boundary or program rests on this.
 use Rattle.std.specs.Prelude.{ℕ, ◌+◌, cond, List, ◌++◌, length, ltb}
 
 -- the bytes that may wait

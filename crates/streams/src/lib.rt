@@ -14,7 +14,8 @@ pub struct ReadFailed {
     pub count: usize,
 }
 
-// Reads until the buffer is full or the input ends, and counts the bytes.
+// Reads until the buffer is full or the input ends, and counts the bytes. A loop, since `read_to_end` takes memory, and `read_exact` does not
+// count.
 pub fn read_all<R: Read>(from: &mut R, buf: &mut [u8]) -> Result<usize, ReadFailed>
     ensures ok { IfOk result (λ n. IsPrefixLen n buf.new) }
     ensures err { IfErr result (λ e. IsPrefixLen e.count buf.new) }
