@@ -1,6 +1,6 @@
 // Each call's answer as a struct of C: the number (R4), 0 where the call was not refused, and the values that go with it. A value
 // that an answer does not have is 0.
-ghost use Rattle.std.specs.Prelude.{◌≡◌};
+ghost use Rattle.std.specs.Prelude.{◌≡◌, false};
 ghost use Rattle.bogtrumpet.specs.Answers.{plain_received, plain_sized, plain_sent, plain_reported, plain_asked, plain_heard, plain_advertised};
 
 use refusals::Refusal;
@@ -89,6 +89,18 @@ pub fn plain_received(answer: Result<receiving::Received, Refusal>) -> Received
             offset: 0,
             length: 0,
         },
+    }
+}
+
+// The plain answer with a number alone.
+pub(crate) fn refused(number: u8) -> Received
+    ensures { result ≡ record { number = number; joined = false; offset = 0; length = 0 } }
+{
+    Received {
+        number,
+        joined: false,
+        offset: 0,
+        length: 0,
     }
 }
 

@@ -40,6 +40,7 @@ use reporting::ReportLook;
 use reports::reading;
 use reports::reading::Quote;
 use settings::Settings;
+use steps::PlainStage;
 
 // An IPv6 address. It is handed over in memory; in fields of four bytes it is read by four bytes, and not by one.
 #[repr(C)]
@@ -148,7 +149,11 @@ pub extern "C" fn bogtrumpet_receive(
     if let Some((at, place)) = step.stored {
         named.pieces.places[at] = place;
     }
-    let answer = steps::judged(*named, step);
+    let answer = match step.stage {
+        PlainStage::Open(received, x) => steps::judged(*named, received, x),
+        PlainStage::Passed(received) => answers::plain_received(Ok(received)),
+        PlainStage::Refused(number) => answers::refused(number),
+    };
     node.latest = step.latest;
     answer
 }

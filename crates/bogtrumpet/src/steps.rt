@@ -6,7 +6,9 @@ ghost use Rattle.node.specs.Receive.{collected_through};
 ghost use Rattle.node.specs.Send.{sent_through};
 ghost use Rattle.routers.specs.Routers.{rescheduled_of};
 ghost use Rattle.bogtrumpet.specs.Answers.{plain_advertised};
-ghost use Rattle.bogtrumpet.specs.Gathered.{plain_stage, GatheredAs, judged_step};
+ghost use Rattle.bogtrumpet.specs.Gathered.{plain_stage, plain_judged, GatheredAs};
+ghost use Rattle.bogtrumpet.specs.declared.steps.PlainStage.TheVariants.{Open};
+ghost use Rattle.routers.specs.Routers.{live};
 ghost use Rattle.bogtrumpet.specs.Numbered.{is_there};
 ghost use Rattle.bogtrumpet.specs.Plain.{bytes_of, advertisement_from};
 ghost use Rattle.bogtrumpet.specs.Steps.{sent_step, replaced_step, AskedAs, HeardAs};
@@ -29,8 +31,8 @@ pub struct SentStep {
     pub latest: u32,
 }
 
-// What is read of a datagram, or the number: a `Result<Stage, Refusal>` in one enum, for as two in one a receiving was tried at 249 instructions,
-// 191 before. The number is told where the refusal is, which the compiler knows there, and so is looked up nowhere.
+// What is read of a datagram, or the number: a `Result<Stage, Refusal>` in one enum, for two in one take more instructions of a receiving. The
+// number is told where the refusal is, which the compiler knows there, and so is looked up nowhere.
 #[derive(Clone, Copy)]
 pub(crate) enum PlainStage {
     Open(receiving::Received, Opening),
@@ -67,14 +69,18 @@ fn plain_stage(stage: Result<Stage, Refusal>) -> PlainStage
     ensures { result ≡ plain_stage stage }
 {
     match stage {
-        Ok(Stage {
-            received,
-            open: Some(x),
-        }) => PlainStage::Open(received, x),
-        Ok(Stage {
-            received,
-            open: None,
-        }) => PlainStage::Passed(received),
+        Ok(
+            Stage {
+                received,
+                open: Some(x),
+            },
+        ) => PlainStage::Open(received, x),
+        Ok(
+            Stage {
+                received,
+                open: None,
+            },
+        ) => PlainStage::Passed(received),
         Err(refusal) => PlainStage::Refused(refusal.number()),
     }
 }
@@ -111,29 +117,17 @@ pub(crate) fn gathered(
     }
 }
 
-// What comes of it by the service as it is then: receiving::judging::judge.
-#[tactic(auto, unfolding(crate::specs::Gathered::judged_step))]
-pub(crate) fn judged(named: Service, step: GatheredStep) -> Received
-    ensures { result ≡ judged_step named step }
+// What comes of what is to be judged, by the service as it is then: receiving::judging::judge.
+pub(crate) fn judged(named: Service, received: receiving::Received, x: Opening) -> Received
+    ensures { result ≡ plain_judged named.settings (live named.routers) (Open received x) }
 {
-    match step.stage {
-        PlainStage::Open(received, x) => {
-            let settings = named.settings;
-            let routers = named.routers;
-            let stage = Stage {
-                received,
-                open: Some(x),
-            };
-            answers::plain_received(judging::judge(settings, routers, stage))
-        }
-        PlainStage::Passed(received) => answers::plain_received(Ok(received)),
-        PlainStage::Refused(number) => Received {
-            number,
-            joined: false,
-            offset: 0,
-            length: 0,
-        },
-    }
+    let settings = named.settings;
+    let routers = named.routers;
+    let stage = Stage {
+        received,
+        open: Some(x),
+    };
+    answers::plain_received(judging::judge(settings, routers, stage))
 }
 
 // A sending over a path of that size: node::send::sent_by.
