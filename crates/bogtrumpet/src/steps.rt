@@ -31,8 +31,8 @@ pub struct SentStep {
     pub latest: u32,
 }
 
-// What is read of a datagram, or the number: a `Result<Stage, Refusal>` in one enum, for two in one take more instructions of a receiving. The
-// number is told where the refusal is, which the compiler knows there, and so is looked up nowhere.
+// What is read of a datagram, or the number, in one enum: as a `Result` of an optional opening a delivery took two instructions more. The number is
+// told where the refusal is, which the compiler knows there, and so is looked up nowhere.
 #[derive(Clone, Copy)]
 pub(crate) enum PlainStage {
     Open(receiving::Received, Opening),

@@ -135,7 +135,8 @@ fn check_inner(settings: Settings, routers: RouterList, x: Opening) -> Result<()
     Ok(())
 }
 
-// What comes of what is read: 8 to 10 of what is to be judged, and then where the inner packet stands.
+// What comes of what is read: 8 to 10 of what is to be judged, and then where the inner packet stands. Settings and router list go side by side,
+// as a service has them: a struct of the two would be made for the call alone.
 pub fn judge(settings: Settings, routers: RouterList, stage: Stage) -> Result<Received, Refusal>
     ensures { result ≡ judged_of settings (live routers) stage }
 {
