@@ -40,8 +40,7 @@ fn run(rt: &HostRuntime) -> Result<(), Stop> {
         return Err(Stop::BadInput);
     }
     let start = start::read(&spool)?;
-    let mut bytes = [0; window::LENGTH];
-    let mut window = Window::new(spool, &mut bytes);
+    let mut window = Window::new(spool);
     walk::check(start.calls, &mut window)?;
     let setup = setup(start);
     match setup.answer {

@@ -8,24 +8,23 @@ use header::fields;
 use input::section;
 
 // The longest call, and so much more that it is not read again for each short one.
-pub(crate) const LENGTH: usize = calls::LONGEST + 8192;
+const LENGTH: usize = calls::LONGEST + 8192;
 
 #[derive(Drop)]
-pub(crate) struct Window<'a> {
+pub(crate) struct Window {
     spool: Spool,
-    // Lent: in the window's own array it would be there twice, once where it is made.
-    bytes: &'a mut [u8],
+    bytes: [u8; LENGTH],
     // The index of the first byte that is held, and how many are.
     from: usize,
     count: usize,
 }
 
-impl<'a> Window<'a> {
+impl Window {
     // Nothing is held yet.
-    pub(crate) fn new(spool: Spool, bytes: &'a mut [u8]) -> Self {
+    pub(crate) fn new(spool: Spool) -> Self {
         Window {
             spool,
-            bytes,
+            bytes: [0; LENGTH],
             from: 0,
             count: 0,
         }
@@ -42,7 +41,7 @@ impl<'a> Window<'a> {
         if (n <= ahead) | (self.end().saturating_sub(at) <= ahead) {
             return Ok(());
         }
-        self.count = self.spool.read(at, &mut *self.bytes)?;
+        self.count = self.spool.read(at, &mut self.bytes)?;
         self.from = at;
         Ok(())
     }
@@ -61,7 +60,7 @@ impl<'a> Window<'a> {
 
     // What is held from an index on.
     pub(crate) fn bytes(&self, at: usize) -> &[u8] {
-        fields::tail(section::front(&*self.bytes, self.count), self.place(at))
+        fields::tail(section::front(&self.bytes, self.count), self.place(at))
     }
 
     // The two bytes at an index.
