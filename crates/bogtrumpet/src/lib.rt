@@ -33,7 +33,7 @@ ghost use Rattle.bogtrumpet.specs.Steps.{sent_step, sent_after};
 
 use answers::{Advertised, Asked, Heard, Received, Reported, Sent, Sized};
 use node::{Node, Service};
-use paths::rows;
+use paths::{LentRows, rows};
 use plain::Advertisement;
 use refusals::Refusal;
 use reporting::ReportLook;
@@ -124,6 +124,18 @@ fn named(node: &mut Node, service: u8) -> &mut Service
     }
 }
 
+// The rows of the path table, lent to a search, so that none is copied.
+fn path_rows(node: &Node) -> LentRows<'_>
+    ensures { (result.neighbours.now ≡ node.now.paths.neighbours) × (result.sizes.now ≡ node.now.paths.sizes) × (result.times.now ≡ node.now.paths.times) × (result.count ≡ node.now.paths.count) }
+{
+    LentRows {
+        neighbours: &node.paths.neighbours,
+        sizes: &node.paths.sizes,
+        times: &node.paths.times,
+        count: node.paths.count,
+    }
+}
+
 // Where the inner packet stands, in the datagram or in the memory: Node::receive. Of the node the latest time is written, and one place where a
 // piece comes to the collection of the service. Settings and router list are read of the node after that: nothing of them is kept from before the
 // memory was written.
@@ -158,8 +170,7 @@ pub extern "C" fn bogtrumpet_receive(
     answer
 }
 
-// The size in force for a service toward a neighbour: Node::path_size. The rows of the path table are lent to the search, so that none is
-// copied.
+// The size in force for a service toward a neighbour: Node::path_size. The rows of the path table are lent to the search.
 #[unsafe(no_mangle)]
 pub extern "C" fn bogtrumpet_path_size(node: &Node, service: u8, neighbour: u32) -> Sized
     ensures { result ≡ by_number service (λ w. plain_sized (path_size_of node.now w neighbour)) (plain_sized (Err NoLocator)) }
@@ -168,10 +179,7 @@ pub extern "C" fn bogtrumpet_path_size(node: &Node, service: u8, neighbour: u32)
     sizes::size_in_force(
         named.settings.link_size,
         node.both,
-        &node.paths.neighbours,
-        &node.paths.sizes,
-        &node.paths.times,
-        node.paths.count,
+        path_rows(node),
         node.latest,
         service,
         neighbour,
@@ -185,13 +193,8 @@ fn size_toward(node: &Node, service: u8, next_hop: Address, time: u32) -> u16
     let named = service_at(node, service);
     sizes::size_toward(
         named.settings.link_size,
-        node.both,
-        &node.paths.neighbours,
-        &node.paths.sizes,
-        &node.paths.times,
-        node.paths.count,
+        path_rows(node),
         node.latest,
-        service,
         next_hop,
         time,
     )
@@ -250,10 +253,7 @@ fn report_look(node: &Node, reading: Result<Quote, Refusal>, time: u32) -> Repor
         node.first.settings,
         node.second.settings,
         node.both,
-        &node.paths.neighbours,
-        &node.paths.sizes,
-        &node.paths.times,
-        node.paths.count,
+        path_rows(node),
         node.latest,
         reading,
         time,

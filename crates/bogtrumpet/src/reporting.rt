@@ -61,31 +61,22 @@ fn below(report: Report, look: Look, latest: u32) -> ReportLook
 
 // At the later of the latest time and this one.
 #[tactic(auto, unfolding(crate::specs::Reporting::looked_among))]
-pub(crate) fn looked<'a>(
+pub(crate) fn looked(
     first: Settings,
     second: Settings,
     both: u8,
-    neighbours: &'a [u32],
-    sizes: &'a [u16],
-    times: &'a [u32],
-    count: usize,
+    rows: LentRows<'_>,
     latest: u32,
     read: Result<Quote, Refusal>,
     time: u32,
 ) -> ReportLook
-    ensures { result ≡ looked_among first second both neighbours.now sizes.now times.now count latest read time }
+    ensures { result ≡ looked_among first second both rows.entry.neighbours.now rows.entry.sizes.now rows.entry.times.now rows.entry.count latest read time }
 {
     let latest = latest.max(time);
     let judged = reading::judge(first, second, 0 < both, read);
     match judged {
         Ok(over) => {
             let report = over.report;
-            let rows = LentRows {
-                neighbours,
-                sizes,
-                times,
-                count,
-            };
             let look = rows.look(over.link, report.neighbour, latest);
             below(report, look, latest)
         }

@@ -1,5 +1,4 @@
-// The path size in force, of a path table whose rows are lent, for a service, the size of whose link is handed. Both functions have the same
-// parameters before the neighbour.
+// The path size in force, of a path table whose rows are lent, for a service, the size of whose link is handed.
 ghost use Rattle.std.specs.Prelude.{◌≡◌, max};
 ghost use Rattle.address.specs.Address.{last_quad};
 ghost use Rattle.paths.specs.Kept.{in_force};
@@ -14,25 +13,16 @@ use refusals::Refusal;
 
 // Toward a neighbour, at the latest time: paths::LentRows::size_toward.
 #[tactic(auto, unfolding(crate::specs::Steps::sized_step))]
-pub fn size_in_force<'a>(
+pub fn size_in_force(
     link: u16,
     both: u8,
-    neighbours: &'a [u32],
-    sizes: &'a [u16],
-    times: &'a [u32],
-    count: usize,
+    rows: LentRows<'_>,
     latest: u32,
     service: u8,
     neighbour: u32,
 ) -> Sized
-    ensures { result ≡ sized_step both service (in_force link (kept_among neighbours.now sizes.now times.now count neighbour latest)) }
+    ensures { result ≡ sized_step both service (in_force link (kept_among rows.entry.neighbours.now rows.entry.sizes.now rows.entry.times.now rows.entry.count neighbour latest)) }
 {
-    let rows = LentRows {
-        neighbours,
-        sizes,
-        times,
-        count,
-    };
     let size = rows.size_toward(link, neighbour, latest);
     if numbered::there(both, service) {
         answers::plain_sized(Ok(size))
@@ -42,19 +32,14 @@ pub fn size_in_force<'a>(
 }
 
 // Toward the tunnel end of a next hop, at the later of the latest time and this one.
-pub fn size_toward<'a>(
+pub fn size_toward(
     link: u16,
-    _: u8,
-    neighbours: &'a [u32],
-    sizes: &'a [u16],
-    times: &'a [u32],
-    count: usize,
+    rows: LentRows<'_>,
     latest: u32,
-    _: u8,
     next_hop: Address,
     time: u32,
 ) -> u16
-    ensures { result ≡ in_force link (kept_among neighbours.now sizes.now times.now count (last_quad (bytes_of next_hop)) (max latest time)) }
+    ensures { result ≡ in_force link (kept_among rows.entry.neighbours.now rows.entry.sizes.now rows.entry.times.now rows.entry.count (last_quad (bytes_of next_hop)) (max latest time)) }
 {
     let a = next_hop.first;
     let b = next_hop.second;
@@ -62,11 +47,5 @@ pub fn size_toward<'a>(
     let d = next_hop.last;
     let tunnel_end = address::last_quad(plain::whole(a, b, c, d));
     let later = latest.max(time);
-    let rows = LentRows {
-        neighbours,
-        sizes,
-        times,
-        count,
-    };
     rows.size_toward(link, tunnel_end, later)
 }

@@ -73,7 +73,7 @@ fn bytes_at(d: &[u8], at: usize, n: usize) -> &[u8]
     ensures { result.now ≡ part at n d.now }
 {
     let behind = fields::tail(d, at);
-    let end = lists::least(n, behind.len());
+    let end = n.min(behind.len());
     &behind[..end]
 }
 

@@ -15,4 +15,5 @@ returns c =
     let k = c.args.service in
     let kept = kept_among h.paths.neighbours h.paths.sizes h.paths.times h.paths.count c.args.neighbour h.latest in
     let e = ap (λ (s : Service). sized_step h.both k (in_force s.settings.link_size kept)) c.service_at-named.ensures in
-    c.size_in_force.ensures ∙ e ∙ size_now h k c.args.neighbour
+    let p = c.path_rows.ensures in
+    rw (p.0, p.1, p.2, p.3) at c.size_in_force.ensures ∙ e ∙ size_now h k c.args.neighbour

@@ -16,6 +16,7 @@ returns c =
     let v = last_quad (bytes_of c.args.next_hop) in
     let now = max h.latest c.args.time in
     let e = c.service_at-named.ensures in
-    c.size_toward.ensures
+    let p = c.path_rows.ensures in
+    rw (p.0, p.1, p.2, p.3) at c.size_toward.ensures
     ∙ ap (λ (s : Service). in_force s.settings.link_size (kept_among h.paths.neighbours h.paths.sizes h.paths.times h.paths.count v now)) e
     ∙ size_is h (name_of k) v now
