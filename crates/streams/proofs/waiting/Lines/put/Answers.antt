@@ -1,5 +1,4 @@
 -- `streams::waiting::Lines::put` meets its contract.
-use Rattle.std.proofs.Common.{sym}
 use Rattle.streams.proofs.PutLaws.{put-within, put-word}
 use Rattle.streams.proofs.waiting.Lines.put.Goals as goal
 
