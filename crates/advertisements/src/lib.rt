@@ -33,7 +33,7 @@ const CURRENT_HOP_LIMIT: u8 = 0;
 const OPTIONS: usize = HEADERS + 8;
 
 // An advertisement as the operator sets it. Entries behind a count are not read. Arrays, for memory is fixed, and each with its count beside
-// it, for that may be above 8, which is refused by 26 (`BadOptions`).
+// it, for that may be above 8, which is refused by 26 (`OptionsBad`).
 #[derive(Clone, Copy)]
 pub struct Advertisement {
     // The flag M.

@@ -9,7 +9,7 @@ use routers::RouterList;
 use settings::Settings;
 
 // The answer, and the router list after the asking.
-// A struct and no Result: after a refusal the list is handed back too (document 01, "The shape of each place").
+// A struct and no Result: after a refusal the list is handed back too (R1.12).
 #[derive(Clone, Copy)]
 pub struct Asked {
     pub answer: Result<u32, Refusal>,

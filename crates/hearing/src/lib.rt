@@ -20,7 +20,7 @@ use settings::Settings;
 const OPTIONS: usize = 16;
 
 // The answer, and the router list after the advertisement.
-// A struct and no Result: after a refusal the list is handed back too (document 01, "The shape of each place"). `asking::Asked` has the same
+// A struct and no Result: after a refusal the list is handed back too (R1.12). `asking::Asked` has the same
 // fields; nothing takes both, so one type would only take their names away.
 #[derive(Clone, Copy)]
 pub struct Heard {

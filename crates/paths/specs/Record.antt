@@ -1,4 +1,4 @@
--- R11: every accepted report, the newest first. None is ever dropped from it.
+-- R11: every accepted report, the newest first. Nothing is ever dropped from it.
 use Rattle.std.specs.Prelude.{ℕ, cond, List, [], ◌∷◌, ltb, eqb, length, Option, None}
 use Rattle.paths.specs.Kept.{Report, most_neighbours, last_of, kept_from}
 

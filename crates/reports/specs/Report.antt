@@ -1,4 +1,4 @@
--- Some reports (R9): 16, 17 and 18 by the settings and the bytes alone, then 19 by the size in force.
+-- Size reports (R9): 16, 17 and 18 by the settings and the bytes alone, then 19 by the size in force.
 use Rattle.std.specs.Prelude.{ℕ, ◌+◌, Bool, cond, not, ◌||◌, List, [], ◌∷◌, eqb, ltb, length, get_or, Option, Some, None, Result, Ok, Err}
 use Rattle.checksum.specs.Sum.{is_right}
 use Rattle.header.specs.Fields.{word_at}

@@ -13,7 +13,7 @@ use paths::packets;
 use refusals::Refusal;
 use settings::Settings;
 
-// Three cases and no Result: 14 is an answer of document 01, with values, and a refusal has none.
+// Three cases and no Result: 14 has values (R8.4), and a refusal has none.
 #[derive(Clone, Copy, Debug, PartialEq, Eq)]
 pub enum SendAnswer {
     // The length written.
