@@ -1,5 +1,6 @@
 // The call that answers a solicitation. Its lists may be longer than what is held of the input, so each is read at its own place. `test_vectors`
-// reads such prefixes and routes too: a crate for both would be longer than what they share.
+// reads such prefixes and routes too: public functions for both would need contracts and edits, which are longer than what they share, and an
+// unknown preference is bad input here and low there.
 ghost use Rattle.std.specs.Prelude.{◌≤◌, ◌<◌, IfOk};
 
 use crate::spool::LIMIT;
@@ -69,7 +70,11 @@ pub(crate) fn size_at(at: usize, window: &mut Window) -> Result<usize, Stop>
     for i in 0..places.route_count {
         let route = places.routes + 2 + i * ROUTE;
         window.reach(route, 2)?;
-        preference(fields::byte(window.bytes(route), 1))?;
+        if preference(fields::byte(window.bytes(route), 1)).is_err() {
+            // The packet's length is read all the same: a read that fails is told before bad input is.
+            window.reach(places.packet, 2)?;
+            return Err(Stop::BadInput);
+        }
     }
     window.reach(places.packet, 2)?;
     Ok(places.packet.saturating_sub(at) + 2 + window.word(places.packet))

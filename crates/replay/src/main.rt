@@ -33,15 +33,16 @@ fn answer(rt: &HostRuntime) -> Result<(), Stop> {
     }
 }
 
-// Reads all calls through, and then makes them.
+// Reads all calls through, and then makes them. A read that fails is told before bad input is.
 fn run(rt: &HostRuntime) -> Result<(), Stop> {
     let spool = spool::input(rt)?;
-    if spool::LIMIT < spool.size {
-        return Err(Stop::BadInput);
-    }
     let start = start::read(&spool)?;
+    let good = start.known & (spool.size <= spool::LIMIT);
     let mut window = Window::new(spool);
     walk::check(start.calls, &mut window)?;
+    if !good {
+        return Err(Stop::BadInput);
+    }
     let setup = setup(start);
     match setup.answer {
         Ok(()) => walk::make(rt, setup.node, start.calls, &mut window),

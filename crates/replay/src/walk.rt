@@ -13,7 +13,7 @@ use streams::waiting::Lines;
 #[derive(Clone, Copy)]
 struct Call {
     kind: Kind,
-    // The first where it names none.
+    // The first where it names none. No Option: all kinds but one name a service, and each of their calls would have to open it.
     service: ServiceName,
     next: usize,
 }
@@ -74,7 +74,8 @@ pub(crate) fn check(first: usize, window: &mut Window) -> Result<(), Stop> {
     }
 }
 
-// Makes the calls, which are whole, up to where a read or a write fails.
+// Makes the calls, which are whole, up to where a read or a write fails. That is told before the lines that wait are written, and told here, since
+// writing them may fail too; where it was a write that failed, none waits.
 pub(crate) fn make(
     rt: &HostRuntime,
     node: Node,
@@ -85,8 +86,10 @@ pub(crate) fn make(
     let mut memories = [calls::BLANK; calls::MEMORIES];
     let mut lines = Lines::new();
     let made = made(rt, node, first, window, &mut out, &mut memories, &mut lines);
-    let written = lines.write(rt).map_err(|_| Stop::Output);
-    made.and(written)
+    if let Err(stop) = made {
+        let _ = eprintln!(rt; "replay: {stop}");
+    }
+    lines.write(rt).map_err(|_| Stop::Output)
 }
 
 // The node is lent to each call that changes it, which puts the next one in its place.
