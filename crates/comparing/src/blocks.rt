@@ -1,4 +1,6 @@
 // The search for the next unequal byte of two datagrams, or for the next equal one, quickly: blocks without one are passed at once.
+// No Option where there is none: the end is where a run that is not left ends, and each caller goes on from it. The loops over places compare two
+// slices at one place, and in `next_by_bytes` the place is what is asked: zip was not tried, and with `enumerate` it would be no plainer.
 ghost use Rattle.std.specs.Prelude.{◌≡◌, true, ◌≤◌, length};
 ghost use Rattle.comparing.specs.Runs.{is_unequal_at};
 ghost use Rattle.comparing.specs.Search.{NoneIn, IsNext};
@@ -47,7 +49,8 @@ impl<'a> Front<'a> {
     }
 
     // The place behind the blocks from `start` on that have no wanted place. It is left by a branch, which a processor guesses, so that the next
-    // block is begun before this one is known; added to, as in `behind_block`, the place of each would wait for the one before.
+    // block is begun before this one is known; added to, as in `behind_block`, the place of each would wait for the one before. A `while`: what is
+    // asked is the place behind the last block that is passed, which `step_by` does not give.
     pub(crate) fn behind_blocks(self, wanted: bool, start: usize) -> usize
         requires { start ≤ self.end }
         ensures { (start ≤ result) × (result ≤ self.entry.end) × NoneIn (is_unequal_at self.entry.a.now self.entry.b.now) wanted start result }
@@ -64,7 +67,8 @@ impl<'a> Front<'a> {
         p
     }
 
-    // The next place from `start` on where the bytes are unequal, if so is wanted, or else are not, one after another.
+    // The next place from `start` on where the bytes are unequal, if so is wanted, or else are not, one after another. `next_masked` differs in one
+    // test of the place: one function for both would take that as a closure with a clause of its own, longer than the two.
     fn next_by_bytes(self, wanted: bool, start: usize) -> usize
         requires { start ≤ self.end }
         ensures { IsNext (is_unequal_at self.entry.a.now self.entry.b.now) wanted start self.entry.end result }

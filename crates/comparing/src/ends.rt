@@ -1,4 +1,5 @@
 // The runs of differing bytes of two datagrams, counted by their ends: the places that differ where the next does not.
+// The loops over places ask two slices about a place and the next one: `windows` and zip were not tried, and would be no plainer.
 ghost use Rattle.std.specs.Prelude.{◌≡◌, ◌-◌, ◌≤◌, ◌<◌, min, true, length};
 ghost use Rattle.comparing.specs.Runs.{is_unequal_at, differs_at, runs};
 ghost use Rattle.comparing.specs.Search.{ends};
@@ -20,7 +21,8 @@ fn in_block(a: &[u8], b: &[u8]) -> usize
 }
 
 // The ends from `start` up to `end`, where no place is masked and both datagrams have the next one too. What is left behind the blocks is short of
-// one: the last block goes back over places that are counted, since most often it has no unequal one.
+// one: the last block goes back over places that are counted, since most often it has no unequal one. A `while`: the next place comes from a search,
+// nothing is counted.
 fn unmasked(a: &[u8], b: &[u8], start: usize, end: usize) -> usize
     requires { (start ≤ end) × (end < length a.now) × (end < length b.now) }
     ensures { result ≡ ends (is_unequal_at a.now b.now) start end }

@@ -1,4 +1,5 @@
-// Two recordings compared, datagram by datagram: the report of every longest run of differing bytes.
+// Two recordings compared, datagram by datagram: the report of every longest run of differing bytes. `masked` and the recordings are no struct:
+// `compare` takes the three, which may not change, and hands them to two functions.
 #![tactic(auto)]
 
 mod blocks;
@@ -16,12 +17,12 @@ use pair::Pair;
 use refusals::Refusal;
 use std::cmp::Ordering;
 
-// Which of two recordings has more datagrams.
+// Which of two recordings has more datagrams, numbered as C is told.
 #[derive(Clone, Copy)]
 pub enum More {
-    First,
-    Second,
-    Neither,
+    Neither = 0,
+    First = 1,
+    Second = 2,
 }
 
 // What is answered where the report is written: its length in bytes, and which recording has more datagrams.
@@ -52,6 +53,7 @@ fn count(masked: bool, first: &[u8], second: &[u8], limit: usize) -> usize
     let mut a = recording::first(first);
     let mut b = recording::first(second);
     let mut n: usize = 0;
+    // The proofs name the turn, `_i`.
     for _i in 0..pairs {
         let pair = Pair {
             masked,

@@ -40,7 +40,8 @@ impl<'a> Pair<'a> {
         n + self.runs().min(limit - n)
     }
 
-    // Writes the runs, of datagrams of this number, from `start` on, and gives where they end.
+    // Writes the runs, of datagrams of this number, from `start` on, and gives where they end. A `while`: the next place comes from a search, nothing
+    // is counted.
     pub(crate) fn write(self, number: usize, out: &mut [u8], start: usize) -> usize
         requires b_in_bounds { start + 6 * length (runs self.masked self.a.now self.b.now) ≤ length out.old }
         requires b_bound { start + 6 * length (runs self.masked self.a.now self.b.now) < 18446744073709551616 }

@@ -18,7 +18,8 @@ pub(crate) fn masked_byte(p: usize) -> bool
 }
 
 impl<'a> Front<'a> {
-    // The next place from `start` on where the bytes are unequal and not masked, if so is wanted, or else are not.
+    // The next place from `start` on where the bytes are unequal and not masked, if so is wanted, or else are not. Over places, since the place is
+    // what is asked, of both slices and of the mask; `next_by_bytes` says why it stands beside it.
     pub(crate) fn next_masked(self, wanted: bool, start: usize) -> usize
         requires { start ≤ self.end }
         ensures { IsNext (λ q. not (is_masked_byte q) && is_unequal_at self.entry.a.now self.entry.b.now q) wanted start self.entry.end result }

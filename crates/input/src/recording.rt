@@ -1,5 +1,6 @@
 // A section of datagrams, which may stand alone: a two-byte count, then so many datagrams, each an interface, a two-byte
-// length and the bytes. The functions on one datagram take the bytes from its start on.
+// length and the bytes. The functions on one datagram take the bytes from its start on. A recording is walked by hand: an Iterator over datagrams
+// proves here, but the proofs of comparing and program that go by the walk were not brought over to it: tried, and they did not close.
 ghost use Rattle.std.specs.Prelude.{◌≡◌, ◌≤◌};
 ghost use Rattle.header.specs.Fields.{word_at};
 ghost use Rattle.input.specs.Recording.{datagram_bytes, is_there, interface_of, bytes_of, behind_datagram, first_datagram, is_recording};
@@ -65,6 +66,7 @@ pub fn well_formed(r: &[u8]) -> bool
     let n = count(r);
     let mut rest = first(r);
     let mut good = 2 <= r.len();
+    // The proofs name the turn, `_i`.
     for _i in 0..n {
         good = good & there(rest);
         rest = next(rest);

@@ -1,6 +1,6 @@
 // A section of records of one size: a two-byte count, then so many records. Its bytes and the records' size are no struct: the count and the
 // readers take bytes whose records' size they know. Nor is there one reader for locators and routers: a trait of records, with its laws, would
-// be longer than the two.
+// be longer than the two. They read by index: a record past the end reads as 0, which `chunks` would leave out.
 ghost use Rattle.std.specs.Prelude.{◌≡◌, ◌+◌, ◌*◌, ◌<◌, take};
 ghost use Rattle.input.specs.Section.{count_of, section_bytes, is_whole, behind_section, record_at, locator_of, locators_in, prefixes_in, routers_in};
 

@@ -4,7 +4,7 @@ ghost use Rattle.text.specs.Digest.{mixed, digest_of};
 
 const OFFSET_BASIS: u32 = 2166136261;
 
-const PRIME: u64 = 16777619;
+const PRIME: u32 = 16777619;
 
 pub fn digest(bytes: &[u8]) -> u32
     ensures { result ≡ digest_of bytes.now }
@@ -18,6 +18,5 @@ pub fn digest(bytes: &[u8]) -> u32
 fn mix(hash: u32, byte: u8) -> u32
     ensures { result ≡ mixed hash byte }
 {
-    let low = hash ^ byte as u32;
-    (low as u64 * PRIME % 4294967296) as u32
+    (hash ^ byte as u32).wrapping_mul(PRIME)
 }

@@ -1,6 +1,6 @@
 // Text written into a lent slice: each function writes from the index at on and gives the index behind what it wrote;
-// where it does not fit, nothing is written and at is given back. Slice and index are no struct with methods: tried, and its clauses did
-// not tie what a method wrote to the slice that was lent.
+// where it does not fit, nothing is written and at is given back: no Option, since `result ≡ behind at ..` of each says so, which may not change.
+// Slice and index are no struct with methods: tried, and its clauses did not tie what a method wrote to the slice that was lent.
 #![tactic(auto)]
 
 pub mod digests;
@@ -74,7 +74,7 @@ fn hex_digit(n: u32) -> u8
     }
 }
 
-// The eight hexadecimal digits of a number.
+// The eight hexadecimal digits of a number. No {:08x}: `write!` takes twice the instructions in a line of `replay` (replay/line.rt).
 fn hex_digits(n: u32) -> [u8; 8]
     ensures { result ≡ hexadecimal n }
 {
