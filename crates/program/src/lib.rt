@@ -22,7 +22,7 @@ pub const INPUT_ROOM: usize = input::LIMIT + 1;
 // and is refused in so short a line; one that is delivered takes more.
 pub const OUTPUT_ROOM: usize = 16 + 16 * (input::LIMIT / 3);
 
-// Zeros for an input to be read over.
+// Zeros for an input to be read over. Each size has its own function, which says its length to a proof.
 pub fn input_room() -> [u8; INPUT_ROOM]
     ensures value { result ≡ replicate input_room 0 }
     ensures input_room_value { input_room ≡ length result }
@@ -51,12 +51,13 @@ fn line_with(answer: Result<Received, Refusal>) -> Result<usize, Refusal>
     ensures { result ≡ line_with answer }
 {
     match answer? {
-        Received::Delivered { offset: _, length } => Ok(length),
-        Received::Joined { offset: _, length } => Ok(length),
+        Received::Delivered { offset: _, length } | Received::Joined { offset: _, length } => {
+            Ok(length)
+        }
     }
 }
 
-// Writes a line for each datagram of a section. Node and memory are handed on from one to the next.
+// Writes a line for each datagram of a section. Node and memory are handed on from one to the next. The walk is by hand: input::recording says why.
 fn put_lines(node: Node, r: &[u8], memory: &mut [u8], out: &mut [u8], from: usize) -> usize
     requires { from + length (lines_from 1 (lines_of node memory.old r.now)) ≤ length out.old }
     ensures value { result ≡ behind from (lines_from 1 (lines_of node memory.old r.now)) out.old }
@@ -108,7 +109,7 @@ fn put_taken(s: &[u8], out: &mut [u8]) -> usize
 }
 
 // Writes the output for an input of any bytes over the front of out, and gives its length; with less room than for any
-// output nothing is written, and 0 is given.
+// output nothing is written, and 0 is given: no Option, since `count_given` and `IsFront` say so.
 pub fn output(s: &[u8], out: &mut [u8]) -> usize
     ensures value { result ≡ count_given s.now out.old }
     ensures out_after { out.new ≡ bytes_left s.now out.old }

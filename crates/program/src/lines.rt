@@ -1,5 +1,5 @@
 // The lines of the program's output. Each function writes its line from the index at on and gives the index behind it; where it
-// does not fit, nothing is written and at is given back.
+// does not fit, nothing is written and at is given back: no Option, since `result ≡ behind at ..` of each says so, which may not change.
 ghost use Rattle.std.specs.Prelude.{◌≡◌, ◌+◌, ◌≤◌, length};
 ghost use Rattle.lent.specs.Written.{written_at};
 ghost use Rattle.text.specs.Text.{behind};
