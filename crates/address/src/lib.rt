@@ -54,7 +54,8 @@ pub fn link_local_prefixed<A: Ipv6>(a: A) -> bool
     under(a.quads(), [0xfe, 0x80, 0, 0, 0, 0, 0, 0])
 }
 
-// Whether the address is in fe80::/64 or under one of the first `count` prefixes; a count above 8 is read as 8.
+// Whether the address is in fe80::/64 or under one of the first `count` prefixes; a count above 8 is read as 8. The prefixes go by value, with their
+// count beside them: R21.3 names this form, of `isatap` too.
 pub fn on_link<A: Ipv6>(prefixes: [[u8; 8]; 8], count: usize, a: A) -> bool
     ensures { result ≡ is_on_link prefixes count (A.bytes a) }
 {
@@ -129,7 +130,7 @@ pub fn multicast_or_unspecified<A: Ipv6>(a: A) -> bool
     ensures { result ≡ is_multicast_or_unspecified (A.bytes a) }
 {
     let q = a.quads();
-    (q.first / 16777216 == 255) | unspecified(q)
+    (q.first.to_be_bytes()[0] == 255) | unspecified(q)
 }
 
 // Whether an inner source is bad.

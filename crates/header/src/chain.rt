@@ -62,14 +62,16 @@ fn passed_length(next: u8, rest: &[u8]) -> Option<usize>
     }
 }
 
-// What a walk comes to: the number of the header there, and how many bytes are left from it on.
+// What a walk comes to: the number of the header there, and how many bytes are left from it on. A count and not the part itself: so `walked` of
+// lists has it, and nothing is lent here.
 #[derive(Clone, Copy, Debug, PartialEq, Eq)]
 struct Walked {
     next: u8,
     left: usize,
 }
 
-// At most so many headers of the rest of the packet, whose first has the number `next`. The rules want a call for each header (R21.7).
+// At most so many headers of the rest of the packet, whose first has the number `next`. The rules want a call for each header (R21.7), as for each
+// option in the twin of this, `options::walk`: the laws of both are proved once (lists, Walks).
 fn walk(next: u8, rest: &[u8], most: usize) -> Walked
     ensures { result ≡ walked_of most next rest.now }
 {

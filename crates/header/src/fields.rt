@@ -16,14 +16,14 @@ pub fn byte(d: &[u8], i: usize) -> u8
 pub fn high(x: u16) -> u8
     ensures { result ≡ x / 256 }
 {
-    (x / 256) as u8
+    x.to_be_bytes()[0]
 }
 
 // The low byte of a 16-bit number.
 pub fn low(x: u16) -> u8
     ensures { result ≡ x % 256 }
 {
-    (x % 256) as u8
+    x.to_be_bytes()[1]
 }
 
 // The two bytes of a 16-bit number.

@@ -16,7 +16,8 @@ pub struct Inner {
     pub source: [u8; 16],
 }
 
-// What is not there reads as 0. The compiler sees that a header under 40 bytes is refused whatever its fields are.
+// What is not there reads as 0. The compiler sees that a header under 40 bytes is refused whatever its fields are. Its twin is
+// `outer::outer_header`: a trait for the two would be longer than their four lines.
 pub fn inner_header(p: &[u8]) -> Inner
     ensures { result ≡ inner_of p.now }
 {
@@ -43,7 +44,8 @@ fn full_header(p: &[u8]) -> Inner
     }
 }
 
-// Number 8 as in receiving, where n bytes remain for the packet: bytes behind it are passed over.
+// Number 8 as in receiving, where n bytes remain for the packet: bytes behind it are passed over. This is R5.10 and the next is R7.2: two rules,
+// and both are public.
 pub fn inner_malformed(n: usize, i: Inner) -> bool
     ensures { result ≡ is_inner_malformed n i }
 {
@@ -57,7 +59,7 @@ pub fn packet_malformed(n: usize, i: Inner) -> bool
     (n < INNER_HEADER) | (i.version != 6) | (n != i.length)
 }
 
-// The inner packet at the start of p, empty where it is malformed.
+// The inner packet at the start of p, empty where it is malformed: a part of the caller's slice (R21.1), and `inner_packet_of` says empty.
 pub fn inner_packet(p: &[u8]) -> &[u8]
     ensures { result.now ≡ inner_packet_of p.now }
 {

@@ -25,7 +25,8 @@ pub struct Outer {
     pub destination: u32,
 }
 
-// What is not there reads as 0. The compiler sees that a header under 20 bytes is refused whatever its fields are.
+// What is not there reads as 0. The compiler sees that a header under 20 bytes is refused whatever its fields are. Its twin is
+// `inner::inner_header`: a trait for the two would be longer than their four lines.
 pub fn outer_header(d: &[u8]) -> Outer
     ensures { result ≡ outer_of d.now }
 {
@@ -36,7 +37,7 @@ pub fn outer_header(d: &[u8]) -> Outer
     }
 }
 
-// One test of the length stands for all of its reads.
+// One test of the length stands for all of its reads. The fields are taken by division out of numbers that are read once.
 fn full_header(d: &[u8]) -> Outer
     requires { outer_header ≤ length d.now }
     ensures { result ≡ outer_of d.now }

@@ -67,8 +67,8 @@ fn header_sum(total: u16, h: OuterFields) -> u16
     let flags = flags(h.dont_fragment);
     let numbers = 0x4500 + total as u32 + h.identification as u32;
     let bytes = flags as u32 * 256 + h.ttl as u32 * 256 + h.protocol as u32;
-    let source = h.source / 65536 + h.source % 65536;
-    let destination = h.destination / 65536 + h.destination % 65536;
+    let source = checksum::two_words(h.source);
+    let destination = checksum::two_words(h.destination);
     checksum::sum_of_words(numbers + bytes + source + destination)
 }
 
@@ -76,5 +76,5 @@ fn header_sum(total: u16, h: OuterFields) -> u16
 fn flags(dont_fragment: bool) -> u8
     ensures { result ≡ cond dont_fragment 64 0 }
 {
-    if dont_fragment { 64 } else { 0 }
+    0x40 * u8::from(dont_fragment)
 }
