@@ -44,7 +44,8 @@ fn advertisement(p: Packet) -> bool
     }
 }
 
-// What is judged of a valid advertisement from a source, with its smallest lifetime: 21, or its router, by when it is then due.
+// What is judged of a valid advertisement from a source, with its smallest lifetime: 21, or its router, by when it is then due. Settings,
+// router list and time go side by side, here and below, as the node has them: a struct of the three would be made for the call alone.
 #[tactic(auto, unfolding(crate::specs::Heard::heard_from, settings::specs::Settings::embedded_to))]
 fn judge_from(
     settings: Settings,

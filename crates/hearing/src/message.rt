@@ -16,7 +16,8 @@ pub(crate) struct Packet<'a> {
 }
 
 // Whether the checksum of an ICMPv6 packet is right: one pass from the source address on, started with the message's length
-// and the next header.
+// and the next header. Of bytes, and so with a `requires`; the method below, which alone calls it, has that by the invariant: inside it the sum
+// would be no plainer.
 fn sum_right(p: &[u8]) -> bool
     requires { (40 ≤ length p.now) × (length p.now ≤ 65575) }
     ensures { result ≡ is_sum_right p.now }

@@ -53,7 +53,8 @@ impl PathTable {
         }
     }
 
-    // The size kept toward a neighbour at a time. Of a table by value a row is copied where it is read; LentRows copies none.
+    // The size kept toward a neighbour at a time. Of a table by value a row is copied where it is read; LentRows copies none. So both
+    // stand (docs/DECISIONS.md), as `accepted` stands beside `LentRows::look`.
     pub fn kept(self, neighbour: u32, now: u32) -> Option<u16>
         ensures { result ≡ kept_in self neighbour now }
     {

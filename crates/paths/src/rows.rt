@@ -43,7 +43,8 @@ fn row_within(rows: &[u32], start: usize, most: usize, neighbour: u32) -> usize
 }
 
 // The row of a neighbour in a lent row, or the number of rows: a quarter of them is compared at once, so this loop goes in steps. The loops have bounds by the length of
-// the row, so that they are inlined as loops; of the 64 rows of a table nothing is left of them but straight code.
+// the row, so that they are inlined as loops; of the 64 rows of a table nothing is left of them but straight code. No `chunks`: the place is
+// answered, which they lack, and of no rows a quarter is 0, which they do not take.
 pub(crate) fn row_in_lent(rows: &[u32], neighbour: u32) -> usize
     ensures { result ≡ row_of neighbour rows.now }
 {
@@ -59,7 +60,8 @@ pub(crate) fn row_in_lent(rows: &[u32], neighbour: u32) -> usize
     i
 }
 
-// The row of a neighbour, or the number of rows: one after another.
+// The row of a neighbour, or the number of rows: one after another. No Option, here and below: the number of rows is where a new neighbour's
+// report is pushed, and `accepted` and `look` take the lesser of it and the last row.
 fn row_in_turn(used: &[u32], neighbour: u32) -> usize
     ensures { result ≡ row_of neighbour used.now }
 {
@@ -69,7 +71,7 @@ fn row_in_turn(used: &[u32], neighbour: u32) -> usize
 }
 
 // The row of a neighbour among the first `count`, or `count`. For a row of its own: the compiler, which knows that all of it may be
-// read, compares several numbers at once by itself.
+// read, compares several numbers at once by itself. Not one with `row_in_lent`, whose steps such a row does not need.
 pub(crate) fn row_of(neighbours: &[u32], count: usize, neighbour: u32) -> usize
     requires { count ≤ length neighbours.now }
     ensures { result ≡ row_of neighbour (take count neighbours.now) }

@@ -9,7 +9,7 @@ use crate::places::byte_at;
 use crate::{Change, Joined, Place, Plan};
 use refusals::Refusal;
 
-// The place that a plan changes; where it changes none, the first.
+// The place that a plan changes; where it changes none, the first, and no Option: that is stored as it stands (`changed_place`, `changed_by`).
 pub(crate) fn changed_place(plan: Plan) -> usize
     ensures { result ≡ changed_place plan }
 {

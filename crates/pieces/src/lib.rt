@@ -82,7 +82,8 @@ pub struct Joined {
     pub length: usize,
 }
 
-// The answer to a piece, and what then stands in the place `at`: where nothing changes, what stands in the first.
+// The answer to a piece, and what then stands in the place `at`: where nothing changes, what stands in the first. No Option: the caller has one
+// store at every piece, as `changed_by` says.
 #[derive(Clone, Copy)]
 pub struct Change {
     pub answer: Result<Joined, Refusal>,

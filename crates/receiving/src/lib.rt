@@ -77,7 +77,7 @@ fn bytes_at(d: &[u8], at: usize, n: usize) -> &[u8]
     &behind[..end]
 }
 
-// The inner packet in the datagram, empty after a refusal.
+// The inner packet in the datagram, empty after a refusal: a part of the caller's slice (R21.1), and no Option, since `part_of` says empty.
 pub fn part(d: &[u8], received: Result<Received, Refusal>) -> &[u8]
     ensures { result.now ≡ part_of received d.now }
 {

@@ -40,7 +40,8 @@ fn other_message(message: &[u8]) -> bool
     (kind != UNREACHABLE) | (code != FRAGMENTATION_NEEDED)
 }
 
-// The rest of number 16: the quoted header, and then the checksum, which is over the whole message.
+// The rest of number 16: the quoted header, and then the checksum, which is over the whole message. Message and quoted header go side by side,
+// here and below: the header is read of it once, and the definitions take both.
 fn quote_wrong(message: &[u8], quoted: Outer) -> bool
     ensures { result ≡ is_quote_wrong message.now quoted }
 {

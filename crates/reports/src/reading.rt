@@ -17,7 +17,7 @@ pub struct Quote {
     pub candidate: Option<u16>,
 }
 
-// The service that has the quoted source among its locator addresses.
+// The service that has the quoted source among its locator addresses. `node::ServiceName` stands above this crate.
 #[derive(Clone, Copy, Debug, PartialEq, Eq)]
 pub enum Origin {
     First,
@@ -112,7 +112,8 @@ fn quote_over(
     }
 }
 
-// By the settings of the service that it belongs to; of the second ones only where there are two services.
+// By the settings of the service that it belongs to; of the second ones only where there are two services. A flag and no Option of settings:
+// it would be made of a copy of them, and they are read only where there are two.
 #[tactic(auto, unfolding(crate::specs::Reading::judged_over))]
 pub fn judge(
     first: Settings,

@@ -1,5 +1,6 @@
 // The router list: which addresses are listed, which router is asked next, and when each is due again.
 // Every list is taken: what counts are the first `count` of its 16 places. A search runs over lent rows; a list by value lends its own.
+// The rows go as slices with the count beside them: lent so, an asking copies nothing, and the count may be above the places (docs/DECISIONS.md).
 #![tactic(auto)]
 
 ghost use Rattle.std.specs.Prelude.{◌≡◌, cond, take, drop};
@@ -33,7 +34,7 @@ impl Router {
     }
 }
 
-// Of two routers the one that is due earlier, the first on a tie.
+// Of two routers the one that is due earlier, the first on a tie. With `min_by_key` in its place the proof did not close.
 fn earlier_of_two(first: Router, second: Router) -> Router
     ensures { result ≡ earlier_of first second }
 {
@@ -67,7 +68,8 @@ pub fn next_among<'a>(addresses: &'a [u32], dues: &'a [u64], count: usize, time:
         .if_due(time)
 }
 
-// Of the routers of the first `count` places the due time of the one of that address, and `other` if there is none.
+// Of the routers of the first `count` places the due time of the one of that address, and `other` if there is none: a parameter and no
+// Option, as `due_or` has it.
 fn due_among<'a>(
     addresses: &'a [u32],
     dues: &'a [u64],
@@ -92,7 +94,7 @@ fn due_if(same: bool, due: u64, other: u64) -> u64
     if same { due } else { other }
 }
 
-// The due times once the router of that address is due at `due`.
+// The due times once the router of that address is due at `due`. By index: over `dues.iter_mut().zip(..)` the proof did not close.
 fn dues_after(
     addresses: [u32; PLACES],
     mut dues: [u64; PLACES],
@@ -178,7 +180,8 @@ fn stands(addresses: [u32; PLACES], from: usize, count: usize, address: u32) -> 
         .any(|other| *other == address)
 }
 
-// Whether no two of the first `count` addresses are the same.
+// Whether no two of the first `count` addresses are the same. Not one with `settings::locators::repeated`: `are_distinct` and `twice` are two
+// definitions, and there two fields are compared as one number.
 pub fn distinct(addresses: [u32; PLACES], count: usize) -> bool
     ensures { result ≡ are_distinct (take count addresses) }
 {

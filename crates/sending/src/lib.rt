@@ -18,7 +18,7 @@ use settings::Settings;
 pub enum SendAnswer {
     // The length written.
     Wrapped(usize),
-    // The largest packet that the path takes, and the length of the message written.
+    // The largest packet that the path takes, and the length of the message written, 0 for none (R8.2) and no Option: so C has it.
     TooBig { size: u16, written: usize },
     Refused(Refusal),
 }
@@ -93,7 +93,7 @@ fn identification_after(answer: SendAnswer, identification: u16) -> u16
 }
 
 // One sending over a path of that size: the answer and the next identification; out gets what is written. Its arguments stand one by one: the
-// node alone makes this call, and a struct of them would be filled and taken apart once each.
+// node alone makes this call, and a struct of them would be filled and taken apart once each. `sent_of` and `plan_of` take them so.
 pub fn send(
     settings: Settings,
     identification: u16,

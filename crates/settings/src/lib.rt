@@ -39,7 +39,7 @@ impl Settings {
     pub const IDENTIFICATION: u16 = 1;
 
     // The settings with these locators, prefixes and routers, and defaults for the rest: the reporting address is the
-    // link-local address of locator 0.
+    // link-local address of locator 0. Six parameters, not a struct of them: the constructor takes what has no default (R21.6).
     pub fn new(
         locators: [Locator; 8],
         locator_count: usize,
@@ -134,7 +134,7 @@ impl Settings {
         routers.iter().take(count).any(|a| self.bad_end(*a))
     }
 
-    // Whether a router list keeps the rules.
+    // Whether a router list keeps the rules. An array and a count, as C has them: a count above 16 is no slice, and is refused by 1.
     pub fn routers_right(self, routers: [u32; 16], count: usize) -> bool
         ensures { result ≡ are_routers_right self routers count }
     {
