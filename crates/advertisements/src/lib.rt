@@ -49,7 +49,7 @@ pub struct Advertisement {
 }
 
 impl Advertisement {
-    // The prefixes that count.
+    // The prefixes that count. This and the next have two types and one line: a generic one would be that line, with both fields handed to it.
     fn counted_prefixes(&self) -> &[Prefix]
         ensures { result.now ≡ prefixes_of self.now }
     {
@@ -126,7 +126,7 @@ pub fn advertisement_length(a: Advertisement) -> usize
     a.length()
 }
 
-// Writes prefix options to the front of out.
+// Writes prefix options to the front of out. All have one length, where route options have three: so `write_routes` is a loop of its own.
 fn write_prefixes(prefixes: &[Prefix], out: &mut [u8])
     requires { length prefixes.now * 32 ≤ length out.old }
     ensures out_after { out.new ≡ written (flatten (map prefix_option prefixes.now)) out.old }
@@ -138,7 +138,7 @@ fn write_prefixes(prefixes: &[Prefix], out: &mut [u8])
 }
 
 // Writes the first `size` bytes of a route option at a place. Each length that options have is moved by code of its own: the compiler
-// knows it, and calls no function for it.
+// knows it, and calls no function for it. The sizes are no enum, which would be made of one only to be asked for it.
 fn write_first(option: [u8; ROUTE_OPTION], size: usize, at: usize, out: &mut [u8])
     requires { size ≤ 24 }
     ensures { out.new ≡ written_at at (take size option) out.old }
@@ -191,6 +191,7 @@ pub fn write(
 {
     let n = a.checked(out.len())?;
     write_rest(&a, &mut out[HEADERS..]);
+    let [high, low] = fields::word_bytes(a.lifetime);
     let message = Message {
         hop: HOP_LIMIT,
         from,
@@ -199,8 +200,8 @@ pub fn write(
         four: [
             CURRENT_HOP_LIMIT,
             bits::flags(a.managed, a.other),
-            fields::high(a.lifetime),
-            fields::low(a.lifetime),
+            high,
+            low,
         ],
     };
     messages::enclose(message, n, out);

@@ -44,7 +44,7 @@ fn final_input(start: u32, s: &[u8]) -> u64
 // The loop: words are added up, and the carries wait until a chunk is full. What stands behind the last full chunk, even nothing, is for
 // the last fold.
 //   "it may be more efficient to defer adding end-around carries until the main summation loop is finished" (RFC 1071, 2)
-// It counts the place, which fold_input is given: what a fold is given is a contract, and says where the folds are.
+// It counts the place `at`, and not chunks: what a fold is given is the contract of `fold_input`, which says by `drop at` where the folds are.
 fn chunk_by_chunk(start: u32, s: &[u8]) -> u64
     ensures { result ≡ final_input start s.now }
 {
@@ -82,7 +82,7 @@ fn fold(x: u64) -> u16
     left as u16
 }
 
-// The exact sum of the two words of a number.
+// The exact sum of the two words of a number, by division: the library has no halves of a number.
 pub fn two_words(x: u32) -> u32
     ensures { (result ≡ x / 65536 + x % 65536) × (result ≤ 131070) }
 {

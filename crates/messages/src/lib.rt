@@ -13,7 +13,7 @@ use header::{ICMPV6, INNER_HEADER, fields};
 use lent::write_at;
 use refusals::Refusal;
 
-// The type of the Packet Too Big (RFC 4443, 3.2).
+// The type of the Packet Too Big (RFC 4443, 3.2). Types are bytes of a message, and stay so: `enclose` takes any.
 const PACKET_TOO_BIG: u8 = 2;
 
 // The types of the router solicitation and the router advertisement (RFC 4861, 4.1 and 4.2).
@@ -68,12 +68,13 @@ pub fn too_big(
         return Err(Refusal::OutputShort);
     }
     write_at(&packet[..quoted], out, HEADERS);
+    let [high, low] = fields::word_bytes(size);
     let message = Message {
         hop: 64,
         from: reporting,
         to: fields::address(packet, 8),
         kind: PACKET_TOO_BIG,
-        four: [0, 0, fields::high(size), fields::low(size)],
+        four: [0, 0, high, low],
     };
     enclose(message, HEADERS + quoted, out);
     Ok(HEADERS + quoted)

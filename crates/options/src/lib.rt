@@ -10,7 +10,7 @@ ghost use Rattle.options.specs.SoFar.{some_size, shorter_of, found_with, walked_
 // An option's length counts units of 8 bytes (RFC 4861, 4.6).
 pub const UNIT: usize = 8;
 
-// The type of a source link-layer address option (RFC 4861, 4.6.1).
+// The type of a source link-layer address option (RFC 4861, 4.6.1). Types are bytes of the message, and stay so: any other byte is a type too.
 const SOURCE_LINK_LAYER: u8 = 1;
 
 // A prefix option: its type and its length (RFC 4861, 4.6.2).
@@ -32,7 +32,8 @@ const WITHOUT_LIFETIME: u32 = 3600;
 // How many options one walk passes at most. A walk makes a call for each of them, and so needs the same stack whatever the message is.
 const MOST: usize = 12;
 
-// What the options say: whether they are walked to the exact end, none of length 0, and the smallest lifetime up to there.
+// What the options say: whether they are walked to the exact end, none of length 0, and the smallest lifetime up to there. What stands before a
+// cut is told too (`options_read_of`), so one doesn't stand for the other.
 #[derive(Clone, Copy)]
 pub struct Options {
     pub whole: bool,
@@ -60,7 +61,7 @@ fn option_size(rest: &[u8]) -> Option<usize>
     ((size != 0) & (size <= rest.len())).then_some(size)
 }
 
-// The lifetime of the first option, 0 if it has none.
+// The lifetime of the first option, 0 if it has none: 0 doesn't count either (`counts`), so nothing tells the two apart.
 fn option_lifetime(rest: &[u8]) -> u32
     requires { 8 ≤ length rest.now }
     ensures { result ≡ lifetime_of rest.now }
@@ -108,14 +109,16 @@ fn with_option(found: Found, rest: &[u8]) -> Found
     }
 }
 
-// What one walk leaves: how many bytes are left, and what is found up to there.
+// What one walk leaves: how many bytes are left, and what is found up to there. A count and not the part itself: so `walked` of lists has it, and
+// nothing is lent here.
 #[derive(Clone, Copy)]
 struct Walked {
     left: usize,
     found: Found,
 }
 
-// At most so many options of the rest of the message. The rules want a call for each option (R21.7).
+// At most so many options of the rest of the message. The rules want a call for each option (R21.7), as for each extension header in the twin of
+// this, `header::chain::walk`: the laws of both are proved once (lists, Walks).
 fn walk(rest: &[u8], most: usize, found: Found) -> Walked
     ensures { result ≡ walked_of most rest.now found }
 {

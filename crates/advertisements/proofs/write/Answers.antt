@@ -3,7 +3,7 @@ use native.Mathlib.Omega.{arith}
 use Prim.Native.Nat.{ℕ, ◌-◌}
 use mathlib.Core.Path.{◌≡◌, refl, sym, ap, ◌∙◌}
 use mathlib.Core.List.{List, [], ◌∷◌, ◌++◌, flatten}
-use lib.ListN.{length, take, drop, length-take, length-drop}
+use lib.ListN.{length, take, drop, get_or, length-take, length-drop}
 use Rattle.header.specs.Wrap.{be32}
 use Rattle.lent.proofs.Laws.{part-over}
 use Rattle.messages.proofs.EnclosedLaws.{enclosed-over}
@@ -46,6 +46,6 @@ returns-clause-out_after c = let a = c.args.a in
     let rest = be32 0 (be32 0 (flatten (written_options a))) in
     let size = c.write_rest.ensures.a_len in
     let placed = ap (λ (part : List ℕ). take 48 out ++ (part ++ drop (length out - 48) (drop 48 out))) c.write_rest.ensures.out_after ∙ part-over 48 rest out (omega arith) in
-    let four : List ℕ = 0 ∷ (c.flags.result ∷ (c.high.result ∷ (c.low.result ∷ []))) in
+    let four : List ℕ = 0 ∷ (c.flags.result ∷ (get_or c.word_bytes.result 0 0 ∷ (get_or c.word_bytes.result 1 0 ∷ []))) in
     let packet = enclosed-over 255 c.args.from c.args.to 134 four rest c.in_ok-n.n out (omega arith) (omega arith) refl (omega arith) (omega arith) (omega arith) placed c.enclose.ensures in
-    rw pass.1.0 (packet ∙ rw (c.flags.ensures, c.high.ensures, c.low.ensures))
+    rw pass.1.0 (packet ∙ rw (c.flags.ensures, c.word_bytes.ensures))

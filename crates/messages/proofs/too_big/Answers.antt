@@ -11,7 +11,7 @@ use Rattle.lent.proofs.Laws.{written_at-fits}
 use Prim.Native.Nat.{ℕ, ◌+◌}
 use mathlib.Core.Path.{◌≡◌, refl, ap, ◌∙◌}
 use mathlib.Core.List.{List, [], ◌∷◌}
-use lib.ListN.{length, take, length-take}
+use lib.ListN.{length, take, get_or, length-take}
 use Rattle.messages.proofs.too_big.Goals as goal
 
 pub returns-then-packet-lt-INNER_HEADER : goal.returns-then-packet-lt-INNER_HEADER
@@ -36,9 +36,9 @@ returns c = let a = c.args in
     let quote = take c.min-quoted.result a.packet.now in
     let quoted : length quote ≡ c.min-quoted.result = rw length-take (omega arith) in
     let placed = c.write_at.ensures ∙ written_at-fits 48 quote out (omega arith) in
-    let packet = enclosed-over 64 a.reporting c.address.result 2 (0 ∷ (0 ∷ (c.high.result ∷ (c.low.result ∷ [])))) quote (48 + c.min-quoted.result) out (omega arith) (omega arith) refl (omega arith) (omega arith) (omega arith) placed c.enclose.ensures in
-    let body : 0 ∷ (0 ∷ (c.high.result ∷ (c.low.result ∷ quote))) ≡ be32 a.size (take 1232 a.packet.now) =
-    rw (c.high.ensures, c.low.ensures, c.min-quoted.ensures, take-least 1232 a.packet.now) (be32-small a.size (take 1232 a.packet.now) (omega arith))
+    let packet = enclosed-over 64 a.reporting c.address.result 2 (0 ∷ (0 ∷ (get_or c.word_bytes.result 0 0 ∷ (get_or c.word_bytes.result 1 0 ∷ [])))) quote (48 + c.min-quoted.result) out (omega arith) (omega arith) refl (omega arith) (omega arith) (omega arith) placed c.enclose.ensures in
+    let body : 0 ∷ (0 ∷ (get_or c.word_bytes.result 0 0 ∷ (get_or c.word_bytes.result 1 0 ∷ quote))) ≡ be32 a.size (take 1232 a.packet.now) =
+    rw (c.word_bytes.ensures, c.min-quoted.ensures, take-least 1232 a.packet.now) (be32-small a.size (take 1232 a.packet.now) (omega arith))
     in
     record {
       value = rw (pass, c.min-quoted.ensures);
