@@ -1,7 +1,7 @@
 // How an answer is written.
 use std::io;
 
-// A number in so many hexadecimal digits, or with 0 in decimal.
+// A number in so many hexadecimal digits, or with 0 in decimal. The form is no enum: it is a byte of the case, and every byte is one.
 pub(crate) fn number(rt: &impl Print, form: u8, n: Option<u64>) -> io::Result<()> {
     match (n, form) {
         (None, _) => print!(rt; " none"),

@@ -3,7 +3,8 @@
 //
 // A case is its kind 1, the length of its name 2, one less than its own length 2, its name; then how a number is written 1,
 // four numbers n 2, m 2, x 4 and y 4, and the bytes that it is about. A byte past the end reads as 0. A kind is a number: each stands once,
-// beside the call that it names.
+// beside the call that it names. Every byte is a kind, unknown ones go with the last of their range, and what the program does on every input may
+// not change.
 #![tactic(auto)]
 
 mod answers;

@@ -1,5 +1,6 @@
 // What an operator sets of an advertisement, in the bytes of a case: flags 1, the router's lifetime 2, the counts of prefixes and of routes,
-// 2 each, eight prefixes and eight routes. `replay` reads such prefixes and routes too: a crate for both would be longer than what they share.
+// 2 each, eight prefixes and eight routes. `replay` reads such prefixes and routes too: public functions
+// for both would need contracts and edits, which are longer than what they share, and an unknown preference is low here and bad input there.
 use advertisements::Advertisement;
 use advertisements::prefix::Prefix;
 use advertisements::route::{Preference, Route};
