@@ -19,11 +19,7 @@ pub struct Compared {
 fn more_number(more: More) -> u8
     ensures { result ≡ more_number more }
 {
-    match more {
-        More::Neither => 0,
-        More::First => 1,
-        More::Second => 2,
-    }
+    more as u8
 }
 
 fn plain_compared(compared: Result<Report, Refusal>) -> Compared
