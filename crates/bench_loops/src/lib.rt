@@ -11,7 +11,7 @@ use receiving::Received;
 use refusals::Refusal;
 use sending::SendAnswer;
 
-// An IPv6 address.
+// An IPv6 address. A struct of one field, for C passes no array by value.
 #[repr(C)]
 #[derive(Clone, Copy)]
 pub struct Address {
@@ -34,8 +34,7 @@ fn received_worth(answer: Result<Received, Refusal>) -> u64
     ensures { result ≡ received_worth answer }
 {
     match answer {
-        Ok(Received::Delivered { offset: _, length }) => length as u64,
-        Ok(Received::Joined { offset: _, length }) => length as u64,
+        Ok(Received::Delivered { length, .. } | Received::Joined { length, .. }) => length as u64,
         Err(refusal) => refusal.number() as u64,
     }
 }
@@ -45,7 +44,7 @@ fn sent_worth(answer: SendAnswer) -> u64
 {
     match answer {
         SendAnswer::Wrapped(length) => length as u64,
-        SendAnswer::TooBig { size, written: _ } => size as u64,
+        SendAnswer::TooBig { size, .. } => size as u64,
         SendAnswer::Refused(refusal) => refusal.number() as u64,
     }
 }
@@ -154,6 +153,7 @@ pub extern "C" fn bench_lookup(table: PathTable, link: u16, first: u32, count: u
     sum
 }
 
+// A size as a number to be summed: its bound, which keeps the sum within 64 bits, is told here once.
 fn wide(size: u16) -> u64
     ensures { (result ≡ size) × (result ≤ 65535) }
 {

@@ -1,5 +1,6 @@
 // Each call's answer as a struct of C: the number (R4), 0 where the call was not refused, and the values that go with it. A value
-// that an answer does not have is 0.
+// that an answer does not have is 0. C has a name for each call's answer, so those of one shape (Asked and Heard) are two structs, and those that
+// differ in one field (Sized, Asked, Advertised) are no generic one.
 ghost use Rattle.std.specs.Prelude.{◌≡◌, false};
 ghost use Rattle.bogtrumpet.specs.Answers.{plain_received, plain_sized, plain_sent, plain_reported, plain_asked, plain_heard, plain_advertised};
 
@@ -83,12 +84,7 @@ pub fn plain_received(answer: Result<receiving::Received, Refusal>) -> Received
             offset,
             length,
         },
-        Err(refusal) => Received {
-            number: refusal.number(),
-            joined: false,
-            offset: 0,
-            length: 0,
-        },
+        Err(refusal) => refused(refusal.number()),
     }
 }
 
@@ -116,6 +112,7 @@ pub fn plain_sized(answer: Result<u16, Refusal>) -> Sized
     }
 }
 
+// Each number stands where its values do: SendAnswer::number would match the same three cases once more.
 pub fn plain_sent(answer: SendAnswer) -> Sent
     ensures { result ≡ plain_sent answer }
 {

@@ -112,7 +112,7 @@ fn service_at(node: &Node, service: u8) -> &Service
     }
 }
 
-// The same, to be changed.
+// The same, to be changed: no generic is both `&` and `&mut`.
 fn named(node: &mut Node, service: u8) -> &mut Service
     ensures* lends { sem 𝓛 (LendsService node.entry service result) }
     ensures value { result.now ≡ service_of node.old (name_of service) }

@@ -12,8 +12,8 @@ pub fn there(both: u8, service: u8) -> bool
     (service == 1) & (0 < both)
 }
 
-// The same by one comparison. Where much of the service is read behind it, as in a sending, a second way to get there would have the compiler
-// read that before.
+// The same by one comparison, for a sending and an answer to a solicitation. Where much of the service is read behind it, as there, a second way to
+// get to it would have the compiler read that before; a hearing has two instructions more with one way (docs/PERFORMANCE.md).
 pub fn there_by_most(both: u8, service: u8) -> bool
     ensures { result ≡ is_there both service }
 {

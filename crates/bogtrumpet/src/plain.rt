@@ -1,7 +1,8 @@
 // What an operator sets of an advertisement, as structs of C, which may hold any bytes, and what of it is advertised; and the bytes of an address.
-ghost use Rattle.std.specs.Prelude.{◌++◌, ◌≡◌};
-ghost use Rattle.bogtrumpet.specs.Plain.{prefix_from, preference_from, route_from, no_prefix, no_route, advertisement_from};
+ghost use Rattle.std.specs.Prelude.{◌≡◌};
+ghost use Rattle.bogtrumpet.specs.Plain.{bytes_of, prefix_from, preference_from, route_from, no_prefix, no_route, advertisement_from};
 
+use super::Address;
 use advertisements::route::Preference;
 use advertisements::{MOST, prefix, route};
 
@@ -40,10 +41,14 @@ pub struct Advertisement {
     pub other: u8,
 }
 
-// The bytes of an address, given by its four fields. They are copied before they are taken apart, so that each is read at once.
-pub(crate) fn whole(a: [u8; 4], b: [u8; 4], c: [u8; 4], d: [u8; 4]) -> [u8; 16]
-    ensures { result ≡ a ++ b ++ c ++ d }
+// The bytes of an address. Its four fields are copied before they are taken apart, so that each is read at once.
+pub(crate) fn bytes(address: Address) -> [u8; 16]
+    ensures { result ≡ bytes_of address }
 {
+    let a = address.first;
+    let b = address.second;
+    let c = address.third;
+    let d = address.last;
     [
         a[0], a[1], a[2], a[3], b[0], b[1], b[2], b[3], c[0], c[1], c[2], c[3], d[0], d[1], d[2],
         d[3],
@@ -69,12 +74,10 @@ fn prefix_from(p: Prefix) -> prefix::Prefix
 fn preference_from(number: u8) -> Preference
     ensures { result ≡ preference_from «number» }
 {
-    if number == 1 {
-        Preference::High
-    } else if number == 2 {
-        Preference::Low
-    } else {
-        Preference::Medium
+    match number {
+        1 => Preference::High,
+        2 => Preference::Low,
+        _ => Preference::Medium,
     }
 }
 
@@ -92,7 +95,7 @@ fn route_from(r: Route) -> route::Route
     }
 }
 
-// A place with no prefix.
+// A place with no prefix. Written out, as the next: an advertised prefix or route has no default of its own, zeros only fill what no rule reads.
 fn no_prefix() -> prefix::Prefix
     ensures { result ≡ no_prefix }
 {

@@ -18,6 +18,7 @@ pub(crate) struct ReportLook {
     pub row: usize,
     pub count: usize,
     pub latest: u32,
+    // A flag beside row and count, not an Option of them: the law bogtrumpet/proofs/ReportSame: look_same has it for its premise.
     pub accepted: bool,
 }
 

@@ -41,11 +41,7 @@ pub fn size_toward(
 ) -> u16
     ensures { result ≡ in_force link (kept_among rows.entry.neighbours.now rows.entry.sizes.now rows.entry.times.now rows.entry.count (last_quad (bytes_of next_hop)) (max latest time)) }
 {
-    let a = next_hop.first;
-    let b = next_hop.second;
-    let c = next_hop.third;
-    let d = next_hop.last;
-    let tunnel_end = address::last_quad(plain::whole(a, b, c, d));
+    let tunnel_end = address::last_quad(plain::bytes(next_hop));
     let later = latest.max(time);
     rows.size_toward(link, tunnel_end, later)
 }

@@ -1,4 +1,6 @@
-// A call's answer, and beside it what the call changes of the node: what the functions over a pointer give and store.
+// A call's answer, and beside it what the call changes of the node: what the functions over a pointer give and store. Service, `both`, latest time and
+// number are handed over one by one, for a struct of them would be no plainer: `judged` and `rescheduled` read the service alone, `advertised`
+// no time, and `sent` a path size beside them.
 ghost use Rattle.std.specs.Prelude.{◌≡◌, max, length};
 ghost use Rattle.node.specs.Advertise.{advertised_by, advertised_through};
 ghost use Rattle.node.specs.Ask.{asked_through};
@@ -52,6 +54,7 @@ pub(crate) struct GatheredStep {
 // Of the node a new router list changes the router list of its service and the latest time alone.
 #[derive(Clone, Copy)]
 pub struct ReplacedStep {
+    // The number, 0 for a list that is taken: bogtrumpet_replace_routers answers nothing else.
     pub answer: u8,
     pub routers: RouterList,
     pub latest: u32,
@@ -147,11 +150,7 @@ pub fn sent(
     ensures { (result ≡ sent_step (is_there both service) named latest path_size packet.now (bytes_of next_hop) locator time (length out.old))
         × (out.new ≡ sent_through (is_there both service) named path_size packet.now (bytes_of next_hop) locator out.old) }
 {
-    let a = next_hop.first;
-    let b = next_hop.second;
-    let c = next_hop.third;
-    let d = next_hop.last;
-    let bytes = plain::whole(a, b, c, d);
+    let bytes = plain::bytes(next_hop);
     let there = numbered::there_by_most(both, service);
     let sent = send::sent_by(there, named, path_size, packet, bytes, locator, out);
     let given = sent.answer;

@@ -5,7 +5,7 @@ ghost use Rattle.bogtrumpet_rules.specs.Answers.{plain_embedded, isatap_in, link
 
 use address::prefixes;
 
-// An IPv6 address.
+// An IPv6 address. A struct of one field, for C passes and returns no array by value.
 #[repr(C)]
 #[derive(Clone, Copy)]
 pub struct Address {

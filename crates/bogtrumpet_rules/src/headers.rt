@@ -29,7 +29,8 @@ pub struct Received {
     pub length: usize,
 }
 
-// The header's length in bytes by its first byte.
+// The header's length in bytes by its first byte. For C it has two bytes: the remainder bounds it by 60, where `Outer.header`, a usize, tells no
+// bound for a cast.
 #[tactic(auto, unfolding(header::specs::Outer::outer_of))]
 fn header_length(d: &[u8]) -> u16
     ensures { result ≡ (outer_of d.now).header }

@@ -12,7 +12,8 @@ pub mod send;
 pub mod size;
 
 ghost use Rattle.std.specs.Prelude.{◌≡◌, max, length};
-ghost use Rattle.node.specs.Node.{no_settings, service_from, node_of, pair_of, setup_given, setup_of, setup_pair_of, service_of, has_service, node_with, path_size_at};
+ghost use Rattle.paths.specs.Table.{no_reports};
+ghost use Rattle.node.specs.Node.{no_settings, service_from, setup_given, setup_of, setup_pair_of, service_of, has_service, node_with, path_size_at};
 
 use paths::PathTable;
 use pieces::Collection;
@@ -54,12 +55,15 @@ pub enum ServiceName {
     Second,
 }
 
+// The answer of a call and the next node, as of Sent, Receipt, Reported, Asked, Heard and Replaced: the definitions of specs/ give each under its
+// own name (`setup_of`, `send_of`, ..), which one generic struct would take away.
 #[derive(Clone, Copy)]
 pub struct Setup {
     pub answer: Result<(), Refusal>,
     pub node: Node,
 }
 
+// Written out, not a `Default`: zeros are no defaults of the settings, which are Settings::new.
 fn no_settings() -> Settings
     ensures { result ≡ no_settings }
 {
@@ -99,33 +103,18 @@ impl Service {
 }
 
 impl Node {
-    fn of(settings: Settings) -> Node
-        ensures { result ≡ node_of settings }
+    fn of(first: Settings, second: Settings, both: u8) -> Node
+        ensures { result ≡ record { first = service_from first; second = service_from second; paths = no_reports; latest = 0; both = both } }
     {
-        let first = Service::of(settings);
-        let second = Service::of(no_settings());
+        let first = Service::of(first);
+        let second = Service::of(second);
         let paths = PathTable::new();
         Node {
             first,
             second,
             paths,
             latest: 0,
-            both: 0,
-        }
-    }
-
-    fn of_pair(a: Settings, b: Settings) -> Node
-        ensures { result ≡ pair_of a b }
-    {
-        let first = Service::of(a);
-        let second = Service::of(b);
-        let paths = PathTable::new();
-        Node {
-            first,
-            second,
-            paths,
-            latest: 0,
-            both: 1,
+            both,
         }
     }
 
@@ -135,13 +124,14 @@ impl Node {
         ensures { result ≡ setup_of settings }
     {
         if settings.accepted() {
-            let node = Node::of(settings);
+            let node = Node::of(settings, no_settings(), 0);
             Setup {
                 answer: Ok(()),
                 node,
             }
         } else {
-            let node = Node::of(no_settings());
+            let empty = no_settings();
+            let node = Node::of(empty, empty, 0);
             Setup {
                 answer: Err(Refusal::Settings),
                 node,
@@ -154,13 +144,14 @@ impl Node {
         ensures { result ≡ setup_pair_of first second }
     {
         if first.accepted_with(second) {
-            let node = Node::of_pair(first, second);
+            let node = Node::of(first, second, 1);
             Setup {
                 answer: Ok(()),
                 node,
             }
         } else {
-            let node = Node::of(no_settings());
+            let empty = no_settings();
+            let node = Node::of(empty, empty, 0);
             Setup {
                 answer: Err(Refusal::Settings),
                 node,
@@ -179,7 +170,7 @@ impl Node {
     }
 
     // Whether the node has the service: a call that names another gives 11. It is handed on beside the service, not as an Option of it: a refused
-    // call puts the service back too.
+    // call puts the service back too, and the definitions `advertised_by`, `asked_by`, `heard_by`, `sent_by` and `replaced_by` take both.
     fn has(self, name: ServiceName) -> bool
         ensures { result ≡ has_service self name }
     {

@@ -26,10 +26,7 @@ pub struct ReportStep {
 fn neighbour_in(judged: Result<Report, Refusal>) -> u32
     ensures { result ≡ neighbour_in judged }
 {
-    match judged {
-        Ok(report) => report.neighbour,
-        Err(_) => 0,
-    }
+    judged.map_or(0, |report| report.neighbour)
 }
 
 fn paths_after(answer: Result<Report, Refusal>, table: PathTable, now: u32) -> PathTable
