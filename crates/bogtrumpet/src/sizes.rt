@@ -32,13 +32,7 @@ pub fn size_in_force(
 }
 
 // Toward the tunnel end of a next hop, at the later of the latest time and this one.
-pub fn size_toward(
-    link: u16,
-    rows: LentRows<'_>,
-    latest: u32,
-    next_hop: Address,
-    time: u32,
-) -> u16
+pub fn size_toward(link: u16, rows: LentRows<'_>, latest: u32, next_hop: Address, time: u32) -> u16
     ensures { result ≡ in_force link (kept_among rows.entry.neighbours.now rows.entry.sizes.now rows.entry.times.now rows.entry.count (last_quad (bytes_of next_hop)) (max latest time)) }
 {
     let tunnel_end = address::last_quad(plain::bytes(next_hop));

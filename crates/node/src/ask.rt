@@ -55,13 +55,7 @@ impl Node {
         ensures out_after { out.new ≡ ask_output self name locator time out.old }
     {
         let mut service = self.service(name);
-        let asked = asked_by(
-            self.has(name),
-            service,
-            self.latest.max(time),
-            locator,
-            out,
-        );
+        let asked = asked_by(self.has(name), service, self.latest.max(time), locator, out);
         let routers = asked.routers;
         service.routers = routers;
         let answer = asked.answer;

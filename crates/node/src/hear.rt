@@ -15,7 +15,12 @@ pub struct Heard {
 
 // What a service judges of it at the latest time, of which the router list afterwards follows; 11 where the node has none such.
 #[tactic(auto, unfolding(crate::specs::Hear::heard_by))]
-pub fn judged_by(there: bool, service: Service, latest: u32, packet: &[u8]) -> Result<Router, Refusal>
+pub fn judged_by(
+    there: bool,
+    service: Service,
+    latest: u32,
+    packet: &[u8],
+) -> Result<Router, Refusal>
     ensures { heard_with result service.routers ≡ heard_by there service latest packet.now }
 {
     if there {

@@ -26,7 +26,6 @@ use Rattle.node.specs.declared.receive.Receipt.{Receipt}
 use Rattle.node.proofs.Node.receive.Goals as goal
 use Rattle.node.proofs.Node.receive.Goals.{in-Some, in_default}
 
-
 -- what is gathered is judged, or the number
 answered : (s : Settings) (routers : List Router) (x : Result Stage Refusal) (a : Result Received Refusal) {P : Stage → Type 0}
     → ((y : Stage) → P y → a ≡ judged_of s routers y) → MatchResult x P (λ r. a ≡ Err r)
