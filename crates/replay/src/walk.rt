@@ -105,15 +105,12 @@ fn made(
     let end = window.end();
     let mut at = first;
     while at < end {
-        let Call {
-            kind,
-            service,
-            next,
-        } = call_at(at, window)?;
-        window.reach(at, (next - at).min(calls::LONGEST))?;
+        let call = call_at(at, window)?;
+        let service = call.service;
+        window.reach(at, (call.next - at).min(calls::LONGEST))?;
         lines.make_room(rt).map_err(|_| Stop::Output)?;
         let c = window.bytes(at);
-        match kind {
+        match call.kind {
             Kind::Size => calls::size(node, service, c, lines),
             Kind::Receive => calls::receive(&mut node, service, c, memories, lines),
             Kind::Send => calls::send(&mut node, service, c, out, lines),
@@ -124,13 +121,13 @@ fn made(
             Kind::Part => calls::part(node, service, c, lines),
             Kind::WholeMemory => calls::whole_memory(service, memories, lines),
             Kind::Advertise => {
-                let call = answering::read(at, window)?;
-                let packet = window.bytes(call.packet);
-                calls::advertise(node, service, call, packet, out, lines);
+                let asked = answering::read(at, window)?;
+                let packet = window.bytes(asked.packet);
+                calls::advertise(node, service, asked, packet, out, lines);
             }
         }
         lines.put(b"\n");
-        at = next;
+        at = call.next;
     }
     Ok(())
 }
