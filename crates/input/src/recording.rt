@@ -1,6 +1,6 @@
 // A section of datagrams, which may stand alone: a two-byte count, then so many datagrams, each an interface, a two-byte
 // length and the bytes. The functions on one datagram take the bytes from its start on. A recording is walked by hand: an Iterator over datagrams
-// proves here, but the proofs of comparing and program that go by the walk were not brought over to it: tried, and they did not close.
+// proves here, but the proofs of comparing and program that go by the walk are not brought over to it yet (docs/DESIGN-PASS.md, "Still to do").
 ghost use Rattle.std.specs.Prelude.{◌≡◌, ◌≤◌};
 ghost use Rattle.header.specs.Fields.{word_at};
 ghost use Rattle.input.specs.Recording.{datagram_bytes, is_there, interface_of, bytes_of, behind_datagram, first_datagram, is_recording};
