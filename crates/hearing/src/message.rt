@@ -26,7 +26,9 @@ fn sum_right(p: &[u8]) -> bool
 }
 
 impl<'a> Packet<'a> {
-    // The packet at the start of the bytes, but for number 8; bytes behind it are passed over.
+    // The packet at the start of the bytes, but for number 8; bytes behind it are passed over. Inlined: else the header is copied to be handed
+    // back, also of a packet that is no advertisement.
+    #[inline(always)]
     pub(crate) fn of(packet: &'a [u8]) -> Option<Self>
         ensures { MatchOption result
             (is_inner_malformed (length packet.now) (inner_of packet.now) ≡ true)

@@ -1,34 +1,18 @@
--- What a chain over the places of a router list says: no address stands twice; who is due first; when a router is due.
+-- What a chain over the places of a router list says: who is due first.
 -- Assumes nothing.
-use Prim.Native.Nat.{ℕ, zero, suc, ◌+◌}
+use Prim.Native.Nat.{ℕ, zero, suc}
 use mathlib.Core.Path.{◌≡◌, refl, ap}
-use mathlib.Core.Bool.{Bool, true, false, not, cond, ◌&&◌}
 use mathlib.Core.List.{List, [], ◌∷◌, map}
-use lib.Dec.{eqb}
-use lib.ListN.{take, drop}
-use lib.Seq.{drop-drop}
+use lib.ListN.{take}
 use Rattle.std.specs.Prelude.{Option, Some, None}
 use denote.Param.Members.{Mut}
 use Rattle.std.specs.Fn.{Called}
 use Rattle.std.specs.Iterator.{FoldTurn, ReducesItems}
-use Rattle.std.specs.List.{list_all, enumerate_from, zip, fold, reduce, find, FoldsTo}
+use Rattle.std.specs.List.{zip, fold, reduce, FoldsTo}
 use Rattle.std.proofs.lemmas.Iterator.{YieldsList}
 use Rattle.std.proofs.lemmas.Iterator.Consumers.{reduce_from_yields_List}
-use Rattle.std.specs.Option.{option_map_or}
 use Rattle.routers.specs.declared.Router.{Router}
-use Rattle.routers.specs.Routers.{held_in, earlier_of, earliest, next_of, if_due, due_or, among, are_distinct}
-
-module _ (all : List ℕ) where
-  -- the address of the pair does not stand behind its place
-  abbrev pub is_last : ℕ × ℕ → Bool
-  is_last p = not (among p.1 (drop (p.0 + 1) all))
-
-  pub all-last : (i : ℕ) (bs : List ℕ) → drop i all ≡ bs → list_all is_last (enumerate_from i bs) ≡ are_distinct bs
-  unfolding are_distinct
-  all-last i [] h = refl
-  all-last i (b ∷ bs) h =
-      let behind : drop (i + 1) all ≡ bs = rw (← drop-drop 1 i all, h) in
-      rw behind (ap (λ t. not (among b bs) && t) (all-last (i + 1) bs behind))
+use Rattle.routers.specs.Routers.{held_in, earlier_of, earliest, next_of, if_due}
 
 -- the router of a pair of address and due time
 abbrev pub router_of : ℕ × ℕ → Router
@@ -57,23 +41,6 @@ next_reduced now [] r e = cc
 next_reduced now (s ∷ rs) r e =
     let same : r ≡ fold earlier_of s rs = cc in
     rw (same, earliest_folded s rs)
-
-module _ (other a : ℕ) where
-  -- the due time of the pair that is found
-  abbrev pub due_found : List (ℕ × ℕ) → ℕ
-  due_found ps = option_map_or (λ (p : ℕ × ℕ). p.1) (find (λ (p : ℕ × ℕ). eqb p.0 a) ps) other
-
-  pub due-found : (n : ℕ) (bs ds : List ℕ) → due_found (take n (zip bs ds)) ≡ due_or other a (held_in bs ds n)
-  unfolding due_or
-  due-found zero bs ds = refl
-  due-found (suc n) [] ds = refl
-  due-found (suc n) (b ∷ bs) [] = refl
-  due-found (suc n) (b ∷ bs) (d ∷ ds) = go (eqb b a) (due-found n bs ds)
-    where
-      go : (t : Bool) → due_found (take n (zip bs ds)) ≡ due_or other a (held_in bs ds n)
-          → option_map_or (λ (p : ℕ × ℕ). p.1) (cond t (Some (b, d)) (find (λ (p : ℕ × ℕ). eqb p.0 a) (take n (zip bs ds)))) other ≡ cond t d (due_or other a (held_in bs ds n))
-      go true ih = refl
-      go false ih = ih
 
 -- what `reduce` answers, where each call of what it is given answers h of the two and leaves it as it was
 module _ {A F : Type 0} (g : Mut F (A × (A × Unit {0})) A) (h : A → A → A) (f : F) (k : (p z y : A) (q : F) → Called g f (p, (z, tt)) y q → (q ≡ f) × (y ≡ h p z)) where

@@ -6,7 +6,7 @@ use mathlib.Core.Bool.{Bool, cond, ◌||◌}
 use Prim.Native.Nat.{ℕ, zero, suc, ◌<◌, ◌≤◌, min}
 use native.Mathlib.Nat.{zero-min, le_of_suc-le-suc, not-suc-le-zero}
 use native.Mathlib.Omega.{arith}
-use lib.ListN.{length, get_or, take, replicate}
+use lib.ListN.{length, get_or, take, replicate, length-take}
 use lib.Dec.{eqb}
 use Rattle.routers.specs.declared.Router.{Router}
 use Rattle.routers.specs.Routers.{pairs, held_in, listed, due_if, rescheduled, dues_after, among}
@@ -20,6 +20,9 @@ pub pairs-length : (bs ds : List ℕ) → length (pairs bs ds) ≡ min (length b
 pairs-length [] ds = sym (zero-min (length ds))
 pairs-length (a ∷ bs) [] = omega arith
 pairs-length (a ∷ bs) (d ∷ ds) = omega (arith, pairs-length bs ds)
+
+pub held-length : (n : ℕ) (bs ds : List ℕ) → length (held_in bs ds n) ≡ min n (min (length bs) (length ds))
+held-length n bs ds = omega (arith, length-take n (pairs bs ds), pairs-length bs ds)
 
 -- the router at a place of both rows
 pub pair-at : (i : ℕ) (bs ds : List ℕ) → i < length bs → i < length ds → get_or (pairs bs ds) i no_router ≡ record { address = get_or bs i 0; due = get_or ds i 0 }

@@ -131,7 +131,12 @@ impl Settings {
     fn some_router_bad(self, routers: [u32; 16], count: usize) -> bool
         ensures { result ≡ any_of (is_bad_end self) (take count routers) }
     {
-        routers.iter().take(count).any(|a| self.bad_end(*a))
+        for i in 0..count.min(16) {
+            if self.bad_end(routers[i]) {
+                return true;
+            }
+        }
+        false
     }
 
     // Whether a router list keeps the rules. An array and a count, as C has them: a count above 16 is no slice, and is refused by 1.

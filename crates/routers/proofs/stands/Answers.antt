@@ -1,17 +1,19 @@
--- `routers::stands` meets its contract: the chain asks the addresses from `from` on.
-use mathlib.Core.Path.{◌∙◌}
-use lib.Dec.{eqb}
-use lib.ListN.{take, drop}
-use borrow.Author.Tests.{tests}
-use Rattle.std.proofs.Common.{rules}
-use Rattle.std.proofs.lemmas.Iterator.{YieldsList-from_slice, YieldsList-from_take}
-use Rattle.std.proofs.lemmas.Iterator.Adapters.{YieldsList-from_skip}
-use Rattle.std.proofs.lemmas.Iterator.Search.{any_from_yields_List}
-use Rattle.lists.proofs.Chains.{list-any}
+-- `routers::stands`: the address stands there if it is one of those passed, or one from i on.
+use borrow.Author.Rules.{rules}
+use native.Mathlib.Omega.{arith}
+use mathlib.Core.Path.{◌≡◌, sym, ◌∙◌}
+use mathlib.Core.Bool.{or-false}
+use lib.ListN.{length, length-take}
+use Rattle.routers.proofs.Rows.{places}
+use Rattle.routers.proofs.Laws.{any_step, past}
 use Rattle.routers.proofs.stands.Goals as goal
+
+pub loop-i-preserved : goal.loop-i-preserved
+loop-i-preserved c = let a = c.args in
+    let whole : length a.addresses ≡ places = search rules in
+    c.loop-i.invariant ∙ any_step a.count c.loop-i.i a.addresses 0 (omega (arith, length-take a.count a.addresses)) _ c.loop-i.found
 
 pub returns : goal.returns
 returns c = let a = c.args in
-    any_from_yields_List (λ b. eqb b a.address) _ _ _ c.any.ensures.ran
-    (YieldsList-from_skip a.from (YieldsList-from_take a.count (YieldsList-from_slice a.addresses cc) cc) cc) (λ x b q k. search (rules, tests))
-    ∙ list-any (λ b. eqb b a.address) (drop a.from (take a.count a.addresses))
+    let whole : length a.addresses ≡ places = search rules in
+    sym (c.loop-i.invariant ∙ rw (past a.count c.loop-i.i a.addresses (omega (arith, length-take a.count a.addresses)), or-false))

@@ -1,15 +1,25 @@
--- `settings::Settings::some_router_bad` meets its contract: the chain asks the first `count` routers.
-use mathlib.Core.Path.{◌∙◌}
-use lib.ListN.{take}
-use borrow.Author.Tests.{tests}
-use Rattle.std.proofs.Common.{rules}
-use Rattle.std.proofs.lemmas.Iterator.{YieldsList-from_slice, YieldsList-from_take}
-use Rattle.std.proofs.lemmas.Iterator.Search.{any_from_yields_List}
-use Rattle.lists.proofs.Chains.{list-any}
+-- `settings::Settings::some_router_bad` meets its contract: none of the routers passed is bad, so what is left to ask is the rest of them.
+use native.Mathlib.Omega.{arith}
+use Prim.Native.Nat.{min}
+use mathlib.Core.Path.{◌≡◌, sym, ◌∙◌}
+use lib.ListN.{length}
+use Rattle.lists.proofs.AnyLaws.{any_here, any-later, front-end}
+use Rattle.lists.proofs.Parts.{take-least}
 use Rattle.settings.specs.Settings.{is_bad_end}
 use Rattle.settings.proofs.Settings.some_router_bad.Goals as goal
 
+pub loop-i-init : goal.loop-i-init
+loop-i-init c = let a = c.args in
+    let e : min a.count 16 ≡ min a.count (length a.routers) = omega arith in
+    rw (e, take-least a.count a.routers)
+
+pub returns-then-bad_end : goal.returns-then-bad_end
+returns-then-bad_end c = let a = c.args in
+    sym (c.loop-i.invariant ∙ any_here a.routers (min a.count 16) c.loop-i.i 0 (omega arith) (omega arith) (is_bad_end a.self) (sym c.bad_end.ensures ∙ c.if-bad_end.true))
+
+pub loop-i-preserved : goal.loop-i-preserved
+loop-i-preserved c = let a = c.args in
+    c.loop-i.invariant ∙ any-later a.routers (min a.count 16) c.loop-i.i 0 (omega arith) (omega arith) (is_bad_end a.self) (sym c.bad_end.ensures ∙ c.if-bad_end.false)
+
 pub returns : goal.returns
-returns c = let a = c.args in
-    any_from_yields_List (is_bad_end a.self) _ _ _ c.any.ensures.ran (YieldsList-from_take a.count (YieldsList-from_slice a.routers cc) cc) (λ x b q k. search (rules, tests))
-    ∙ list-any (is_bad_end a.self) (take a.count a.routers)
+returns c = sym (rw (front-end c.args.routers (min c.args.count 16) c.loop-i.i (omega arith)) at c.loop-i.invariant)
