@@ -130,7 +130,7 @@ pub(crate) fn judged(named: Service, received: receiving::Received, x: Opening) 
         received,
         open: Some(x),
     };
-    answers::plain_received(judging::judge(settings, routers, stage))
+    answers::plain_received(judging::judge(settings, routers, Ok(stage)))
 }
 
 // A sending over a path of that size: node::send::sent_by.

@@ -33,9 +33,7 @@ impl Node {
             let routers = service.routers;
             let mut pieces = service.pieces;
             let gathered = collect::gather(settings, pieces, now, d, interface, memory);
-            let answer = gathered
-                .stage
-                .and_then(|stage| judging::judge(settings, routers, stage));
+            let answer = judging::judge(settings, routers, gathered.stage);
             if let Some((at, place)) = gathered.stored {
                 pieces.places[at] = place;
                 service.pieces = pieces;

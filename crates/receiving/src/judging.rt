@@ -7,7 +7,7 @@ ghost use Rattle.header.specs.Inner.{is_inner_malformed};
 ghost use Rattle.settings.specs.Settings.{forbidden_to};
 ghost use Rattle.routers.specs.Routers.{live, listed};
 ghost use Rattle.receiving.specs.Receive.{embeds, is_source_right};
-ghost use Rattle.receiving.specs.Stages.{inner_in, passes_anyhow, inner_check, judged_of, ReadsInner};
+ghost use Rattle.receiving.specs.Stages.{inner_in, passes_anyhow, inner_check, judged_or, ReadsInner};
 
 use crate::Received;
 use address::prefixes;
@@ -135,11 +135,16 @@ fn check_inner(settings: Settings, routers: RouterList, x: Opening) -> Result<()
     Ok(())
 }
 
-// What comes of what is read: 8 to 10 of what is to be judged, and then where the inner packet stands. Settings and router list go side by side,
+// What comes of what is read, or of the number: 8 to 10 of what is to be judged, and then where the inner packet stands. Settings and router list go side by side,
 // as a service has them: a struct of the two would be made for the call alone.
-pub fn judge(settings: Settings, routers: RouterList, stage: Stage) -> Result<Received, Refusal>
-    ensures { result ≡ judged_of settings (live routers) stage }
+pub fn judge(
+    settings: Settings,
+    routers: RouterList,
+    stage: Result<Stage, Refusal>,
+) -> Result<Received, Refusal>
+    ensures { result ≡ judged_or settings (live routers) stage }
 {
+    let stage = stage?;
     if let Some(x) = stage.open {
         check_inner(settings, routers, x)?;
     }

@@ -64,8 +64,7 @@ pub fn receive(
 {
     let o = outer::read_outer(d)?;
     check_addresses(settings, interface, o)?;
-    let stage = read_whole(d, o)?;
-    judging::judge(settings, routers, stage)
+    judging::judge(settings, routers, read_whole(d, o))
 }
 
 // So many bytes from an index on, as far as there are any.

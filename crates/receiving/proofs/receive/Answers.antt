@@ -11,10 +11,6 @@ pub returns-in_err-check_addresses : goal.returns-in_err-check_addresses
 unfolding arrived_of delivered_of
 returns-in_err-check_addresses c = rw by_stages (search rules)
 
-pub returns-in_err-stage : goal.returns-in_err-stage
-unfolding arrived_of delivered_of
-returns-in_err-stage c = rw by_stages (search rules)
-
 pub returns : goal.returns
 unfolding arrived_of delivered_of
 returns c = rw by_stages (search rules)

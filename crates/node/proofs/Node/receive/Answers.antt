@@ -1,7 +1,5 @@
 -- `node::Node::receive` meets its contract: what is gathered is judged, and the one place that it changes is stored; or 11.
-use Rattle.std.specs.Prelude.{Result, Ok, Err}
-use Rattle.std.specs.Result.{MatchResult}
-use Rattle.std.proofs.Common.{rules}
+use Rattle.std.specs.Prelude.{Result, Err}
 use Prim.Native.Nat.{ℕ, max}
 use mathlib.Core.Bool.{Bool, true, false}
 use mathlib.Core.List.{List}
@@ -9,10 +7,7 @@ use mathlib.Core.Path.{◌≡◌}
 use Rattle.pieces.specs.Take.{with_place}
 use Rattle.pieces.specs.declared.Place.{Place}
 use Rattle.receiving.specs.Collect.{Collected, collected_of, collected_memory}
-use Rattle.receiving.specs.Stages.{judged_of, judged_or, collected_after}
-use Rattle.receiving.specs.declared.judging.Stage.{Stage}
-use Rattle.routers.specs.declared.Router.{Router}
-use Rattle.settings.specs.declared.Settings.{Settings}
+use Rattle.receiving.specs.Stages.{collected_after}
 use Rattle.receiving.specs.declared.Received.{Received}
 use Rattle.refusals.specs.declared.Refusal.{Refusal}
 use Rattle.refusals.specs.declared.Refusal.TheVariants.{NoLocator}
@@ -25,13 +20,6 @@ use Rattle.node.specs.declared.ServiceName.{ServiceName}
 use Rattle.node.specs.declared.receive.Receipt.{Receipt}
 use Rattle.node.proofs.Node.receive.Goals as goal
 use Rattle.node.proofs.Node.receive.Goals.{in-Some, in_default}
-
--- what is gathered is judged, or the number
-answered : (s : Settings) (routers : List Router) (x : Result Stage Refusal) (a : Result Received Refusal) {P : Stage → Type 0}
-    → ((y : Stage) → P y → a ≡ judged_of s routers y) → MatchResult x P (λ r. a ≡ Err r)
-    → a ≡ judged_or s routers x
-answered s routers (Ok y) a same h = same y h
-answered s routers (Err r) a same h = h
 
 -- the call, by whether the node has the service
 module _ (n : Node) (name : ServiceName) (d : List ℕ) (interface time : ℕ) (memory : List ℕ) (has : Bool) (s : Service) (is : has ≡ has_service n name) (same : s ≡ service_of n name) where
@@ -65,7 +53,7 @@ returns-then-has c = let s = c.service-service in
     let told = rw c.max-now.ensures at (c.gather-gathered.ensures.judged (live s.result.routers)) in
     let has = c.has in record {
       value = rw c.put_back-node.ensures.value
-          (present a.self a.name a.d.now a.interface a.time a.memory.now has.result s.result has.ensures s.ensures c.if-has.true c.and_then-answer.result c.match-gathered.service service (answered s.result.settings (live s.result.routers) g.stage c.and_then-answer.result (λ y k. search rules) c.and_then-answer.ensures) told);
+          (present a.self a.name a.d.now a.interface a.time a.memory.now has.result s.result has.ensures s.ensures c.if-has.true c.judge-answer.result c.match-gathered.service service c.judge-answer.ensures told);
       memory_after = rw (c.gather-gathered.ensures.memory_after, c.max-now.ensures)
           (present-memory a.self a.name a.d.now a.interface a.time a.memory.now has.result s.result has.ensures s.ensures c.if-has.true);
     }
