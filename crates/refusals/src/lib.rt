@@ -1,7 +1,7 @@
 // The numbers given back: each refusal of R4 by name.
 #![tactic(auto)]
 
-ghost use Rattle.std.specs.Prelude.{◌≡◌};
+ghost use Rattle.std.specs.Prelude.{◌≡◌, ℕ};
 ghost use Rattle.refusals.specs.Given.{number_in};
 ghost use Rattle.refusals.specs.Refusals.{number_of};
 
@@ -56,5 +56,21 @@ pub fn number<T: Drop>(answer: Result<T, Refusal>) -> u8
     match answer {
         Ok(_) => 0,
         Err(refusal) => refusal.number(),
+    }
+}
+
+// The same as a method of each answer that is a Result.
+pub trait Numbered {
+    ghost given: { Self → ℕ };
+
+    fn number(self) -> u8
+        ensures { result ≡ given self };
+}
+
+impl<T: Drop> Numbered for Result<T, Refusal> {
+    ghost given = { number_in };
+
+    fn number(self) -> u8 {
+        crate::number(self)
     }
 }

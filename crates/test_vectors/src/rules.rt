@@ -4,6 +4,7 @@ use address::prefixes;
 use header::{fields, inner, outer};
 use hearing::solicitation;
 use input::section;
+use refusals::Numbered;
 use std::io;
 
 pub(crate) fn answer(rt: &impl Print, kind: u8, c: &[u8]) -> io::Result<()> {
@@ -37,7 +38,7 @@ fn number(kind: u8, n: u16, m: u16, x: u32, d: &[u8]) -> Option<u64> {
     match kind {
         20 => Some(checksum::sum_from(x, d) as u64),
         21 => Some(checksum::complement(n) as u64),
-        22 => Some(refusals::number(outer::read_outer(d)) as u64),
+        22 => Some(outer::read_outer(d).number() as u64),
         23 => Some(outer::outer_header(d).header as u64),
         24 => Some(outer::outer_header(d).total as u64),
         25 => Some(outer::outer_header(d).source as u64),

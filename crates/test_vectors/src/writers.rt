@@ -5,7 +5,7 @@ use crate::{answers, operator};
 use header::wrap::OuterFields;
 use header::{fields, inner, outer, wrap};
 use input::section;
-use refusals::Refusal;
+use refusals::{Numbered, Refusal};
 use std::io;
 
 pub(crate) fn answer(rt: &impl Print, kind: u8, c: &[u8]) -> io::Result<()> {
@@ -38,7 +38,7 @@ fn written(rt: &impl Print, kind: u8, c: &[u8]) -> io::Result<()> {
 // The number given, the length written, and of the output y bytes from the index x on.
 fn written_into(rt: &impl Print, kind: u8, c: &[u8], out: &mut [u8]) -> io::Result<()> {
     let answer = write(kind, c, out);
-    answers::number(rt, 0, Some(refusals::number(answer) as u64))?;
+    answers::number(rt, 0, Some(answer.number() as u64))?;
     answers::number(rt, 0, answer.ok().map(|n| n as u64))?;
     let from = fields::tail(out, fields::quad(c, 5) as usize);
     answers::bytes(rt, section::front(from, fields::quad(c, 9) as usize))
