@@ -1,4 +1,6 @@
 // The calls. Each function takes the bytes from the call's kind on; a byte past the end reads as 0.
+ghost use Rattle.std.specs.Prelude.{◌≤◌};
+
 use crate::answering::Answering;
 use crate::answers;
 use header::fields;
@@ -23,7 +25,9 @@ const MEMORY: usize = 65535;
 pub(crate) const MEMORIES: usize = MEMORY + MEMORY;
 
 // Where the memory of a service stands.
-fn memory_at(service: ServiceName) -> usize {
+fn memory_at(service: ServiceName) -> usize
+    ensures { result ≤ 65535 }
+{
     match service {
         ServiceName::First => 0,
         ServiceName::Second => MEMORY,

@@ -41,6 +41,15 @@ fn call_at(at: usize, window: &mut Window) -> Result<Call, Stop>
     })
 }
 
+// The same, held, or as much of it as is read at once.
+fn held_call(at: usize, window: &mut Window) -> Result<Call, Stop>
+    ensures { IfOk result (λ call. at < call.next) }
+{
+    let call = call_at(at, window)?;
+    window.reach(at, (call.next - at).min(calls::LONGEST))?;
+    Ok(call)
+}
+
 // The bytes of a call of this kind at an index, whose first bytes are held.
 fn size_at(kind: Kind, at: usize, window: &mut Window) -> Result<usize, Stop>
     ensures { IfOk result (λ size. 0 < size) }
@@ -74,6 +83,26 @@ pub(crate) fn check(first: usize, window: &mut Window) -> Result<(), Stop> {
     }
 }
 
+// The call at an index, which is held, or as much of it as is read at once, with room for its line: the lines that wait are written for it also
+// where a read failed. Where both failed, the write is told here, and then the read.
+fn call_on(
+    rt: &HostRuntime,
+    at: usize,
+    window: &mut Window,
+    lines: &mut Lines,
+) -> Result<Call, Stop>
+    ensures { IfOk result (λ call. at < call.next) }
+{
+    let call = held_call(at, window);
+    let room = lines.make_room(rt).map_err(|_| Stop::Output);
+    if let (Err(_), Err(stop)) = (call, room) {
+        let _ = eprintln!(rt; "replay: {stop}");
+        return call;
+    }
+    room?;
+    call
+}
+
 // Makes the calls, which are whole, up to where a read or a write fails. That is told before the lines that wait are written, and told here, since
 // writing them may fail too; where it was a write that failed, none waits.
 pub(crate) fn make(
@@ -105,10 +134,8 @@ fn made(
     let end = window.end();
     let mut at = first;
     while at < end {
-        let call = call_at(at, window)?;
+        let call = call_on(rt, at, window, lines)?;
         let service = call.service;
-        window.reach(at, (call.next - at).min(calls::LONGEST))?;
-        lines.make_room(rt).map_err(|_| Stop::Output)?;
         let c = window.bytes(at);
         match call.kind {
             Kind::Size => calls::size(node, service, c, lines),
