@@ -96,7 +96,7 @@ impl Advertisement {
         if self.options_bad() {
             return Err(Refusal::OptionsBad);
         }
-        let n = self.length();
+        let n = advertisement_length(*self);
         if room < n {
             Err(Refusal::OutputShort)
         } else {
