@@ -13,7 +13,7 @@ returns-then-payload-lt-INNER_HEADER c s routers = simp (lt-ltb _ _ c.if-payload
 pub returns : goal.returns
 unfolding inner_of
 returns c = let q = c.quads-address in (
-  rw c.word.ensures,
+  omega (arith, c.word.ensures),
   λ s routers. rw (c.then_some-open.ensures, c.passes_anyhow.ensures, c.byte.ensures, c.word.ensures)
       (still_open c.args.source c.args.payload.now q.result q.ensures.result_value s routers (omega arith)),
 )
